@@ -1,0 +1,5 @@
+//! Requests in flight: which seat has claimed which sectors.
+#![tactic(auto)]
+
+pub mod claim;
+pub mod flight;

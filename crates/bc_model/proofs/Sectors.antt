@@ -1,0 +1,66 @@
+-- The values of sectors that stand one behind the other in bytes.
+use Rattle.std.proofs.Common.{◌≡◌, ℕ, zero, suc, ◌+◌, ◌*◌, ◌/◌, ◌≤◌, List, [], ◌∷◌, ◌++◌, length, refl, sym, ap, ◌∙◌, arith, take, drop, length-drop, length-append}
+use Rattle.std.proofs.lemmas.List.{take-append-le, drop-append-le, length-take, length-take-le, take-append-drop}
+use Rattle.std.proofs.Math.Seq.{take-length}
+use Rattle.std.specs.Prelude.{slice_get, Some}
+use Rattle.bc_model.specs.Sector.{Value, sectors, values_of}
+
+pub length_sectors : (n : ℕ) (bytes : List ℕ) → length (sectors n bytes) ≡ n
+length_sectors zero bytes = refl
+length_sectors (suc n) bytes = ap suc (length_sectors n (drop 512 bytes))
+
+-- n whole sectors and then more
+pub sectors_append : (n : ℕ) (xs ys : List ℕ) → length xs ≡ 512 * n → sectors (suc n) (xs ++ ys) ≡ sectors n xs ++ take 512 ys ∷ []
+sectors_append zero [] ys h = refl
+sectors_append zero (x ∷ xs) ys h = absurd (omega arith)
+sectors_append (suc n) xs ys h =
+    let low : 512 ≤ length xs = omega arith in
+    let rest : length (drop 512 xs) ≡ 512 * n = omega (arith, length-drop 512 xs) in
+    ap (λ (v : Value). v ∷ sectors (suc n) (drop 512 (xs ++ ys))) (take-append-le 512 xs ys low)
+    ∙ ap (λ (zs : List ℕ). take 512 xs ∷ sectors (suc n) zs) (drop-append-le 512 xs ys low)
+    ∙ ap (λ (vs : List Value). take 512 xs ∷ vs) (sectors_append n (drop 512 xs) ys rest)
+
+-- sectors of which more follows
+pub sectors_front : (n : ℕ) (xs ys : List ℕ) → 512 * n ≤ length xs → sectors n (xs ++ ys) ≡ sectors n xs
+sectors_front zero xs ys h = refl
+sectors_front (suc n) xs ys h =
+    let low : 512 ≤ length xs = omega arith in
+    let rest : 512 * n ≤ length (drop 512 xs) = omega (arith, length-drop 512 xs) in
+    ap (λ (v : Value). v ∷ sectors n (drop 512 (xs ++ ys))) (take-append-le 512 xs ys low)
+    ∙ ap (λ (zs : List ℕ). take 512 xs ∷ sectors n zs) (drop-append-le 512 xs ys low)
+    ∙ ap (λ (vs : List Value). take 512 xs ∷ vs) (sectors_front n (drop 512 xs) ys rest)
+
+sectors_take : (n m : ℕ) (xs : List ℕ) → 512 * n ≤ m → m ≤ length xs → sectors n (take m xs) ≡ sectors n xs
+sectors_take n m xs low high =
+    let len = length-take-le m xs high in
+    sym (sectors_front n (take m xs) (drop m xs) (omega arith)) ∙ ap (λ (zs : List ℕ). sectors n zs) (take-append-drop m xs)
+
+-- a sector's value stands behind the first n sectors
+pub sectors_put : (n : ℕ) (old new value : List ℕ) → length value ≡ 512 → 512 * n ≤ length old → take (512 * n + 512) new ≡ take (512 * n) old ++ value → sectors (n + 1) new ≡ sectors n old ++ value ∷ []
+sectors_put n old new value len low h =
+    let one : n + 1 ≡ suc n = omega arith in
+    let front = length-take-le (512 * n) old low in
+    let high : 512 * n + 512 ≤ length new = omega (arith, ap (λ (xs : List ℕ). length xs) h, length-take (512 * n + 512) new, length-append (take (512 * n) old) value) in
+    ap (λ k. sectors k new) one ∙ sym (sectors_take (suc n) (512 * n + 512) new (omega arith) high) ∙ ap (λ (zs : List ℕ). sectors (suc n) zs) h
+    ∙ sectors_append n (take (512 * n) old) value front
+    ∙ ap (λ (vs : List Value). vs ++ take 512 value ∷ []) (sectors_take n (512 * n) old (omega arith) low)
+    ∙ ap (λ (v : Value). sectors n old ++ v ∷ []) (ap (λ k. take k value) (sym len) ∙ take-length value)
+
+-- bytes that are n whole sectors
+pub values_whole : (n : ℕ) (bytes : List ℕ) → length bytes ≡ 512 * n → values_of bytes ≡ sectors n bytes
+values_whole n bytes h = ap (λ k. sectors k bytes) (divided n (length bytes) h)
+  where
+    divided : (n m : ℕ) → m ≡ 512 * n → m / 512 ≡ n
+    divided n m e = omega arith
+
+pub length_values_of : (bytes : List ℕ) → length (values_of bytes) ≡ length bytes / 512
+length_values_of bytes = length_sectors (length bytes / 512) bytes
+
+front_more : {A : Type 0} (i : ℕ) (xs : List A) (v : A) → slice_get xs i ≡ Some v → take (suc i) xs ≡ take i xs ++ v ∷ []
+front_more i [] v h = absurd (cc)
+front_more {A = A} zero (x ∷ xs) v h = let e : x ≡ v = cc in ap (λ (y : A). y ∷ []) e
+front_more {A = A} (suc i) (x ∷ xs) v h = ap (λ (ys : List A). x ∷ ys) (front_more i xs v h)
+
+-- the first i + 1
+pub take_more : {A : Type 0} (i : ℕ) (xs : List A) (v : A) → slice_get xs i ≡ Some v → take (i + 1) xs ≡ take i xs ++ v ∷ []
+take_more i xs v h = let one : i + 1 ≡ suc i = omega arith in ap (λ k. take k xs) one ∙ front_more i xs v h

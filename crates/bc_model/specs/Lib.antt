@@ -1,0 +1,5 @@
+pub mod Sector
+pub mod Pattern
+pub mod Values
+pub mod History
+pub mod InOrder

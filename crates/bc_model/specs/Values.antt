@@ -1,0 +1,30 @@
+-- What the runs of a `Values` stand for: the values of sectors, one behind the other.
+use Rattle.std.specs.Prelude.{ℕ, zero, suc, ◌+◌, ◌≤◌, ◌^◌, List, [], ◌∷◌, ◌++◌, replicate, option_to_list}
+use Rattle.std.specs.List.{flat_map}
+use Rattle.bc_model.specs.Sector.{Value}
+use Rattle.bc_model.specs.Pattern.{pattern, zeros}
+use Rattle.bc_model.specs.declared.run.Run.{Run}
+use Rattle.bc_model.specs.declared.run.Runs.{Runs}
+use Rattle.bc_model.specs.declared.run.Run.TheVariants.{Pattern, Zero, Raw}
+
+-- the patterns of one stamp for neighbouring sectors
+abbrev pub patterns : ℕ → ℕ → ℕ → List Value
+patterns stamp sector zero = []
+patterns stamp sector (suc n) = pattern stamp sector ∷ patterns stamp (suc sector) n
+
+abbrev pub values_in : Run → List Value
+values_in (Pattern stamp first count) = patterns stamp first count
+values_in (Zero count) = replicate count zeros
+values_in (Raw value) = value.value ∷ []
+
+abbrev pub all_values : List Run → List Value
+all_values runs = flat_map values_in runs
+
+-- a pattern has a stamp, and its last sector a number
+abbrev pub IsRun : Run → Type 0
+IsRun (Pattern stamp first count) = (1 ≤ stamp) × (first + count ≤ 2 ^ 64)
+IsRun (Zero count) = Unit {0}
+IsRun (Raw value) = Unit {0}
+
+abbrev pub runs_of : Runs → List Run
+runs_of runs = runs.rest.items ++ option_to_list runs.last
