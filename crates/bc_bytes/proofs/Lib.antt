@@ -1,0 +1,4 @@
+pub mod DivisionLaws
+pub mod ChecksumLaws
+pub mod Table
+pub mod FieldLaws

@@ -1,0 +1,5 @@
+pub mod Ptr
+pub mod Key
+pub mod Words
+pub mod Cut
+pub mod Generation
