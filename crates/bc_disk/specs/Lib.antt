@@ -1,3 +1,12 @@
+pub mod Bytes
+pub mod Crash
 pub mod Device
 pub mod Disk
+pub mod Kept
+pub mod Log
+pub mod MemDisk
+pub mod Memory
+pub mod Stands
 pub mod Stream
+pub mod Tally
+pub mod Text

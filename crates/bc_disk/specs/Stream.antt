@@ -1,5 +1,5 @@
 -- What a source and a sink of the outside are to their callers.
-use Rattle.std.specs.Prelude.{◌≡◌, ◌≢◌, ℕ, ◌<◌, ◌≤◌, List, [], ◌++◌, length, take, drop, Option, Some, None, Result, Ok, Err}
+use Rattle.std.specs.Prelude.{◌≡◌, ℕ, ◌<◌, ◌≤◌, List, [], ◌++◌, length, take, Option, Some, None, Result, Ok, Err}
 use Rattle.bc_disk.specs.Device.{next_count}
 
 -- `text` is what a source has left, or what a sink has taken, where it is told
@@ -16,7 +16,7 @@ BothToldText R (Some old) (Some new) = R old new
 
 -- the first n bytes of what was left stand at the front of the slice
 abbrev pub IsMoved : ℕ → List ℕ → List ℕ → List ℕ → Type 0
-IsMoved n slice old new = (old ≡ take n slice ++ new) 
+IsMoved n slice old new = (old ≡ take n slice ++ new)
 
 -- after `next`: a failed call moves nothing; 0 bytes come into a slice that isn't empty only at the end
 abbrev pub IsNext : {E : Type 0} → Result ℕ E → List ℕ → StreamFacts → StreamFacts → Type 0

@@ -1,5 +1,5 @@
 //! A disk of sectors of 512 bytes.
-ghost use Rattle.std.specs.Prelude.{◌≡◌, ◌≤◌, length, OnOk, OnErr};
+ghost use Rattle.std.specs.Prelude.{◌≡◌, length, OnOk, OnErr};
 ghost use Rattle.bc_model.specs.Sector.{values_of};
 ghost use Rattle.bc_disk.specs.Disk.{DiskFacts, IsHonest, IsOnDisk, IsRead, IsKept, IsWritten, IsFailedWrite, IsSettled, IsCounted};
 

@@ -1,5 +1,4 @@
 //! Where bytes come from and where they go.
-ghost use Rattle.std.specs.Prelude.{◌≡◌};
 ghost use Rattle.bc_disk.specs.Stream.{StreamFacts, IsNext, IsPut};
 
 use crate::disk::Failed;

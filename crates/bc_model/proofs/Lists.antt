@@ -119,3 +119,10 @@ few_taken (x ∷ xs) (suc index) =
     let n = length-append (values_in x) (all_values (take index xs)) in
     let m = length-append (values_in x) (all_values xs) in
     let rest = few_taken xs index in omega arith
+
+-- one run alone
+pub only_values : (rest : List Run) (r : Run) → rest ≡ [] → all_values (rest ++ r ∷ []) ≡ values_in r
+only_values rest r none = ap (λ (rs : List Run). all_values (rs ++ r ∷ [])) none ∙ append-nil (values_in r)
+
+pub only_run : (P : Run → Type 0) (rest : List Run) (r : Run) → rest ≡ [] → P r → All P (rest ++ r ∷ [])
+only_run P rest r none p = subst (λ (rs : List Run). All P (rs ++ r ∷ [])) (sym none) (one_of P r p)

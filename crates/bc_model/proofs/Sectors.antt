@@ -1,5 +1,5 @@
 -- The values of sectors that stand one behind the other in bytes.
-use Rattle.std.proofs.Common.{◌≡◌, ℕ, zero, suc, ◌+◌, ◌*◌, ◌/◌, ◌≤◌, List, [], ◌∷◌, ◌++◌, length, refl, sym, ap, ◌∙◌, arith, take, drop, length-drop, length-append}
+use Rattle.std.proofs.Common.{◌≡◌, ℕ, zero, suc, ◌+◌, ◌*◌, ◌/◌, ◌<◌, ◌≤◌, List, [], ◌∷◌, ◌++◌, length, refl, sym, ap, ◌∙◌, arith, take, drop, length-drop, length-append}
 use Rattle.std.proofs.lemmas.List.{take-append-le, drop-append-le, length-take, length-take-le, take-append-drop}
 use Rattle.std.proofs.Math.Seq.{take-length}
 use Rattle.std.specs.Prelude.{slice_get, Some}
@@ -64,3 +64,28 @@ front_more {A = A} (suc i) (x ∷ xs) v h = ap (λ (ys : List A). x ∷ ys) (fro
 -- the first i + 1
 pub take_more : {A : Type 0} (i : ℕ) (xs : List A) (v : A) → slice_get xs i ≡ Some v → take (i + 1) xs ≡ take i xs ++ v ∷ []
 take_more i xs v h = let one : i + 1 ≡ suc i = omega arith in ap (λ k. take k xs) one ∙ front_more i xs v h
+
+-- bytes that are one sector
+pub one_sector : (value : List ℕ) → length value ≡ 512 → values_of value ≡ value ∷ []
+one_sector value len = values_whole 1 value (omega arith) ∙ ap (λ (v : Value). v ∷ []) (ap (λ k. take k value) (sym len) ∙ take-length value)
+
+sectors_at : (n m : ℕ) (bytes : List ℕ) → n < m → slice_get (sectors m bytes) n ≡ slice_get (sectors (suc n) bytes) n
+sectors_at n zero bytes h = absurd (omega arith)
+sectors_at zero (suc m) bytes h = refl
+sectors_at (suc n) (suc m) bytes h = sectors_at n m (drop 512 bytes) (omega arith)
+
+get_last : (n : ℕ) (vs : List Value) (value : Value) → length vs ≡ n → slice_get (vs ++ value ∷ []) n ≡ Some value
+get_last zero [] value h = refl
+get_last (suc n) [] value h = absurd (omega arith)
+get_last zero (v ∷ vs) value h = absurd (omega arith)
+get_last (suc n) (v ∷ vs) value h = get_last n vs value (omega arith)
+
+-- the value at a place
+pub get_values : (bytes : List ℕ) (n : ℕ) (value : Value) → n < length bytes / 512 → sectors (n + 1) bytes ≡ sectors n bytes ++ value ∷ [] → slice_get (values_of bytes) n ≡ Some value
+get_values bytes n value inside h =
+    let one : n + 1 ≡ suc n = omega arith in
+    sectors_at n (length bytes / 512) bytes inside ∙ ap (λ k. slice_get (sectors k bytes) n) (sym one) ∙ ap (λ (vs : List Value). slice_get vs n) h ∙ get_last n (sectors n bytes) value (length_sectors n bytes)
+
+-- a run of raw bytes
+pub length_raw : (bytes : List ℕ) → length (values_of bytes) ≡ length bytes / 512
+length_raw bytes = length_values_of bytes

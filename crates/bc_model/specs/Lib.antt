@@ -3,3 +3,4 @@ pub mod Pattern
 pub mod Values
 pub mod History
 pub mod InOrder
+pub mod Pieces

@@ -1,7 +1,7 @@
 -- What the runs of a `Values` stand for: the values of sectors, one behind the other.
-use Rattle.std.specs.Prelude.{ℕ, zero, suc, ◌+◌, ◌≤◌, ◌^◌, List, [], ◌∷◌, ◌++◌, replicate, option_to_list}
+use Rattle.std.specs.Prelude.{◌≡◌, ℕ, zero, suc, ◌+◌, ◌*◌, ◌/◌, ◌<◌, ◌≤◌, ◌^◌, List, [], ◌∷◌, ◌++◌, length, replicate, option_to_list}
 use Rattle.std.specs.List.{flat_map}
-use Rattle.bc_model.specs.Sector.{Value}
+use Rattle.bc_model.specs.Sector.{Value, values_of}
 use Rattle.bc_model.specs.Pattern.{pattern, zeros}
 use Rattle.bc_model.specs.declared.run.Run.{Run}
 use Rattle.bc_model.specs.declared.run.Runs.{Runs}
@@ -15,7 +15,7 @@ patterns stamp sector (suc n) = pattern stamp sector ∷ patterns stamp (suc sec
 abbrev pub values_in : Run → List Value
 values_in (Pattern stamp first count) = patterns stamp first count
 values_in (Zero count) = replicate count zeros
-values_in (Raw value) = value.value ∷ []
+values_in (Raw bytes) = values_of bytes.items
 
 abbrev pub all_values : List Run → List Value
 all_values runs = flat_map values_in runs
@@ -24,7 +24,7 @@ all_values runs = flat_map values_in runs
 abbrev pub IsRun : Run → Type 0
 IsRun (Pattern stamp first count) = (1 ≤ stamp) × (first + count ≤ 2 ^ 64)
 IsRun (Zero count) = Unit {0}
-IsRun (Raw value) = Unit {0}
+IsRun (Raw bytes) = (length bytes.items ≡ 512 * (length bytes.items / 512)) × (length bytes.items / 512 < 2 ^ 32)
 
 abbrev pub runs_of : Runs → List Run
 runs_of runs = runs.rest.items ++ option_to_list runs.last

@@ -3,7 +3,7 @@ ghost use Rattle.std.specs.Prelude.{◌≡◌, ◌+◌, ◌<◌, ◌≤◌, ◌^
 ghost use Rattle.bc_model.specs.Values.{values_in, all_values, IsRun, runs_of};
 ghost use Rattle.bc_model.specs.Pattern.{zeros};
 
-use crate::sector::{Sector, pattern};
+use crate::sector::{Sector, pattern, sector_at};
 use std::alloc::{AllocError, Global};
 
 /// Neighbouring sectors of one kind.
@@ -13,19 +13,20 @@ pub enum Run {
     Pattern { stamp: u64, first: u64, count: u32 },
     /// Sectors of zeros.
     Zero { count: u32 },
-    /// One sector with any other value.
-    Raw { value: Box<Sector> },
+    /// Sectors with any values.
+    Raw { bytes: Vec<u8> },
 }
 
 impl Run {
     /// The number of sectors.
     pub fn len(&self) -> u32
+        requires { IsRun self.now }
         ensures { result ≡ length (values_in self.now) }
     {
         match self {
             Run::Pattern { count, .. } => *count,
             Run::Zero { count } => *count,
-            Run::Raw { .. } => 1,
+            Run::Raw { bytes } => (bytes.as_slice().len() / 512) as u32,
         }
     }
 
@@ -38,7 +39,7 @@ impl Run {
         match self {
             Run::Pattern { stamp, first, .. } => pattern(*stamp, *first + i as u64),
             Run::Zero { .. } => [0; 512],
-            Run::Raw { value } => **value,
+            Run::Raw { bytes } => sector_at(bytes, i as usize),
         }
     }
 
@@ -47,23 +48,23 @@ impl Run {
         requires { IsRun self.now }
         ensures { IfOk result (λ copy. (values_in copy ≡ values_in self.now) × IsRun copy) }
     {
-        Ok(match self {
+        match self {
             Run::Pattern {
                 stamp,
                 first,
                 count,
             } => {
-                Run::Pattern {
+                Ok(Run::Pattern {
                     stamp: *stamp,
                     first: *first,
                     count: *count,
-                }
+                })
             }
-            Run::Zero { count } => Run::Zero { count: *count },
-            Run::Raw { value } => Run::Raw {
-                value: Box::new(alloc, **value)?,
-            },
-        })
+            Run::Zero { count } => Ok(Run::Zero { count: *count }),
+            Run::Raw { bytes } => Ok(Run::Raw {
+                bytes: Vec::from_slice(alloc, bytes)?,
+            }),
+        }
     }
 
     /// The run that stands for this one and the next, where one run can.

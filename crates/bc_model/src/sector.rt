@@ -1,6 +1,7 @@
 //! The value of one sector, and the values that traces write.
-ghost use Rattle.std.specs.Prelude.{◌≡◌, ◌≤◌, ◌↔◌, ◌+◌, ◌++◌, take, length, IsTrue};
+ghost use Rattle.std.specs.Prelude.{◌≡◌, ◌≤◌, ◌↔◌, ◌+◌, ◌++◌, take, length, IsTrue, ◌*◌, ◌∷◌, []};
 ghost use Rattle.std.specs.Int.{w64, from_le_bytes};
+ghost use Rattle.bc_model.specs.Sector.{sectors};
 ghost use Rattle.bc_model.specs.Pattern.{pattern, zeros, IsKind};
 
 use crate::kinds::Kind;
@@ -68,4 +69,14 @@ pub fn kind(sector: u64, value: &Sector) -> Kind
         return Kind::Pattern(stamp);
     }
     Kind::Raw
+}
+
+/// The value of the sector that has so many before it.
+pub fn sector_at(bytes: &[u8], place: usize) -> Sector
+    requires { 512 * place + 512 ≤ length bytes.now }
+    ensures { sectors (place + 1) bytes.now ≡ sectors place bytes.now ++ result ∷ [] }
+{
+    let mut value = [0; 512];
+    value.copy_from_slice(&bytes[512 * place..512 * place + 512]);
+    value
 }

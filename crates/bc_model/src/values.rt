@@ -5,7 +5,7 @@ ghost use Rattle.bc_model.specs.Values.{values_in, IsRun, patterns};
 
 use crate::kinds::Kind;
 use crate::run::{Run, Runs};
-use crate::sector::{Sector, kind};
+use crate::sector::{Sector, kind, sector_at};
 use std::alloc::{AllocError, Global};
 use std::marker::Model;
 
@@ -33,16 +33,6 @@ fn put_sector(into: &mut [u8], place: usize, value: &Sector)
     ensures { sectors (place + 1) into.new ≡ sectors place into.old ++ value.now ∷ [] }
 {
     into[512 * place..512 * place + 512].copy_from_slice(value);
-}
-
-// The value of the sector that has so many before it.
-fn sector_at(bytes: &[u8], place: usize) -> Sector
-    requires { 512 * place + 512 ≤ length bytes.now }
-    ensures { sectors (place + 1) bytes.now ≡ sectors place bytes.now ++ result ∷ [] }
-{
-    let mut value = [0; 512];
-    value.copy_from_slice(&bytes[512 * place..512 * place + 512]);
-    value
 }
 
 impl Values {
@@ -130,8 +120,8 @@ impl Values {
             Kind::Pattern(stamp) => self.push_pattern(stamp, sector, 1),
             Kind::Zero => self.push_run(Run::Zero { count: 1 }, 1),
             Kind::Raw => {
-                let value = Box::new(*self.runs.rest.allocator(), *value)?;
-                self.push_run(Run::Raw { value }, 1)
+                let bytes = Vec::from_slice(*self.runs.rest.allocator(), value)?;
+                self.push_run(Run::Raw { bytes }, 1)
             }
         }
     }
@@ -148,6 +138,22 @@ impl Values {
             values.push(first + place as u64, &value)?;
         }
         Ok(values)
+    }
+
+    /// The values of bytes that are whole sectors, kept as they are. Takes no memory.
+    pub fn from_raw(bytes: Vec<u8>) -> Values
+        requires whole { length bytes.items ≡ 512 * (length bytes.items / 512) }
+        requires few { length bytes.items / 512 < 2 ^ 32 }
+        ensures { result ≡ values_of bytes.items }
+    {
+        let count = (bytes.as_slice().len() / 512) as u32;
+        let alloc = *bytes.allocator();
+        let last = Some(Run::Raw { bytes });
+        let runs = Runs {
+            rest: Vec::new(alloc),
+            last,
+        };
+        Values { runs, count }
     }
 
     /// Puts the values into `into`, one behind the other.

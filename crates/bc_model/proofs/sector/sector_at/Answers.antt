@@ -1,7 +1,7 @@
 use Rattle.std.proofs.Common.{◌≡◌, ℕ, ◌+◌, ◌*◌, ◌-◌, List, ◌++◌, take, drop, sym, ap, ◌∙◌, arith}
 use Rattle.std.proofs.Math.Seq.{take-add}
 use Rattle.bc_model.proofs.Sectors.{sectors_put}
-use Rattle.bc_model.proofs.values.sector_at.Goals as goal
+use Rattle.bc_model.proofs.sector.sector_at.Goals as goal
 
 pub returns : goal.returns
 returns c =

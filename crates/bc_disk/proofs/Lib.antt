@@ -1,0 +1,11 @@
+pub mod Amongs
+pub mod Cases
+pub mod Choices
+pub mod Logs
+pub mod Memories
+pub mod Outcomes
+pub mod Sectors
+pub mod Stands
+pub mod Steps
+pub mod Texts
+pub mod Windows
