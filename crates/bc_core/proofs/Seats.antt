@@ -59,7 +59,7 @@ meets true true false d p q r h = cc
 meets true false c d p q r h = cc
 meets false b c d p q r h = cc
 
-exclusive_is : (share : Share) → share ≡ Exclusive → is_exclusive share ≡ true
+exclusive_is : (how : Share) → how ≡ Exclusive → is_exclusive how ≡ true
 exclusive_is Shared e = absurd (cc)
 exclusive_is Exclusive e = refl
 

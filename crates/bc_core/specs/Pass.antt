@@ -30,7 +30,7 @@ entry_of_fault Write at (Some (Values values)) true = Some (entry.Tried at value
 entry_of_fault Write at (Some (Values values)) false = None
 
 abbrev pub entry_of : Event → Option Entry
-entry_of (event.Claim i first count share) = None
+entry_of (event.Claim i first count how) = None
 entry_of (event.Release i) = None
 entry_of (event.BackingRead i first values) = None
 entry_of (event.BackingWrite i first values of) = entry_of_write of first values
@@ -52,7 +52,7 @@ halt_of_call Write device halted = halted_by halted device
 halt_of_call Barrier device halted = halted_by halted device
 
 abbrev pub halt_after : Option Device → Event → Option Device
-halt_after halted (event.Claim i first count share) = halted
+halt_after halted (event.Claim i first count how) = halted
 halt_after halted (event.Release i) = halted
 halt_after halted (event.BackingRead i first values) = halted
 halt_after halted (event.BackingWrite i first values of) = halted
@@ -101,7 +101,7 @@ written_at entries beside (kept.Beside place) = Some (Values (beside_at (slice_g
 
 -- the event that a record tells, beside these entries and values
 abbrev pub event_of : List Entry → List (List Value) → Record → Event
-event_of entries beside (told.Claim seat first count share) = event.Claim seat first count share
+event_of entries beside (told.Claim seat first count how) = event.Claim seat first count how
 event_of entries beside (told.Release seat) = event.Release seat
 event_of entries beside (told.BackingRead seat first place) = event.BackingRead seat first (beside_at (slice_get beside place))
 event_of entries beside (told.LineWrite seat place) = write_at seat (slice_get entries place)
@@ -123,7 +123,7 @@ KeptIn entries beside (kept.Entry place) = place < entries
 KeptIn entries beside (kept.Beside place) = place < beside
 
 abbrev pub StandsIn : ℕ → ℕ → Record → Type 0
-StandsIn entries beside (told.Claim seat first count share) = Unit {0}
+StandsIn entries beside (told.Claim seat first count how) = Unit {0}
 StandsIn entries beside (told.Release seat) = Unit {0}
 StandsIn entries beside (told.BackingRead seat first place) = place < beside
 StandsIn entries beside (told.LineWrite seat place) = place < entries
@@ -145,7 +145,7 @@ TellsIn entries beside entry values r e =
 
 -- events that a halt doesn't keep out: what ends a hold, and calls of devices that were under way
 abbrev pub is_late : Event → Bool
-is_late (event.Claim i first count share) = false
+is_late (event.Claim i first count how) = false
 is_late (event.Release i) = true
 is_late (event.BackingRead i first values) = true
 is_late (event.BackingWrite i first values of) = true

@@ -75,9 +75,9 @@ CanFault st i Backing Write at None tried = ⊥
 CanFault st i Backing Write at (Some (Values values)) tried = CanWrite st i at values × (tried ≡ true)
 
 abbrev pub enabled : Setup → State → Event → Type 0
-enabled w st (event.Claim i first count share) =
+enabled w st (event.Claim i first count how) =
     IsRunning st × (i < seat_count) × (0 < count) × (first + count ≤ w.size) × ((st.seats i).claim ≡ None)
-    × ((k : ℕ) → k ≢ i → IsFree (record { seat = i; first = first; count = count; share = share }) (st.seats k).claim)
+    × ((k : ℕ) → k ≢ i → IsFree (record { seat = i; first = first; count = count; share = how }) (st.seats k).claim)
 enabled w st (event.Release i) = (c : Claim) × ((st.seats i).claim ≡ Some c)
 enabled w st (event.BackingRead i first values) =
     MayCall st i × (0 < length values) × Covers (st.seats i).claim first (length values)
@@ -138,7 +138,7 @@ faulted w st i device Write at (Some (Values values)) tried =
     record st { backing = after_failed_write (w.offset + at) values st.backing; history = tried_for tried at values st.history; halted = halted_by st.halted device; seats = put_seat st.seats i (with_write (st.seats i) true) }
 
 abbrev pub after : Setup → State → Event → State
-after w st (event.Claim i first count share) = record st { seats = put_seat st.seats i (with_claim (st.seats i) (Some (record { seat = i; first = first; count = count; share = share }))) }
+after w st (event.Claim i first count how) = record st { seats = put_seat st.seats i (with_claim (st.seats i) (Some (record { seat = i; first = first; count = count; share = how }))) }
 after w st (event.Release i) = record st { seats = put_seat st.seats i (with_claim (st.seats i) None) }
 after w st (event.BackingRead i first values) = record st { backing = after_read st.backing; seats = put_seat st.seats i (with_read (st.seats i) first values (is_some st.halted)) }
 after w st (event.BackingWrite i first values of) =

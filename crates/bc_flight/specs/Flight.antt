@@ -1,6 +1,6 @@
 -- The claims that stand, at most one for each seat.
-use Rattle.std.specs.Prelude.{◌≡◌, ℕ, ◌+◌, ◌<◌, ◌≤◌, ◌^◌, false, ◌==◌, List, [], ◌∷◌, Option, Some, None, if◌then◌else◌}
-use Rattle.bc_flight.specs.Claims.{conflicts_any}
+use Rattle.std.specs.Prelude.{◌≡◌, ℕ, ◌+◌, ◌<◌, ◌≤◌, ◌^◌, true, false, ◌==◌, List, [], ◌∷◌, Option, Some, None, if◌then◌else◌}
+use Rattle.bc_flight.specs.Claims.{conflicts, conflicts_any}
 use Rattle.bc_flight.specs.declared.claim.Claim.{Claim}
 use Rattle.bc_flight.specs.declared.claim.Share.{Share}
 
@@ -31,3 +31,7 @@ IsRanged c = (1 ≤ c.count) × (c.first + c.count < 2 ^ 64)
 abbrev pub IsInOrder : ℕ → List Claim → Type 0
 IsInOrder seats [] = Unit {0}
 IsInOrder seats (c ∷ cs) = (c.seat < seats) × IsRanged c × (claim_of c.seat cs ≡ None) × (conflicts_any c cs ≡ false) × IsInOrder seats cs
+
+-- the claim of some seat stands among these and conflicts with it
+abbrev pub IsTaken : Claim → List Claim → Type 0
+IsTaken c cs = (other : Claim) × (claim_of other.seat cs ≡ Some other) × (conflicts c other ≡ true)
