@@ -21,7 +21,12 @@ impl Model for Calls {
 
     ghost Value = { Tally };
 
-    ghost view = { λ a. record { failing = a.failing.items; stop = a.stop; made = a.made; faults = a.faults } };
+    ghost view = { λ a. record {
+      failing = a.failing.items;
+      stop = a.stop;
+      made = a.made;
+      faults = a.faults;
+    } };
 }
 
 // Whether the call behind so many is among these.

@@ -62,7 +62,8 @@ fn choose(pick: Pick, counts: &mut [u64])
 fn write_choices(bytes: &mut [u8], log: &[Logged], wanted: &mut [u64])
     requires within { IsWithin (length bytes.old) log.now }
     requires wanted { length bytes.old / 512 ≤ length wanted.old }
-    ensures { (s : ℕ) → slice_index wanted.old s ≤ length (values_at s log.now) → image_of bytes.new s
+    ensures { (s : ℕ) → slice_index wanted.old s ≤ length (values_at s log.now) →
+        image_of bytes.new s
         ≡ slice_index_or (choices bytes.old log.now s) (slice_index wanted.old s) [] }
 {
     for written in log {

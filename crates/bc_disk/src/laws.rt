@@ -46,7 +46,9 @@ pub fn failed_write_adds_its_values()
 /// What a read may give is at any time one of the values that a crash may leave.
 pub fn what_is_read_may_stay()
     ensures quiet { (held : Image) → MayStay (quiet held) }
-    ensures written { (c : Content) (at : ℕ) (values : List Value) → MayStay c → MayStay (written at values c) }
-    ensures failed { (c : Content) (at : ℕ) (values : List Value) → MayStay c → MayStay (failed at values c) }
+    ensures written { (c : Content) (at : ℕ) (values : List Value) →
+        MayStay c → MayStay (written at values c) }
+    ensures failed { (c : Content) (at : ℕ) (values : List Value) →
+        MayStay c → MayStay (failed at values c) }
     ensures settled { (c : Content) → MayStay (settled c) }
 {}

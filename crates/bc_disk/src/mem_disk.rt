@@ -132,13 +132,12 @@ impl Disk for MemDisk {
     ghost use Rattle.bc_model.specs.Sector.{values_of};
     ghost use Rattle.bc_disk.specs.Disk.{IsOnDisk, IsRead, IsKept, IsWritten, IsFailedWrite, IsSettled, IsCounted};
     ghost use Rattle.bc_disk.specs.Tally.{next_fails, counted, succeeded, faulted};
-    ghost use Rattle.bc_disk.specs.MemDisk.{memory, as_disk};
+    ghost use Rattle.bc_disk.specs.MemDisk.{memory, as_disk, as_disk_is_honest};
     ghost use Rattle.bc_disk.specs.Memory.{has_room, noted};
-    ghost use Rattle.bc_disk.specs.Kept.{honest_memory};
 
     ghost facts = { as_disk };
 
-    ghost honest = { λ d. honest_memory (memory d) d.small d.kept };
+    ghost honest = { as_disk_is_honest };
 
     fn sectors(&self) -> u64 {
         self.seen.len() as u64 / 512

@@ -23,7 +23,8 @@ impl Model for MemSink {
 
     ghost view = { λ a. record { taken = a.bytes.items; room = a.room; calls = a.calls } };
 
-    ghost invariant = { λ a. (length a.bytes.items ≤ a.room) × (a.room ≤ vec_capacity a.bytes) × (a.calls.stop ≡ None) };
+    ghost invariant = { λ a.
+        (length a.bytes.items ≤ a.room) × (a.room ≤ vec_capacity a.bytes) × (a.calls.stop ≡ None) };
 }
 
 impl MemSink {
@@ -86,7 +87,8 @@ impl Sink for MemSink {
 
     ghost facts = { facts_of_taken };
 
-    /// Takes as many bytes as there are and have room, and fails exactly where this call was told to.
+    /// Takes as many bytes as there are and have room, and fails exactly where this call was told
+    /// to.
     fn put(&mut self, bytes: &[u8]) -> Result<usize, Failed>
         ensures put { IsPut result bytes.now (facts_of_taken self.old) (facts_of_taken self.new) }
 

@@ -79,8 +79,8 @@ impl Source for MemSource {
 
     ghost facts = { facts_of_left };
 
-    /// Gives as many bytes as there are and fit, and fails exactly where this call was told to. After
-    /// `Failed` the slice is as it was.
+    /// Gives as many bytes as there are and fit, and fails exactly where this call was told to.
+    /// After `Failed` the slice is as it was.
     fn next(&mut self, into: &mut [u8]) -> Result<usize, Failed>
         ensures next { IsNext result into.new (facts_of_left self.old) (facts_of_left self.new) }
 
