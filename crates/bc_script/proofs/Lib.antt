@@ -1,0 +1,10 @@
+pub mod Cases
+pub mod Words
+pub mod Numbers
+pub mod Readings
+pub mod Lines
+pub mod Told
+pub mod Printed
+pub mod Texts
+pub mod Grows
+pub mod OneReading

@@ -1,0 +1,45 @@
+-- A trace as far as it was read.
+use Rattle.std.specs.Prelude.{◌≡◌, ℕ, ◌+◌, ◌*◌, ◌<◌, ◌≤◌, List, [], ◌++◌, length}
+use Rattle.bc_script.specs.declared.draft.Draft.{Draft}
+use Rattle.bc_script.specs.declared.line.Line.{Line}
+use Rattle.bc_script.specs.declared.script.TraceError.{TraceError}
+use Rattle.bc_script.specs.declared.script.TraceError.TheVariants.{Script, Fault, Memory}
+use Rattle.bc_script.specs.Trace.{lines_of, HasNoNewline, SpellAll, most_lines, IsTrace, IsFirstRefused}
+
+-- whole lines, and the front of the next
+pub record IsDraft (lines : List Line) (part : List ℕ) : Type 0 where
+  pub trace : IsTrace lines
+  pub short : length part ≤ 80
+  pub full : length lines ≡ most_lines → part ≡ []
+
+-- what is still to be read of the text is the rest of the line that the part begins, and what follows it
+abbrev pub IsSoFar : List ℕ → List Line → List ℕ → List ℕ → Type 0
+IsSoFar text lines part left = (front : List (List ℕ)) × (lines_of text ≡ front ++ lines_of (part ++ left)) × SpellAll front lines × HasNoNewline part
+
+-- at most so many bytes were read
+abbrev pub bytes_read : List Line → List ℕ → ℕ
+bytes_read lines part = 81 * length lines + length part
+
+-- the same of a draft
+abbrev pub IsValid : Draft → Type 0
+IsValid draft = IsDraft draft.lines.items draft.part.items
+
+abbrev pub Continues : List ℕ → Draft → List ℕ → Type 0
+Continues text draft left = IsSoFar text draft.lines.items draft.part.items left
+
+abbrev pub size_of : Draft → ℕ
+size_of draft = bytes_read draft.lines.items draft.part.items
+
+abbrev pub line_count : Draft → ℕ
+line_count draft = length draft.lines.items
+
+-- why no more is read
+abbrev pub Stops : List ℕ → TraceError → Type 0
+Stops text (Script e) = IsFirstRefused text e
+Stops text Fault = ⊥
+Stops text Memory = Unit {0}
+
+abbrev pub IsAfter : ℕ → TraceError → Type 0
+IsAfter lines (Script e) = lines < e.line
+IsAfter lines Fault = ⊥
+IsAfter lines Memory = Unit {0}

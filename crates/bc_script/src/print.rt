@@ -1,0 +1,146 @@
+//! Prints answers.
+ghost use Rattle.std.specs.Prelude.{◌≡◌, ◌+◌, ◌<◌, ◌≤◌, ◌^◌, ◌++◌, [], List, length, OnOk, OnErr, IfOk};
+ghost use Rattle.std.specs.Char.{digit_char};
+ghost use Rattle.std.specs.Fmt.{decimal};
+ghost use Rattle.bc_script.specs.Runs.{AreSeen, hex, seen_text, runs_text};
+ghost use Rattle.bc_script.specs.Answer.{device_text, refusal_text, IsText, IsPrintable, AppendsText};
+ghost use Rattle.bc_script.specs.declared.seen.Seen.{Seen};
+
+use crate::answer::{Answer, Refusal};
+use crate::seen::Seen;
+use bc_disk::disk::Device;
+use bc_model::values::Values;
+use std::alloc::{AllocError, Global};
+
+// A lower-case hexadecimal digit.
+fn hex_digit(value: u8) -> u8
+    requires { value < 16 }
+    ensures { result ≡ digit_char value }
+{
+    if value < 10 {
+        b'0' + value
+    } else {
+        b'a' + (value - 10)
+    }
+}
+
+// Two digits for each byte.
+fn push_hex(text: &mut Vec<u8>, bytes: &[u8]) -> Result<(), AllocError>
+    ensures { OnOk result (text.new.items ≡ text.old.items ++ hex bytes.now) }
+{
+    for byte in bytes {
+        text.push(hex_digit(*byte / 16))?;
+        text.push(hex_digit(*byte % 16))?;
+    }
+    Ok(())
+}
+
+// A number in decimal digits.
+fn push_number(text: &mut Vec<u8>, number: u64) -> Result<(), AllocError>
+    ensures { OnOk result (text.new.items ≡ text.old.items ++ decimal number) }
+{
+    let digits = number.to_string(*text.allocator())?;
+    text.extend_from_slice(digits.as_bytes())
+}
+
+// One run.
+fn push_run(text: &mut Vec<u8>, seen: &Seen, count: u32) -> Result<(), AllocError>
+    ensures { OnOk result (text.new.items ≡ text.old.items ++ seen_text seen.now count) }
+{
+    match seen {
+        Seen::Stamp(stamp) => {
+            push_number(text, *stamp)?;
+            text.extend_from_slice(b"x")?;
+            push_number(text, count as u64)
+        }
+        Seen::Zero => {
+            text.extend_from_slice(b"zerox")?;
+            push_number(text, count as u64)
+        }
+        Seen::Other(value) => {
+            text.extend_from_slice(b"raw:")?;
+            push_hex(text, value)
+        }
+    }
+}
+
+// The runs of the sectors from `first` on, of which there is one at least.
+fn runs_of(alloc: Global, first: u64, values: &Values) -> Result<Vec<u8>, AllocError>
+    requires some { 0 < length values.now }
+    requires range { first + length values.now < 2 ^ 64 }
+    ensures { IfOk result (λ text. (seen : List Seen)
+        × AreSeen first values.now seen × (text.items ≡ runs_text seen)) }
+{
+    let mut text = Vec::new(alloc);
+    let mut run = Seen::new(first, &values.get(0));
+    let mut count = 1;
+    for place in 1..values.len() {
+        let next = Seen::new(first + place as u64, &values.get(place));
+        if run.is_joined(&next) {
+            count += 1;
+        } else {
+            push_run(&mut text, &run, count)?;
+            text.push(b' ')?;
+            run = next;
+            count = 1;
+        }
+    }
+    push_run(&mut text, &run, count)?;
+    Ok(text)
+}
+
+fn device_of(device: Device) -> &'static [u8]
+    ensures { result.now ≡ device_text device }
+{
+    match device {
+        Device::Cache => b"cache",
+        Device::Backing => b"backing",
+    }
+}
+
+fn refusal_of(alloc: Global, refusal: Refusal) -> Result<Vec<u8>, AllocError>
+    ensures { IfOk result (λ text. text.items ≡ refusal_text refusal) }
+{
+    let mut text = Vec::new(alloc);
+    match refusal {
+        Refusal::OutOfRange => text.extend_from_slice(b"out-of-range")?,
+        Refusal::Fault(device) => {
+            text.extend_from_slice(b"fault ")?;
+            text.extend_from_slice(device_of(device))?;
+        }
+        Refusal::Halted(device) => {
+            text.extend_from_slice(b"halted ")?;
+            text.extend_from_slice(device_of(device))?;
+        }
+        Refusal::Memory => text.extend_from_slice(b"memory")?,
+    }
+    Ok(text)
+}
+
+fn text_of(alloc: Global, answer: &Answer) -> Result<Vec<u8>, AllocError>
+    requires { IsPrintable answer.now }
+    ensures { IfOk result (λ text. IsText answer.now text.items) }
+{
+    match answer {
+        Answer::Done => Vec::from_slice(alloc, b"done"),
+        Answer::Runs { values, .. } if values.is_empty() => Ok(Vec::new(alloc)),
+        Answer::Runs { first, values } => runs_of(alloc, *first, values),
+        Answer::Refused(refusal) => refusal_of(alloc, *refusal),
+    }
+}
+
+/// Puts the text of an answer, without a newline, behind the bytes of `into`; after an error these
+/// are as before.
+///
+/// It is `done`; the runs of the sectors, with a space between two: `STAMPxCOUNT` for neighbours
+/// that hold the patterns of that stamp for their own numbers, `zerox` and a count for zeros, and
+/// `raw:` and 1,024 hexadecimal digits for any other sector; or `out-of-range`, `fault` or `halted`
+/// with the device, and `memory`.
+pub fn print_answer(answer: &Answer, into: &mut Vec<u8>) -> Result<(), AllocError>
+    requires { IsPrintable answer.now }
+    ensures ok { OnOk result (AppendsText answer.now into.old.items into.new.items) }
+    ensures err { OnErr result (into.new.items ≡ into.old.items) }
+{
+    let text = text_of(*into.allocator(), answer)?;
+    into.extend_from_slice(&text)
+}

@@ -1,0 +1,4 @@
+//! What workers share: the gate at which each of them stands at known points.
+#![tactic(auto)]
+
+pub mod gate;
