@@ -1,0 +1,7 @@
+pub use Rattle.atomic_table.specs.Seated
+pub mod Machine
+pub mod Seat
+pub mod Later
+pub mod Rule
+pub mod Steps
+pub mod Counters

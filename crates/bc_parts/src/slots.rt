@@ -1,0 +1,89 @@
+//! The way of the parts from their vector into slots, and back.
+ghost use Rattle.std.specs.Prelude.{◌≡◌, ◌^◌, ◌<◌, ◌≤◌, List, [], length, replicate};
+ghost use Rattle.std.specs.Prelude.{vec_capacity, Some, IfOk, IfErr};
+ghost use Rattle.bc_parts.specs.declared.table.Cargo.TheVariants.{Part, Book, Vector};
+ghost use Rattle.bc_parts.specs.Rule.{laid};
+
+use crate::machine::Machine;
+use crate::not_made::NotMade;
+use crate::table::{Cargo, Slot};
+use std::alloc::{AllocError, Global};
+
+// The words of a table that begins.
+pub fn zeros(alloc: Global, count: usize) -> Result<Vec<u64>, AllocError>
+    ensures { IfOk result (λ v. v.items ≡ replicate count 0) }
+{
+    vec![in alloc; 0; count]
+}
+
+// Moves the parts and the Book into slots, with the emptied vector behind them.
+pub fn lay<M: Machine>(
+    alloc: Global,
+    mut parts: Vec<M::Part>,
+    book: M::Book,
+) -> Result<Vec<Slot<M>>, NotMade<M>>
+    requires { length parts.items < 2 ^ 32 }
+    ensures ok { IfOk result (λ slots. (v : _) × (slots.items ≡ laid parts.items book v)
+        × (v.items ≡ []) × (length parts.items ≤ vec_capacity v)) }
+    ensures err { IfErr result (λ n. (n.parts.items ≡ parts.items) × (n.book ≡ book)) }
+{
+    let Ok(mut slots) = Vec::with_capacity(alloc, parts.len() + 2) else {
+        return Err(NotMade { parts, book });
+    };
+    parts.reverse();
+    while let Some(part) = parts.pop() {
+        slots.push_reserved(Some(Cargo::Part(part)));
+    }
+    slots.push_reserved(Some(Cargo::Book(book)));
+    slots.push_reserved(Some(Cargo::Vector(parts)));
+    Ok(slots)
+}
+
+// The part in such a slot.
+pub fn part_in<M: Machine>(slot: Slot<M>) -> M::Part
+    requires { (p : M.Part) × (slot ≡ Some (Part p)) }
+    ensures { slot ≡ Some (Part result) }
+{
+    let Some(Cargo::Part(part)) = slot else {
+        unreachable!()
+    };
+    part
+}
+
+// The Book in such a slot.
+pub fn book_in<M: Machine>(slot: Slot<M>) -> M::Book
+    requires { (b : M.Book) × (slot ≡ Some (Book b)) }
+    ensures { slot ≡ Some (Book result) }
+{
+    let Some(Cargo::Book(book)) = slot else {
+        unreachable!()
+    };
+    book
+}
+
+// The vector in such a slot.
+pub fn vector_in<M: Machine>(slot: Slot<M>) -> Vec<M::Part>
+    requires { (v : _) × (slot ≡ Some (Vector v)) }
+    ensures { slot ≡ Some (Vector result) }
+{
+    let Some(Cargo::Vector(vector)) = slot else {
+        unreachable!()
+    };
+    vector
+}
+
+// Moves the parts and the Book back out of such slots. It takes no memory.
+pub fn unlay<M: Machine>(mut slots: Vec<Slot<M>>) -> NotMade<M>
+    requires { (ps : List M.Part) × (b : M.Book) × (v : _) × (slots.items ≡ laid ps b v)
+        × (v.items ≡ []) × (length ps ≤ vec_capacity v) }
+    ensures { (v : _) × (slots.items ≡ laid result.parts.items result.book v) }
+{
+    let mut parts = vector_in::<M>(slots.pop().unwrap());
+    let book = book_in::<M>(slots.pop().unwrap());
+    while let Some(slot) = slots.pop() {
+        parts.push_reserved(part_in::<M>(slot));
+    }
+    parts.reverse();
+    slots.destroy_empty();
+    NotMade { parts, book }
+}
