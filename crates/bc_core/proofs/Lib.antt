@@ -4,3 +4,7 @@ pub mod Present
 pub mod Survive
 pub mod Records
 pub mod Histories
+pub mod States
+pub mod Places
+pub mod Knowns
+pub mod Enableds

@@ -3,3 +3,7 @@ pub mod Step
 pub mod Laws
 pub mod Pass
 pub mod Book
+pub mod StateView
+pub mod Known
+pub mod Sectors
+pub mod Enabled
