@@ -1,0 +1,4 @@
+pub mod Noted
+pub mod Committing
+pub mod Claiming
+pub mod Reading

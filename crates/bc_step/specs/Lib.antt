@@ -1,0 +1,4 @@
+pub mod World
+pub mod Frame
+pub mod Notes
+pub mod Seats
