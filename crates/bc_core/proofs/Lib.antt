@@ -8,3 +8,4 @@ pub mod States
 pub mod Places
 pub mod Knowns
 pub mod Enableds
+pub mod Stable

@@ -1,6 +1,6 @@
 //! What holds of every run, each law the contract of a function.
 ghost use Rattle.std.specs.Prelude.{◌≡◌, List, reverse};
-ghost use Rattle.bc_core.specs.Laws.{LawNow, LawCrash};
+ghost use Rattle.bc_core.specs.Laws.{LawNow, LawCrash, LawStable};
 ghost use Rattle.bc_core.specs.State.{Setup, opened};
 ghost use Rattle.bc_core.specs.Step.{fold};
 ghost use Rattle.bc_core.specs.Pass.{entries_of};
@@ -15,6 +15,12 @@ pub fn law_now()
 /// value no older than the last acknowledged flush.
 pub fn law_crash()
     ensures { LawCrash }
+{}
+
+/// Behind a good barrier of a run that wasn't halted, whatever a crash leaves shows for each sector the
+/// value of its last write.
+pub fn law_stable()
+    ensures { LawStable }
 {}
 
 /// The history of a run is what its events put into it, in their order.

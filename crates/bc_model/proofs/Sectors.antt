@@ -65,6 +65,13 @@ front_more {A = A} (suc i) (x ∷ xs) v h = ap (λ (ys : List A). x ∷ ys) (fro
 pub take_more : {A : Type 0} (i : ℕ) (xs : List A) (v : A) → slice_get xs i ≡ Some v → take (i + 1) xs ≡ take i xs ++ v ∷ []
 take_more i xs v h = let one : i + 1 ≡ suc i = omega arith in ap (λ k. take k xs) one ∙ front_more i xs v h
 
+-- the element at a place behind the first n
+pub get_behind : {A : Type 0} (n i : ℕ) (xs : List A) → slice_get (drop n xs) i ≡ slice_get xs (n + i)
+get_behind zero i [] = refl
+get_behind (suc n) i [] = refl
+get_behind zero i (x ∷ xs) = let same : i ≡ 0 + i = omega arith in ap (slice_get (x ∷ xs)) same
+get_behind (suc n) i (x ∷ xs) = let same : suc (n + i) ≡ suc n + i = omega arith in get_behind n i xs ∙ ap (slice_get (x ∷ xs)) same
+
 -- bytes that are one sector
 pub one_sector : (value : List ℕ) → length value ≡ 512 → values_of value ≡ value ∷ []
 one_sector value len = values_whole 1 value (omega arith) ∙ ap (λ (v : Value). v ∷ []) (ap (λ k. take k value) (sym len) ∙ take-length value)

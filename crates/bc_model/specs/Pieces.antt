@@ -1,5 +1,8 @@
 -- How a request is cut: at each multiple of 256 sectors.
-use Rattle.std.specs.Prelude.{ℕ, zero, suc, ◌+◌, ◌-◌, ◌*◌, ◌/◌, List, [], ◌∷◌, max, min}
+use Rattle.std.specs.Prelude.{◌≡◌, ℕ, zero, suc, ◌+◌, ◌-◌, ◌*◌, ◌/◌, List, [], ◌∷◌, ◌++◌, length, map, take, drop, max, min}
+use Rattle.bc_model.specs.Sector.{Value}
+use Rattle.bc_model.specs.declared.history.Entry.{Entry}
+use Rattle.bc_model.specs.declared.history.Entry.TheVariants as entry
 
 -- neighbouring sectors
 pub record Piece : Type 0 where
@@ -18,3 +21,21 @@ pieces_from first count q (suc n) = piece_in first count q ∷ pieces_from first
 -- the pieces of a range that isn't empty, in order
 abbrev pub pieces : ℕ → ℕ → List Piece
 pieces first count = pieces_from first count (first / 256) ((first + count + 255) / 256 - first / 256)
+
+-- a range is served up to a piece that is refused: these pieces are served
+abbrev pub ServedUpTo : ℕ → ℕ → List Piece → Piece → Type 0
+ServedUpTo first count served refused = (rest : List Piece) × (pieces first count ≡ served ++ refused ∷ rest)
+
+-- one Read for each of these pieces, with as many values as it has sectors; one behind the other these are the values
+abbrev pub AreReads : ℕ → ℕ → List Piece → List Value → List Entry → Type 0
+AreReads worker line [] values entries = (values ≡ []) × (entries ≡ [])
+AreReads worker line (p ∷ ps) values entries = (own : List Value) × (rest : List Value) × (later : List Entry)
+    × (length own ≡ p.count) × (values ≡ own ++ rest) × (entries ≡ entry.Read worker line p.first own ∷ later) × AreReads worker line ps rest later
+
+-- what a piece has of the values for the sectors from `first` on
+abbrev pub piece_of : ℕ → List Value → Piece → List Value
+piece_of first values p = take p.count (drop (p.first - first) values)
+
+-- one Write for each of these pieces, with its part of the values for the sectors from `first` on
+abbrev pub writes_of : ℕ → ℕ → ℕ → List Value → List Piece → List Entry
+writes_of worker line first values pieces = map (λ p. entry.Write worker line p.first (piece_of first values p)) pieces

@@ -167,6 +167,11 @@ impl Runs {
         Ok(())
     }
 
+    /// Where the runs take their memory.
+    pub fn allocator(&self) -> Global {
+        *self.rest.allocator()
+    }
+
     /// The same values.
     pub fn copy(&self) -> Result<Runs, AllocError>
         requires runs { All IsRun (runs_of self.now) }

@@ -1,5 +1,5 @@
 //! The values of neighbouring sectors, kept as runs.
-ghost use Rattle.std.specs.Prelude.{◌≡◌, ◌+◌, ◌<◌, ◌≤◌, ◌^◌, ◌++◌, ◌∷◌, [], List, ℕ, length, All, OnOk, OnErr, true, false, slice_get, ◌*◌, ◌/◌, ◌↔◌, IfOk, IsTrue};
+ghost use Rattle.std.specs.Prelude.{◌≡◌, ◌+◌, ◌<◌, ◌≤◌, ◌^◌, ◌++◌, ◌∷◌, [], List, ℕ, length, All, OnOk, OnErr, true, false, slice_get, take, drop, ◌*◌, ◌/◌, ◌↔◌, IfOk, IsTrue};
 ghost use Rattle.bc_model.specs.Sector.{sectors, values_of};
 ghost use Rattle.bc_model.specs.Values.{values_in, IsRun, patterns};
 
@@ -69,6 +69,21 @@ impl Values {
             runs,
             count: self.count,
         })
+    }
+
+    /// The values of the `count` sectors that begin `from` sectors behind the first, whose number is
+    /// `first`.
+    pub fn part(&self, first: u64, from: u32, count: u32) -> Result<Values, AllocError>
+        requires inside { from + count ≤ length self.now }
+        requires range { first + from + count ≤ 2 ^ 64 }
+        ensures { IfOk result (λ part. part ≡ take count (drop from self.now)) }
+    {
+        let mut part = Values::new(self.runs.allocator());
+        for i in 0..count {
+            let value = self.get(from + i);
+            part.push(first + u64::from(from + i), &value)?;
+        }
+        Ok(part)
     }
 
     /// The value of the sector that is `i` sectors behind the first.
@@ -154,6 +169,21 @@ impl Values {
             last,
         };
         Values { runs, count }
+    }
+
+    /// The values of whole sectors, of which the first has the number `first`: as runs, or as they
+    /// are where there is no memory for that.
+    pub fn from_sectors(first: u64, bytes: Vec<u8>) -> Values
+        requires whole { length bytes.items ≡ 512 * (length bytes.items / 512) }
+        requires few { length bytes.items / 512 < 2 ^ 32 }
+        requires range { first + length bytes.items / 512 ≤ 2 ^ 64 }
+        ensures { result ≡ values_of bytes.items }
+    {
+        let alloc = *bytes.allocator();
+        match Values::from_bytes(alloc, first, &bytes) {
+            Ok(values) => values,
+            Err(_) => Values::from_raw(bytes),
+        }
     }
 
     /// Puts the values into `into`, one behind the other.

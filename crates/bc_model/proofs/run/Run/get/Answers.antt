@@ -1,4 +1,4 @@
-use Rattle.std.proofs.Common.{◌≡◌, ℕ, List, [], ◌∷◌, ◌++◌, ◌<◌, ◌+◌, ◌≤◌, ◌^◌, sym, ap, ◌∙◌, length, subst, arith, Some}
+use Rattle.std.proofs.Common.{◌≡◌, ℕ, List, [], ◌∷◌, ◌++◌, ◌<◌, ◌+◌, sym, ap, ◌∙◌, length, subst, arith, Some}
 use Rattle.std.specs.Prelude.{slice_get}
 use Rattle.bc_model.specs.declared.run.Run.{Run}
 use Rattle.bc_model.specs.Pattern.{zeros}

@@ -1,4 +1,4 @@
-use Rattle.std.proofs.Common.{◌≡◌, ℕ, List, ◌/◌, sym, ap, ◌∙◌, length}
+use Rattle.std.proofs.Common.{ℕ, List, ◌/◌, sym, ap, ◌∙◌, length}
 use Rattle.bc_model.proofs.Sectors.{length_raw}
 use Rattle.bc_model.specs.declared.run.Run.{Run}
 use Rattle.bc_model.specs.Values.{values_in}

@@ -1,4 +1,4 @@
-use Rattle.std.proofs.Common.{◌≡◌, ℕ, List, ◌/◌, ◌∙◌, sym, ap, length, arith}
+use Rattle.std.proofs.Common.{ℕ, List, ◌/◌, ◌∙◌, sym, ap, length, arith}
 use Rattle.bc_model.specs.Sector.{Value}
 use Rattle.bc_model.specs.declared.run.Run.TheVariants.{Raw}
 use Rattle.bc_model.specs.Values.{IsRun}
