@@ -1,7 +1,7 @@
 //! Flushes.
-ghost use Rattle.std.specs.Prelude.{◌≡◌, ◌<◌, [], OnOk, IfErr};
+ghost use Rattle.std.specs.Prelude.{◌≡◌, OnOk, IfErr};
 ghost use Rattle.bc_step.specs.Seats.{IsSeat};
-ghost use Rattle.bc_request.specs.Requests.{Ran, FlushRefused, flush_events, line_of};
+ghost use Rattle.bc_request.specs.Requests.{Ran, FlushRefused, IsIdle, flush_events, line_of};
 
 use crate::error::{RequestError, refusal};
 use crate::job::Job;
@@ -23,7 +23,8 @@ pub fn flush<C: Disk + Drop, B: Disk + Drop, R: Wait, G: Gate>(
 ) -> Result<(), RequestError>
     requires run { seat.old.run ≡ parts.now.run }
     requires seat { IsSeat C.facts B.facts seat.old }
-    requires idle { seat.old.parts ≡ [] }
+    requires idle { IsIdle seat.old }
+    ensures idle { IsIdle seat.new }
     ensures ok { OnOk result (Ran C.facts B.facts seat.old (flush_events seat.old.first (line_of job.now)) seat.new) }
     ensures err { IfErr result (λ error. FlushRefused C.facts B.facts error seat.old (line_of job.now) seat.new) }
 {

@@ -4,3 +4,6 @@
 pub mod error;
 pub mod flush;
 pub mod job;
+pub mod piece;
+pub mod read;
+pub mod write;

@@ -16,7 +16,7 @@ use Rattle.bc_core.specs.declared.event.Event.{Event}
 use Rattle.bc_core.specs.declared.event.Event.TheVariants as event
 use Rattle.bc_step.specs.declared.part.CorePart.{CorePart}
 use Rattle.bc_step.specs.declared.part.CorePart.TheVariants as part
-use Rattle.bc_step.specs.World.{World, enabled, opening, setup_of, IsFlight, IsTaken}
+use Rattle.bc_step.specs.World.{World, may, opening, setup_of, IsFlight, IsTaken}
 use Rattle.bc_step.specs.Notes.{Note, blank, note_of, Fits}
 use Rattle.bc_step.specs.Seats.{IsSeat, AtEvent, Committed, Refused, Took, world_of, note}
 use Rattle.bc_step.proofs.Noted.{fits_run}
@@ -74,7 +74,7 @@ module _ {C B : Type 0} (cache_facts : C → DiskFacts) (backing_facts : B → D
   -- a claim that conflicts with none may be made
   pub can_claim : (v w : SeatView (CorePart C B) Event Device) (f : Claims) (first count : ℕ) (how : Share) (x : World) → IsSeat cache_facts backing_facts v → Took cache_facts backing_facts v 1 w → IsFlight f (world_of cache_facts backing_facts w).now
       → (note v).claim ≡ None → conflicts_any (claim_at v.first first count how) f.claims ≡ false → 1 ≤ count → first + count ≤ (setup_of cache_facts backing_facts v.run.start).size
-      → AtEvent cache_facts backing_facts w (event.Claim v.first first count how) x → enabled x (event.Claim v.first first count how)
+      → AtEvent cache_facts backing_facts w (event.Claim v.first first count how) x → may x (event.Claim v.first first count how)
   can_claim v w f first count how x seat took flight none free some inside at =
       let view = took.view in
       let first_ : w.first ≡ v.first = ap (λ (y : SeatView (CorePart C B) Event Device). y.first) view in
@@ -120,7 +120,7 @@ module _ {C B : Type 0} (cache_facts : C → DiskFacts) (backing_facts : B → D
       subst (λ (y : World). IsFlight new y.now) (sym state.2) (seats ∙ there.1.0, released n f.claims new.claims state.0.now there.1.1 claims)
 
   -- a claim that is noted may be let go
-  pub can_release : (v w : SeatView (CorePart C B) Event Device) (c : Claim) (n : ℕ) (x : World) → Took cache_facts backing_facts v 1 w → n ≡ v.first → (note v).claim ≡ Some c → AtEvent cache_facts backing_facts w (event.Release n) x → enabled x (event.Release n)
+  pub can_release : (v w : SeatView (CorePart C B) Event Device) (c : Claim) (n : ℕ) (x : World) → Took cache_facts backing_facts v 1 w → n ≡ v.first → (note v).claim ≡ Some c → AtEvent cache_facts backing_facts w (event.Release n) x → may x (event.Release n)
   can_release v w c n x took is some at =
       let first_ : w.first ≡ v.first = ap (λ (y : SeatView (CorePart C B) Event Device). y.first) took.view in
       (c, ap (λ k. (x.now.seats k).claim) (is ∙ sym first_) ∙ at.fits.claim ∙ ap (λ (o : Note). o.claim) (note_took v w 1 took) ∙ some)

@@ -1,5 +1,5 @@
 -- From lists of events to states: what a seat knows where its event is committed.
-use Rattle.std.proofs.Common.{◌≡◌, ◌≢◌, ℕ, ◌+◌, ◌-◌, Bool, true, false, ◌||◌, List, [], ◌∷◌, ◌++◌, length, Option, Some, None, Ok, if◌then◌else◌, refl, sym, ap, ◌∙◌, subst, arith}
+use Rattle.std.proofs.Common.{◌≡◌, ◌≢◌, ℕ, ◌+◌, ◌-◌, Bool, true, false, ◌||◌, List, [], ◌∷◌, ◌++◌, length, Option, Some, None, Ok, if◌then◌else◌, refl, sym, ap, ◌∙◌, subst, arith, ◌<◌, append_assoc}
 use Rattle.std.specs.Prelude.{fold, All, is_some}
 use Rattle.std.proofs.lemmas.List.Sums.{fold-append}
 use Rattle.std.proofs.lemmas.List.Elements.{All-head, All-tail}
@@ -163,8 +163,8 @@ module _ {C B : Type 0} (cache_facts : C → DiskFacts) (backing_facts : B → D
   -- the seat after its event
   pub committed : (v w : SeatView (CorePart C B) Event Device) (e : Event) (es : List Event) (t : Option Device) → IsSeat cache_facts backing_facts v → AtEvent cache_facts backing_facts v e (world_at v es)
       → w ≡ record v { seen = es ++ e ∷ []; promises = v.promises - 1; told = t } → t ≡ halt_of (es ++ e ∷ []) → own v.first w.seen ≡ own v.first v.seen ++ e ∷ []
-      → Committed cache_facts backing_facts v e w
-  committed v w e es t seat at is halted same =
+      → (others : List Event) → es ≡ v.seen ++ others → ((n : ℕ) → v.first < n → n < v.end → own n w.seen ≡ own n v.seen) → Committed cache_facts backing_facts v e w
+  committed v w e es t seat at is halted same others behind rest =
       let told : w.told ≡ halt_of (es ++ e ∷ []) = ap (λ (x : SeatView (CorePart C B) Event Device). x.told) is ∙ halted in
       let seen : w.seen ≡ es ++ e ∷ [] = ap (λ (x : SeatView (CorePart C B) Event Device). x.seen) is in
       let first_ : w.first ≡ v.first = ap (λ (x : SeatView (CorePart C B) Event Device). x.first) is in
@@ -177,6 +177,7 @@ module _ {C B : Type 0} (cache_facts : C → DiskFacts) (backing_facts : B → D
         view = is ∙ ap (λ (l : List Event). record v { seen = l; promises = v.promises - 1; told = t }) (sym seen)
             ∙ ap (λ (o : Option Device). record v { seen = w.seen; promises = v.promises - 1; told = o }) (halted ∙ sym told);
         deeds = ap (λ n. own n w.seen) first_ ∙ same;
+        grew = record { behind = (others ++ e ∷ [], seen ∙ ap (λ (l : List Event). l ++ e ∷ []) behind ∙ append_assoc v.seen others (e ∷ [])); rest = rest };
         seat = record {
           live = omega arith;
           numbers = omega arith;
@@ -194,8 +195,9 @@ module _ {C B : Type 0} (cache_facts : C → DiskFacts) (backing_facts : B → D
 
   -- and after a refusal
   pub refused : (v w : SeatView (CorePart C B) Event Device) (d : Device) (others : List Event) → IsSeat cache_facts backing_facts v → w ≡ record v { seen = w.seen; told = Some d } → halt_of w.seen ≡ Some d
-      → own v.first w.seen ≡ own v.first v.seen → w.seen ≡ v.seen ++ others → ((k : ℕ) → Holds v.parts k → All (λ e. changes e k ≡ false) others) → Refused cache_facts backing_facts v d w
-  refused v w d others seat is halted same behind foreign =
+      → own v.first w.seen ≡ own v.first v.seen → w.seen ≡ v.seen ++ others → ((k : ℕ) → Holds v.parts k → All (λ e. changes e k ≡ false) others)
+      → ((n : ℕ) → v.first < n → n < v.end → own n w.seen ≡ own n v.seen) → Refused cache_facts backing_facts v d w
+  refused v w d others seat is halted same behind foreign rest =
       let first_ : w.first ≡ v.first = ap (λ (x : SeatView (CorePart C B) Event Device). x.first) is in
       let end : w.end ≡ v.end = ap (λ (x : SeatView (CorePart C B) Event Device). x.end) is in
       let run : w.run ≡ v.run = ap (λ (x : SeatView (CorePart C B) Event Device). x.run) is in
@@ -206,6 +208,7 @@ module _ {C B : Type 0} (cache_facts : C → DiskFacts) (backing_facts : B → D
       record {
         view = is;
         deeds = ap (λ n. own n w.seen) first_ ∙ same;
+        grew = record { behind = (others, behind); rest = rest };
         seat = record {
           live = omega arith;
           numbers = omega arith;
@@ -233,8 +236,9 @@ module _ {C B : Type 0} (cache_facts : C → DiskFacts) (backing_facts : B → D
       }
 
   pub took : (v w : SeatView (CorePart C B) Event Device) (part : ℕ) (others : List Event) → IsSeat cache_facts backing_facts v → v.parts ≡ [] → w ≡ record v { seen = w.seen; parts = part ∷ v.parts }
-      → own v.first w.seen ≡ own v.first v.seen → w.seen ≡ v.seen ++ others → All (λ x. number x ≢ v.first) others → Took cache_facts backing_facts v part w
-  took v w part others seat idle is same behind foreign =
+      → own v.first w.seen ≡ own v.first v.seen → w.seen ≡ v.seen ++ others → All (λ x. number x ≢ v.first) others
+      → ((n : ℕ) → v.first < n → n < v.end → own n w.seen ≡ own n v.seen) → Took cache_facts backing_facts v part w
+  took v w part others seat idle is same behind foreign rest =
       let first_ : w.first ≡ v.first = ap (λ (x : SeatView (CorePart C B) Event Device). x.first) is in
       let end : w.end ≡ v.end = ap (λ (x : SeatView (CorePart C B) Event Device). x.end) is in
       let run : w.run ≡ v.run = ap (λ (x : SeatView (CorePart C B) Event Device). x.run) is in
@@ -242,13 +246,15 @@ module _ {C B : Type 0} (cache_facts : C → DiskFacts) (backing_facts : B → D
       record {
         view = is ∙ ap (λ (hs : List ℕ). record v { seen = w.seen; parts = part ∷ hs }) idle;
         deeds = ap (λ n. own n w.seen) first_ ∙ same;
+        grew = record { behind = (others, behind); rest = rest };
         seat = seat_later v w others seat run first_ end (λ none. sym told ∙ none) behind foreign;
       }
 
   -- a seat that only saw more, and was promised some room or none
   pub promised : (v w : SeatView (CorePart C B) Event Device) (room : ℕ) (others : List Event) → IsSeat cache_facts backing_facts v → w ≡ record v { seen = w.seen; promises = room }
-      → own v.first w.seen ≡ own v.first v.seen → w.seen ≡ v.seen ++ others → All (λ x. number x ≢ v.first) others → Waited cache_facts backing_facts (record v { promises = room }) w
-  promised v w room others seat is same behind foreign =
+      → own v.first w.seen ≡ own v.first v.seen → w.seen ≡ v.seen ++ others → All (λ x. number x ≢ v.first) others
+      → ((n : ℕ) → v.first < n → n < v.end → own n w.seen ≡ own n v.seen) → Waited cache_facts backing_facts (record v { promises = room }) w
+  promised v w room others seat is same behind foreign rest =
       let first_ : w.first ≡ v.first = ap (λ (x : SeatView (CorePart C B) Event Device). x.first) is in
       let end : w.end ≡ v.end = ap (λ (x : SeatView (CorePart C B) Event Device). x.end) is in
       let run : w.run ≡ v.run = ap (λ (x : SeatView (CorePart C B) Event Device). x.run) is in
@@ -256,17 +262,18 @@ module _ {C B : Type 0} (cache_facts : C → DiskFacts) (backing_facts : B → D
       record {
         view = is ∙ ap (λ (t : Option Device). record v { seen = w.seen; promises = room; told = t }) (sym told);
         deeds = ap (λ n. own n w.seen) first_ ∙ same;
+        grew = record { behind = (others, behind); rest = rest };
         seat = seat_later v w others seat run first_ end (λ none. sym told ∙ none) behind foreign;
       }
 
   pub promised_some : (v w : SeatView (CorePart C B) Event Device) (b : Bool) (events : ℕ) (others : List Event) → IsSeat cache_facts backing_facts v
       → w ≡ record v { seen = w.seen; promises = v.promises + (if b then events else 0) } → b ≡ true → own v.first w.seen ≡ own v.first v.seen → w.seen ≡ v.seen ++ others
-      → All (λ x. number x ≢ v.first) others → Waited cache_facts backing_facts (record v { promises = v.promises + events }) w
-  promised_some v w b events others seat is good same behind foreign =
-      promised v w (v.promises + events) others seat (is ∙ ap (λ b. record v { seen = w.seen; promises = v.promises + (if b then events else 0) }) good) same behind foreign
+      → All (λ x. number x ≢ v.first) others → ((n : ℕ) → v.first < n → n < v.end → own n w.seen ≡ own n v.seen) → Waited cache_facts backing_facts (record v { promises = v.promises + events }) w
+  promised_some v w b events others seat is good same behind foreign rest =
+      promised v w (v.promises + events) others seat (is ∙ ap (λ b. record v { seen = w.seen; promises = v.promises + (if b then events else 0) }) good) same behind foreign rest
 
   pub promised_none : (v w : SeatView (CorePart C B) Event Device) (b : Bool) (events : ℕ) (others : List Event) → IsSeat cache_facts backing_facts v
       → w ≡ record v { seen = w.seen; promises = v.promises + (if b then events else 0) } → b ≡ false → own v.first w.seen ≡ own v.first v.seen → w.seen ≡ v.seen ++ others
-      → All (λ x. number x ≢ v.first) others → Waited cache_facts backing_facts v w
-  promised_none v w b events others seat is bad same behind foreign =
-      promised v w v.promises others seat (is ∙ ap (λ b. record v { seen = w.seen; promises = v.promises + (if b then events else 0) }) bad ∙ ap (λ n. record v { seen = w.seen; promises = n }) (omega arith)) same behind foreign
+      → All (λ x. number x ≢ v.first) others → ((n : ℕ) → v.first < n → n < v.end → own n w.seen ≡ own n v.seen) → Waited cache_facts backing_facts v w
+  promised_none v w b events others seat is bad same behind foreign rest =
+      promised v w v.promises others seat (is ∙ ap (λ b. record v { seen = w.seen; promises = v.promises + (if b then events else 0) }) bad ∙ ap (λ n. record v { seen = w.seen; promises = n }) (omega arith)) same behind foreign rest

@@ -2,3 +2,5 @@ pub mod Noted
 pub mod Committing
 pub mod Claiming
 pub mod Reading
+pub mod Stepping
+pub mod Ending

@@ -20,7 +20,7 @@ use Rattle.bc_core.specs.declared.event.Event.TheVariants as event
 use Rattle.bc_step.specs.declared.part.Backing.{Backing}
 use Rattle.bc_step.specs.declared.part.CorePart.{CorePart}
 use Rattle.bc_step.specs.declared.part.CorePart.TheVariants as part
-use Rattle.bc_step.specs.World.{World, enabled, opening, setup_of, IsBacking}
+use Rattle.bc_step.specs.World.{World, may, opening, setup_of, IsBacking}
 use Rattle.bc_step.specs.Notes.{Note}
 use Rattle.bc_step.specs.Seats.{AtEvent, Committed, Took, world_of, note}
 use Rattle.bc_step.proofs.Noted.{setup_stays}
@@ -54,7 +54,7 @@ module _ {C B : Type 0} (cache_facts : C → DiskFacts) (backing_facts : B → D
   -- what was read from the device may be committed as read
   pub can_read : (v w : SeatView (CorePart C B) Event Device) (b : Backing B) (n first : ℕ) (values : List Value) (x : World) → Took cache_facts backing_facts v 5 w → IsBacking cache_facts backing_facts b (world_of cache_facts backing_facts w)
       → v.told ≡ None → n ≡ v.first → 0 < length values → Covers (note v).claim first (length values) → IsRead (b.offset + first) values (backing_facts b.disk)
-      → AtEvent cache_facts backing_facts w (event.BackingRead n first values) x → enabled x (event.BackingRead n first values)
+      → AtEvent cache_facts backing_facts w (event.BackingRead n first values) x → may x (event.BackingRead n first values)
   can_read v w b n first values x took backing untold is some covered read at =
       let there = at.parts 5 (part.Backing b) (holds_took cache_facts backing_facts v w 5 took) (refl, backing) in
       let at_is : b.offset + first ≡ x.setup.offset + first = ap (λ k. k + first) there.1.offset in (

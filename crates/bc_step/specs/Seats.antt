@@ -58,6 +58,11 @@ IsSettledFor (Some f) of = (f.of ≡ of) × (f.barrier ≡ true)
 abbrev pub AreSectors : ℕ → ℕ → ℕ → Type 0
 AreSectors first bytes end = (bytes ≡ 512 * (bytes / 512)) × (0 < bytes / 512) × (bytes / 512 < 2 ^ 32) × (first + bytes / 512 ≤ end)
 
+-- the list that a seat has seen went on, and of the seat's numbers but its first by nothing
+pub record Grew {C B : Type 0} (v w : SeatView (CorePart C B) Event Device) : Type 0 where
+  pub behind : (others : List Event) × (w.seen ≡ v.seen ++ others)
+  pub rest : (n : ℕ) → v.first < n → n < v.end → own n w.seen ≡ own n v.seen
+
 module _ {C B : Type 0} (cache_facts : C → DiskFacts) (backing_facts : B → DiskFacts) where
   -- the state that the seat has seen
   abbrev pub world_of : SeatView (CorePart C B) Event Device → World
@@ -82,14 +87,20 @@ module _ {C B : Type 0} (cache_facts : C → DiskFacts) (backing_facts : B → D
   pub record Committed (v : SeatView (CorePart C B) Event Device) (e : Event) (w : SeatView (CorePart C B) Event Device) : Type 0 where
     pub view : w ≡ record v { seen = w.seen; promises = v.promises - 1; told = w.told }
     pub deeds : deeds w ≡ deeds v ++ e ∷ []
+    pub grew : Grew v w
     pub seat : IsSeat w
     pub told : w.told ≡ halt_of w.seen
     pub state : (x : World) × AtEvent v e x × (world_of w ≡ after x e)
+
+  -- it was committed, and what the seat held given back
+  abbrev pub Gave : SeatView (CorePart C B) Event Device → Event → SeatView (CorePart C B) Event Device → Type 0
+  Gave v e w = (x : SeatView (CorePart C B) Event Device) × Committed v e x × (w ≡ record x { parts = [] })
 
   -- it was refused after a halt by this device: the seat's own events are as before, and what it holds stands
   pub record Refused (v : SeatView (CorePart C B) Event Device) (d : Device) (w : SeatView (CorePart C B) Event Device) : Type 0 where
     pub view : w ≡ record v { seen = w.seen; told = Some d }
     pub deeds : deeds w ≡ deeds v
+    pub grew : Grew v w
     pub seat : IsSeat w
     pub halted : halt_of w.seen ≡ Some d
     pub parts : (k : ℕ) (p : CorePart C B) → Holds v.parts k → IsPart cache_facts backing_facts k p (world_of v) → IsPart cache_facts backing_facts k p (world_of w)
@@ -98,21 +109,31 @@ module _ {C B : Type 0} (cache_facts : C → DiskFacts) (backing_facts : B → D
   pub record Took (v : SeatView (CorePart C B) Event Device) (part : ℕ) (w : SeatView (CorePart C B) Event Device) : Type 0 where
     pub view : w ≡ record v { seen = w.seen; parts = part ∷ [] }
     pub deeds : deeds w ≡ deeds v
+    pub grew : Grew v w
     pub seat : IsSeat w
 
   -- a step did nothing but wait
   pub record Waited (v w : SeatView (CorePart C B) Event Device) : Type 0 where
     pub view : w ≡ record v { seen = w.seen; told = w.told }
     pub deeds : deeds w ≡ deeds v
+    pub grew : Grew v w
     pub seat : IsSeat w
 
   -- a step committed this event and no other
   pub record Stepped (v : SeatView (CorePart C B) Event Device) (e : Event) (w : SeatView (CorePart C B) Event Device) : Type 0 where
     pub view : w ≡ record v { seen = w.seen; promises = v.promises - 1; told = w.told }
     pub deeds : deeds w ≡ deeds v ++ e ∷ []
+    pub grew : Grew v w
+    pub told : w.told ≡ halt_of w.seen
     pub seat : IsSeat w
 
-  -- a step whose own call failed committed that fault, and any other did nothing but wait
+  -- a step whose own call failed committed that fault, and one that came after a halt did nothing but wait
+  abbrev pub FaultedOnly : StepError → SeatView (CorePart C B) Event Device → Event → SeatView (CorePart C B) Event Device → Type 0
+  FaultedOnly (error.Fault device) v e w = (device ≡ Backing) × Stepped v e w
+  FaultedOnly (error.Halted device) v e w = (halt_of w.seen ≡ Some device) × Waited v w
+  FaultedOnly error.Memory v e w = ⊥
+
+  -- the same of a step that takes memory, for which it did nothing but wait too
   abbrev pub FaultedOr : StepError → SeatView (CorePart C B) Event Device → Event → SeatView (CorePart C B) Event Device → Type 0
   FaultedOr (error.Fault device) v e w = (device ≡ Backing) × Stepped v e w
   FaultedOr (error.Halted device) v e w = (halt_of w.seen ≡ Some device) × Waited v w

@@ -1,8 +1,8 @@
 -- The core as a machine whose state is held in parts.
-use Rattle.std.specs.Prelude.{◌≡◌, ◌≢◌, ℕ, ◌+◌, ◌≤◌, Bool, true, false, ◌==◌, List, [], ◌∷◌, Option, Some, None}
-use Rattle.bc_model.specs.Sector.{Image}
-use Rattle.bc_disk.specs.Device.{Content, DeviceModel, quiet}
+use Rattle.std.specs.Prelude.{◌≡◌, ◌≢◌, ℕ, ◌+◌, ◌<◌, ◌≤◌, Bool, true, false, ◌==◌, List, [], ◌∷◌, Some, None}
+use Rattle.bc_disk.specs.Device.{DeviceModel}
 use Rattle.bc_disk.specs.Disk.{DiskFacts, StandsFor}
+use Rattle.bc_disk.specs.Stands.{settled_model}
 use Rattle.bc_flight.specs.Claims.{conflicts}
 use Rattle.bc_flight.specs.Flight.{Claims, claim_of}
 use Rattle.bc_flight.specs.declared.claim.Claim.{Claim}
@@ -20,14 +20,6 @@ pub record World : Type 0 where
   pub setup : Setup
   pub cache : DeviceModel
   pub now : State
-
-abbrev pub content_of : Option Image → Option Content
-content_of None = None
-content_of (Some held) = Some (quiet held)
-
--- a device after a good barrier
-abbrev pub model_of : DiskFacts → DeviceModel
-model_of d = record { sectors = d.sectors; content = content_of d.holds; calls = d.calls; faults = d.faults }
 
 abbrev pub no_device : DeviceModel
 no_device = record { sectors = 0; content = None; calls = 0; faults = 0 }
@@ -59,8 +51,13 @@ changes (event.DeviceFault i device call at what tried) k = k == 5
 abbrev pub after : World → Event → World
 after x e = record x { now = step.after x.setup x.now e }
 
+-- the event may happen
+abbrev pub may : World → Event → Type 0
+may x e = step.enabled x.setup x.now e
+
+-- the same of a seat that the run has
 abbrev pub enabled : World → Event → Type 0
-enabled x e = step.enabled x.setup x.now e
+enabled x e = (number e < seat_count) × may x e
 
 -- the claims of all seats
 abbrev pub IsFlight : Claims → State → Type 0
@@ -79,7 +76,7 @@ module _ {C B : Type 0} (cache_facts : C → DiskFacts) (backing_facts : B → D
     pub inside : b.offset + b.size ≤ (backing_facts b.disk).sectors
 
   abbrev pub IsPart : ℕ → CorePart C B → World → Type 0
-  IsPart k part.Absent x = (k ≢ 1) × (k ≢ 4) × (k ≢ 5)
+  IsPart k part.Absent x = (k ≢ 1) × (k ≢ 5)
   IsPart k (part.Flight f) x = (k ≡ 1) × IsFlight f x.now
   IsPart k (part.Cache c) x = (k ≡ 4) × StandsFor (cache_facts c) x.cache
   IsPart k (part.Backing b) x = (k ≡ 5) × IsBacking b x
@@ -89,23 +86,22 @@ module _ {C B : Type 0} (cache_facts : C → DiskFacts) (backing_facts : B → D
   setup_of (part.Absent ∷ ps) = setup_of ps
   setup_of (part.Flight f ∷ ps) = setup_of ps
   setup_of (part.Cache c ∷ ps) = setup_of ps
-  setup_of (part.Backing b ∷ ps) = record { backing = model_of (backing_facts b.disk); offset = b.offset; size = b.size }
+  setup_of (part.Backing b ∷ ps) = record { backing = settled_model (backing_facts b.disk); offset = b.offset; size = b.size }
 
   abbrev pub cache_of : List (CorePart C B) → DeviceModel
   cache_of [] = no_device
   cache_of (part.Absent ∷ ps) = cache_of ps
   cache_of (part.Flight f ∷ ps) = cache_of ps
-  cache_of (part.Cache c ∷ ps) = model_of (cache_facts c)
+  cache_of (part.Cache c ∷ ps) = settled_model (cache_facts c)
   cache_of (part.Backing b ∷ ps) = cache_of ps
 
   abbrev pub opening : List (CorePart C B) → World
   opening ps = record { setup = setup_of ps; cache = cache_of ps; now = opened (setup_of ps) }
 
-  -- these values stand for the world, as those of the parts from the number k on
-  abbrev pub StandAll : World → ℕ → List (CorePart C B) → Type 0
-  StandAll x k [] = Unit {0}
-  StandAll x k (p ∷ ps) = IsPart k p x × StandAll x (k + 1) ps
+-- the parts of a run over the backing device alone, as it begins
+abbrev pub opening_parts : {C B : Type 0} → Claims → Backing B → List (CorePart C B)
+opening_parts flight backing = part.Absent ∷ part.Flight flight ∷ part.Absent ∷ part.Absent ∷ part.Absent ∷ part.Backing backing ∷ []
 
--- the parts as a run begins
-abbrev pub opening_parts : {C B : Type 0} → Claims → C → Backing B → List (CorePart C B)
-opening_parts flight cache backing = part.Absent ∷ part.Flight flight ∷ part.Absent ∷ part.Absent ∷ part.Cache cache ∷ part.Backing backing ∷ []
+-- the backing device stands at its place among six parts
+abbrev pub HasBacking : {C B : Type 0} → List (CorePart C B) → Backing B → Type 0
+HasBacking {C} {B} ps backing = (a b c d e : CorePart C B) × (ps ≡ a ∷ b ∷ c ∷ d ∷ e ∷ part.Backing backing ∷ [])

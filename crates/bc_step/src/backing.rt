@@ -1,16 +1,17 @@
 //! The steps that call the backing device. A data sector counts from the data offset.
-ghost use Rattle.std.specs.Prelude.{◌≡◌, ◌+◌, ◌*◌, ◌/◌, ◌<◌, ◌≤◌, ◌^◌, [], true, false, None, Some, length, OnOk, IfErr, IfSome};
+ghost use Rattle.std.specs.Prelude.{◌≡◌, ◌+◌, ◌*◌, ◌/◌, ◌<◌, ◌≤◌, ◌^◌, [], ◌∷◌, true, false, None, Some, is_some, length, OnOk, IfErr, IfSome};
 ghost use Rattle.bc_model.specs.Sector.{values_of};
 ghost use Rattle.bc_core.specs.Step.{Covers, IsExclusive, IsOf};
-ghost use Rattle.bc_step.specs.World.{setup_of};
-ghost use Rattle.bc_step.specs.Seats.{IsSeat, Stepped, FaultedOr, AreSectors, note};
+ghost use Rattle.bc_parts.specs.Seat.{SeatView};
+ghost use Rattle.bc_step.specs.World.{World, IsBacking, number, may, setup_of};
+ghost use Rattle.bc_step.specs.Seats.{IsSeat, AtEvent, Committed, Gave, Stepped, FaultedOnly, FaultedOr, AreSectors, is_call, note, world_of};
 ghost use Rattle.bc_core.specs.declared.event.Event.{Event};
 ghost use Rattle.bc_core.specs.declared.event.CallKind.{CallKind};
 ghost use Rattle.bc_core.specs.declared.event.Written.{Written};
 ghost use Rattle.bc_disk.specs.declared.disk.Device.{Device};
 
 use crate::error::StepError;
-use crate::part::{BACKING, CorePart};
+use crate::part::{BACKING, Backing, CorePart};
 use crate::seat::{CoreParts, CoreSeat, commit, give, take};
 use bc_core::event::{CallKind, Event, Line, Written};
 use bc_disk::disk::{Device, Disk};
@@ -18,6 +19,46 @@ use bc_model::values::Values;
 use bc_worker::gate::{Gate, Point};
 use std::alloc::Global;
 use std::sync::Wait;
+
+// A failed call of the backing device. What it was to write may stand on the device or not.
+fn failed_call(seat: u32, call: CallKind, at: u64, what: Option<Written>) -> Event
+    ensures { result ≡ Event.DeviceFault seat Device.Backing call at what (is_some what) }
+{
+    let tried = what.is_some();
+    Event::DeviceFault {
+        seat,
+        device: Device::Backing,
+        call,
+        at,
+        what,
+        tried,
+    }
+}
+
+// Commits the call that was made of the backing device in hand, and gives the device back.
+fn finish<C: Disk + Drop, B: Disk + Drop, R: Wait>(
+    rt: &R,
+    parts: &CoreParts<C, B>,
+    seat: &mut CoreSeat<C, B>,
+    event: Event,
+    backing: Backing<B>,
+)
+    requires run { seat.old.run ≡ parts.now.run }
+    requires seat { IsSeat C.facts B.facts seat.old }
+    requires holds { seat.old.parts ≡ 5 ∷ [] }
+    requires promise { 0 < seat.old.promises }
+    requires number { number event ≡ seat.old.first }
+    requires call { is_call event ≡ true }
+    requires untold { seat.old.told ≡ None }
+    requires may { (x : World) → AtEvent C.facts B.facts seat.old event x → may x event }
+    requires value { (w : SeatView (CorePart C B) Event Device) → Committed C.facts B.facts seat.old event w → IsBacking C.facts B.facts backing (world_of C.facts B.facts w) }
+    ensures { Gave C.facts B.facts seat.old event seat.new }
+{
+    let Ok(()) = commit(rt, parts, seat, event) else {
+        unreachable!()
+    };
+    give(parts, seat, BACKING, CorePart::Backing(backing));
+}
 
 /// Makes a barrier on the backing device.
 pub fn backing_barrier<C: Disk + Drop, B: Disk + Drop, R: Wait>(
@@ -30,7 +71,7 @@ pub fn backing_barrier<C: Disk + Drop, B: Disk + Drop, R: Wait>(
     requires idle { seat.old.parts ≡ [] }
     requires promise { 0 < seat.old.promises }
     ensures ok { OnOk result (Stepped C.facts B.facts seat.old (Event.BackingBarrier seat.old.first) seat.new) }
-    ensures err { IfErr result (λ error. FaultedOr C.facts B.facts error seat.old (Event.DeviceFault seat.old.first Device.Backing CallKind.Barrier 0 None false) seat.new) }
+    ensures err { IfErr result (λ error. FaultedOnly C.facts B.facts error seat.old (Event.DeviceFault seat.old.first Device.Backing CallKind.Barrier 0 None false) seat.new) }
 {
     if let Some(device) = seat.told() {
         return Err(StepError::Halted(device));
@@ -41,40 +82,20 @@ pub fn backing_barrier<C: Disk + Drop, B: Disk + Drop, R: Wait>(
     };
     match backing.disk.barrier() {
         Ok(()) => {
-            let Ok(()) = commit(rt, parts, seat, Event::BackingBarrier { seat: number }) else {
-                unreachable!()
-            };
-            give(parts, seat, BACKING, CorePart::Backing(backing));
+            finish(
+                rt,
+                parts,
+                seat,
+                Event::BackingBarrier { seat: number },
+                backing,
+            );
             Ok(())
         }
         Err(_) => {
-            let event = Event::DeviceFault {
-                seat: number,
-                device: Device::Backing,
-                call: CallKind::Barrier,
-                at: 0,
-                what: None,
-                tried: false,
-            };
-            let Ok(()) = commit(rt, parts, seat, event) else {
-                unreachable!()
-            };
-            give(parts, seat, BACKING, CorePart::Backing(backing));
+            let event = failed_call(number, CallKind::Barrier, 0, None);
+            finish(rt, parts, seat, event, backing);
             Err(StepError::Fault(Device::Backing))
         }
-    }
-}
-
-// The values of bytes that were read: as runs, or as they are where there is no memory for that.
-fn values_in(alloc: Global, first: u64, bytes: Vec<u8>) -> Values
-    requires whole { length bytes.items ≡ 512 * (length bytes.items / 512) }
-    requires few { length bytes.items / 512 < 2 ^ 32 }
-    requires range { first + length bytes.items / 512 ≤ 2 ^ 64 }
-    ensures { result ≡ values_of bytes.items }
-{
-    match Values::from_bytes(alloc, first, &bytes) {
-        Ok(values) => values,
-        Err(_) => Values::from_raw(bytes),
     }
 }
 
@@ -115,31 +136,18 @@ pub fn backing_read<C: Disk + Drop, B: Disk + Drop, R: Wait, G: Gate>(
             let Ok(()) = bytes.extend_from_slice(into) else {
                 unreachable!()
             };
-            let values = values_in(alloc, first, bytes);
+            let values = Values::from_sectors(first, bytes);
             let event = Event::BackingRead {
                 seat: number,
                 first,
                 values,
             };
-            let Ok(()) = commit(rt, parts, seat, event) else {
-                unreachable!()
-            };
-            give(parts, seat, BACKING, CorePart::Backing(backing));
+            finish(rt, parts, seat, event, backing);
             Ok(())
         }
         Err(_) => {
-            let event = Event::DeviceFault {
-                seat: number,
-                device: Device::Backing,
-                call: CallKind::Read,
-                at: 0,
-                what: None,
-                tried: false,
-            };
-            let Ok(()) = commit(rt, parts, seat, event) else {
-                unreachable!()
-            };
-            give(parts, seat, BACKING, CorePart::Backing(backing));
+            let event = failed_call(number, CallKind::Read, 0, None);
+            finish(rt, parts, seat, event, backing);
             Err(StepError::Fault(Device::Backing))
         }
     }
@@ -201,25 +209,13 @@ pub fn backing_write<C: Disk + Drop, B: Disk + Drop, R: Wait>(
                 values,
                 of,
             };
-            let Ok(()) = commit(rt, parts, seat, event) else {
-                unreachable!()
-            };
-            give(parts, seat, BACKING, CorePart::Backing(backing));
+            finish(rt, parts, seat, event, backing);
             Ok(())
         }
         Err(_) => {
-            let event = Event::DeviceFault {
-                seat: number,
-                device: Device::Backing,
-                call: CallKind::Write,
-                at: first,
-                what: Some(Written::Values(values)),
-                tried: true,
-            };
-            let Ok(()) = commit(rt, parts, seat, event) else {
-                unreachable!()
-            };
-            give(parts, seat, BACKING, CorePart::Backing(backing));
+            let what = Some(Written::Values(values));
+            let event = failed_call(number, CallKind::Write, first, what);
+            finish(rt, parts, seat, event, backing);
             Err(StepError::Fault(Device::Backing))
         }
     }

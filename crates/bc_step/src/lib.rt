@@ -8,4 +8,5 @@ pub mod error;
 pub mod laws;
 pub mod machine;
 pub mod part;
+pub mod run;
 pub mod seat;

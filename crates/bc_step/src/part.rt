@@ -24,7 +24,7 @@ pub struct Backing<B> {
 /// One part of the running state. A run has them in the order of their numbers.
 #[derive(Drop)]
 pub enum CorePart<C, B> {
-    /// A part that a run over the backing device alone hasn't.
+    /// A part that the run hasn't: one over the backing device alone has no cache device.
     Absent,
     Flight(Flight),
     Cache(C),

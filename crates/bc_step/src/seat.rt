@@ -2,7 +2,7 @@
 ghost use Rattle.std.specs.Prelude.{◌≡◌, ◌+◌, ◌<◌, ℕ, true, false, [], ◌∷◌, None, IfErr, OnOk, OnErr};
 ghost use Rattle.bc_parts.specs.Seat.{Holds};
 ghost use Rattle.bc_core.specs.Pass.{is_late};
-ghost use Rattle.bc_step.specs.World.{number, changes, enabled, World, IsPart};
+ghost use Rattle.bc_step.specs.World.{number, changes, may, World, IsPart};
 ghost use Rattle.bc_step.specs.Seats.{IsSeat, AtEvent, Committed, Refused, Took, Waited, is_call, part_count, world_of};
 
 use crate::machine::Core;
@@ -52,7 +52,7 @@ pub(crate) fn commit<C: Disk, B: Disk, R: Wait>(
     requires number { number event ≡ seat.old.first }
     requires holds { (k : ℕ) → changes event k ≡ true → Holds seat.old.parts k }
     requires untold { is_call event ≡ true → seat.old.told ≡ None }
-    requires enabled { (x : World) → AtEvent C.facts B.facts seat.old event x → enabled x event }
+    requires enabled { (x : World) → AtEvent C.facts B.facts seat.old event x → may x event }
     ensures ok { OnOk result (Committed C.facts B.facts seat.old event seat.new) }
     ensures err { IfErr result (λ device. Refused C.facts B.facts seat.old device seat.new) }
     ensures soon { OnErr result (is_late event ≡ false) }

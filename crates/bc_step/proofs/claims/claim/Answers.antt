@@ -4,9 +4,15 @@ use Rattle.bc_flight.specs.Claims.{conflicts_any}
 use Rattle.bc_flight.specs.Flight.{IsTaken, claim_of, claim_at}
 use Rattle.bc_flight.proofs.Ordered.{claim_of_new}
 use Rattle.bc_core.specs.declared.event.Event.TheVariants as event
-use Rattle.bc_step.specs.World.{World, enabled, IsPart}
+use Rattle.bc_step.specs.World.{World, may, IsPart}
 use Rattle.bc_step.specs.Seats.{AtEvent, world_of}
 use Rattle.bc_step.proofs.Claiming.{claim_seen, can_claim, kept_claimed, kept_undone, false_if, taken_in}
+use Rattle.bc_disk.specs.declared.disk.Device.{Device}
+use Rattle.bc_core.specs.Pass.{halt_of}
+use Rattle.bc_core.specs.declared.event.Event.{Event}
+use Rattle.bc_parts.specs.Seat.{SeatView}
+use Rattle.bc_step.specs.declared.part.CorePart.{CorePart}
+use Rattle.bc_step.proofs.Stepping.{waited_with}
 use Rattle.bc_step.proofs.claims.claim.Goals as goal
 
 pub try_claim-requires-clause-none : goal.try_claim-requires-clause-none
@@ -22,7 +28,7 @@ commit-requires-clause-enabled g c =
     let flight = subst (λ p. IsPart g.C.Disk.facts g.B.Disk.facts 1 p (world_of g.C.Disk.facts g.B.Disk.facts w)) c.in-Flight.is c.take.ensures.value in
     let free = false_if (conflicts_any (claim_at c.number-number.result c.args.first c.args.count c.args.share) c.in-Flight.flight.claims) (λ e. let not = c.in-Some-try_claim.ensures.refused.1 e in cc) in
     let free2 = subst (λ n. conflicts_any (claim_at n c.args.first c.args.count c.args.share) c.in-Flight.flight.claims ≡ false) c.number-number.ensures.first free in
-    subst (λ n. (x : World) → AtEvent g.C.Disk.facts g.B.Disk.facts w (event.Claim n c.args.first c.args.count c.args.share) x → enabled x (event.Claim n c.args.first c.args.count c.args.share)) (sym c.number-number.ensures.first)
+    subst (λ n. (x : World) → AtEvent g.C.Disk.facts g.B.Disk.facts w (event.Claim n c.args.first c.args.count c.args.share) x → may x (event.Claim n c.args.first c.args.count c.args.share)) (sym c.number-number.ensures.first)
     (λ x at. can_claim g.C.Disk.facts g.B.Disk.facts v w c.in-Flight.flight c.args.first c.args.count c.args.share x c.requires.seat c.take.ensures.seat flight.1 c.requires.none free2 c.requires.range.0 c.requires.inside at)
 
 pub give-requires-in-Ok-clause-value : goal.give-requires-in-Ok-clause-value
@@ -63,3 +69,9 @@ returns-in_default-try_claim-clause-taken g c = λ _.
     let flight = subst (λ p. IsPart g.C.Disk.facts g.B.Disk.facts 1 p (world_of g.C.Disk.facts g.B.Disk.facts c.take.new.seat)) c.in-Flight.is c.take.ensures.value in
     taken_in g.C.Disk.facts g.B.Disk.facts c.take.new.seat c.give.new.seat c.in-Flight.flight (claim_at c.args.seat.now.first c.args.first c.args.count c.args.share) flight.1 c.give.ensures
     (subst (λ n. IsTaken (claim_at n c.args.first c.args.count c.args.share) c.in-Flight.flight.claims) c.number-number.ensures.first c.in_default-try_claim.ensures.taken)
+
+pub returns-in-Err-clause-err : goal.returns-in-Err-clause-err
+returns-in-Err-clause-err g c = (
+  ap (λ (v : SeatView (CorePart _ _) Event Device). halt_of v.seen) c.give-in-Err.ensures ∙ c.in-Err.ensures.err.halted,
+  waited_with g.C.Disk.facts g.B.Disk.facts c.args.seat.now c.take.new.seat c.commit.new.seat c.give-in-Err.new.seat 1 c.in-Err.device c.requires.idle c.take.ensures.seat c.in-Err.ensures.err c.give-in-Err.ensures,
+)
