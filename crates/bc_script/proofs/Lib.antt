@@ -8,3 +8,4 @@ pub mod Printed
 pub mod Texts
 pub mod Grows
 pub mod OneReading
+pub mod Outcomes

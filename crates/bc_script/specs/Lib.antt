@@ -6,3 +6,4 @@ pub mod Runs
 pub mod Answer
 pub mod Served
 pub mod Example
+pub mod Expected

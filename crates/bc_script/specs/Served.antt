@@ -1,11 +1,11 @@
 -- Which answers, and which entries of the history, serve a trace of one worker. A history stands here in the
 -- order of time, its oldest entry first.
-use Rattle.std.specs.Prelude.{◌≡◌, ◌⊎◌, ℕ, suc, ◌+◌, ◌<◌, ◌≤◌, List, [], ◌∷◌, ◌++◌, length, map}
+use Rattle.std.specs.Prelude.{◌≡◌, ◌⊎◌, ℕ, suc, ◌+◌, ◌<◌, ◌≤◌, List, [], ◌∷◌, ◌++◌, map}
 use Rattle.bc_model.specs.Sector.{Value}
 use Rattle.bc_model.specs.Values.{patterns}
-use Rattle.bc_model.specs.Pieces.{Piece, pieces}
+use Rattle.bc_model.specs.Pieces.{Piece, pieces, AreReads, ServedUpTo}
 use Rattle.bc_model.specs.declared.history.Entry.{Entry}
-use Rattle.bc_model.specs.declared.history.Entry.TheVariants.{Write as WriteEntry, Read as ReadEntry, FlushFrom, FlushDone, Tried}
+use Rattle.bc_model.specs.declared.history.Entry.TheVariants.{Write as WriteEntry, FlushFrom, FlushDone, Tried}
 use Rattle.bc_disk.specs.declared.disk.Device.{Device}
 use Rattle.bc_disk.specs.declared.disk.Device.TheVariants.{Cache, Backing}
 use Rattle.bc_script.specs.declared.line.Action.{Action}
@@ -26,16 +26,6 @@ IsOutside size first count = size < first + count
 -- one Write for each of these pieces, with the patterns of the stamp
 abbrev pub writes : ℕ → ℕ → ℕ → List Piece → List Entry
 writes worker number stamp pieces = map (λ p. WriteEntry worker number p.first (patterns stamp p.first p.count)) pieces
-
--- one Read for each of these pieces, with as many values as it has sectors; one behind the other these are the values
-abbrev pub AreReads : ℕ → ℕ → List Piece → List Value → List Entry → Type 0
-AreReads worker number [] values entries = (values ≡ []) × (entries ≡ [])
-AreReads worker number (p ∷ ps) values entries = (own : List Value) × (rest : List Value) × (later : List Entry)
-    × (length own ≡ p.count) × (values ≡ own ++ rest) × (entries ≡ ReadEntry worker number p.first own ∷ later) × AreReads worker number ps rest later
-
--- a range is served up to a piece that is refused: these pieces are served
-abbrev pub ServedUpTo : ℕ → ℕ → List Piece → Piece → Type 0
-ServedUpTo first count served refused = (rest : List Piece) × (pieces first count ≡ served ++ refused ∷ rest)
 
 -- what a failed write of the refused piece may leave: where the backing device failed it may have been tried
 abbrev pub MayTry : Device → ℕ → Piece → List Entry → Type 0

@@ -1,6 +1,9 @@
 //! What the definitions come to: each law is the contract of a function.
-ghost use Rattle.std.specs.Prelude.{◌≡◌, ◌⊎◌, ℕ, suc, ◌∷◌, ◌++◌, [], List, length};
+ghost use Rattle.std.specs.Prelude.{◌≡◌, ◌⊎◌, ℕ, suc, ◌∷◌, ◌++◌, [], List, length, reverse};
 ghost use Rattle.std.specs.List.{flat_map, AllByRecursion};
+ghost use Rattle.bc_model.specs.Sector.{Image};
+ghost use Rattle.bc_model.specs.Pattern.{zeros};
+ghost use Rattle.bc_model.specs.History.{IsLegal};
 ghost use Rattle.bc_model.specs.declared.history.Entry.{Entry};
 ghost use Rattle.bc_script.specs.declared.line.Line.{Line};
 ghost use Rattle.bc_script.specs.declared.answer.Answer.{Answer};
@@ -9,6 +12,7 @@ ghost use Rattle.bc_script.specs.declared.script.ScriptError.{ScriptError};
 ghost use Rattle.bc_script.specs.Trace.{lines_of, ended, HasNoNewline, SpellAll, IsTrace, IsFirstRefused};
 ghost use Rattle.bc_script.specs.Answer.{IsText};
 ghost use Rattle.bc_script.specs.Served.{ServesLine, Served};
+ghost use Rattle.bc_script.specs.Expected.{AllAnswered, answers_of};
 ghost use Rattle.bc_script.specs.Example.{example_lines, example_answers, example_history, unfinished_history};
 
 /// A text spells one line at most.
@@ -52,4 +56,18 @@ pub fn served_grows()
 pub fn served_example()
     ensures meets { Served 64 example_lines example_answers example_history }
     ensures misses { Served 64 example_lines example_answers unfinished_history → ⊥ }
+{}
+
+/// Where nothing failed, a trace that is served with a legal history has one list of answers: that
+/// of its lines and of what the sectors showed before it.
+pub fn one_outcome()
+    ensures { (size : ℕ) (opening : Image) (lines : List Line) (answers : List Answer) (history : List Entry)
+        → Served size lines answers history → IsLegal opening (reverse history)
+        → AllAnswered size lines answers → answers ≡ answers_of size lines opening }
+{}
+
+/// The example's answers are that list, over sectors of zeros.
+pub fn expected_example()
+    ensures answers { answers_of 64 example_lines (λ s. zeros) ≡ example_answers }
+    ensures answered { AllAnswered 64 example_lines example_answers }
 {}

@@ -1,0 +1,10 @@
+pub mod LastKeys
+pub mod Example
+pub mod Shown
+pub mod Edits
+pub mod Cuts
+pub mod Changes
+pub mod SameKeys
+pub mod Found
+pub mod Outcomes
+pub mod Composed

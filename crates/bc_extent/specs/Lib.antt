@@ -1,0 +1,4 @@
+pub mod LastKey
+pub mod Extents
+pub mod Sides
+pub mod Inserts

@@ -1,0 +1,4 @@
+pub mod Devices
+pub mod Entries
+pub mod Images
+pub mod Told

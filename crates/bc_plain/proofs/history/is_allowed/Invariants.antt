@@ -1,0 +1,8 @@
+use Rattle.std.proofs.Common.{◌++◌, reverse, take, IsTrue}
+use Rattle.std.specs.Prelude.{◌↔◌}
+use Rattle.bc_model.specs.History.{AllowedFrom}
+use Rattle.bc_disk.specs.Bytes.{image_of}
+use Rattle.bc_plain.proofs.history.is_allowed.Given as goal
+
+abbrev pub invariant-loop-entry : goal.invariant-loop-entry
+invariant-loop-entry l = IsTrue l.allowed ↔ AllowedFrom l.covered (image_of l.opening) (reverse (take l.entry-index l.later) ++ reverse (take l.covered l.entries)) l.sector l.value

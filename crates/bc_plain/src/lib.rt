@@ -1,0 +1,10 @@
+//! Slow and plain functions whose contracts are the definitions themselves. Tests run them beside
+//! the real program, so that a wrong definition shows as a wrong number.
+#![tactic(auto)]
+
+pub mod device;
+pub mod history;
+mod image;
+mod slot;
+#[cfg(test)]
+mod tests;
