@@ -1,0 +1,201 @@
+-- What the status of a run tells.
+use Rattle.std.proofs.Common.{◌≡◌, ◌⊎◌, inl, inr, ℕ, suc, Bool, true, false, ◌||◌, List, [], ◌∷◌, ◌++◌, Option, Some, None, refl, sym, ap, ◌∙◌, subst, arith}
+use Rattle.std.specs.Prelude.{Result, Ok, Err, All, MatchResult, OnOk, IfErr}
+use Rattle.std.specs.List.{list_any}
+use Rattle.std.specs.Result.{is_err}
+use Rattle.bc_disk.specs.Device.{HasRisen, next_count}
+use Rattle.bc_disk.specs.Disk.{DiskFacts}
+use Rattle.bc_disk.specs.Stream.{StreamFacts}
+use Rattle.bc_model.specs.declared.history.Entry.{Entry}
+use Rattle.bc_core.specs.State.{Setup, opened}
+use Rattle.bc_core.specs.Step.{fold}
+use Rattle.bc_core.specs.declared.event.Event.{Event}
+use Rattle.bc_core.specs.declared.pass.Pass.{Pass}
+use Rattle.bc_script.specs.declared.line.Action.{Action}
+use Rattle.bc_script.specs.declared.line.Action.TheVariants.{Write, Read, Flush}
+use Rattle.bc_script.specs.declared.line.Line.{Line}
+use Rattle.bc_script.specs.declared.answer.Answer.{Answer}
+use Rattle.bc_script.specs.declared.answer.Answer.TheVariants.{Done, Runs, Refused}
+use Rattle.bc_script.specs.declared.answer.Refusal.TheVariants as refusal
+use Rattle.bc_script.specs.Expected.{IsAnswered, AllAnswered}
+use Rattle.bc_script.specs.Served.{ServesAction, ServedFrom, Served}
+use Rattle.bc_output.specs.declared.answers.Printed.{Printed}
+use Rattle.bc_output.specs.declared.put.WriteFault.{WriteFault}
+use Rattle.bc_output.specs.declared.put.WriteFault.TheVariants.{Failed, TookNothing}
+use Rattle.bc_output.specs.Lines.{AreLines, StandForAll, StandsFor, IsCut}
+use Rattle.bc_output.specs.declared.message.Message.{Message}
+use Rattle.bc_output.specs.Put.{Takes, IsWriteFault}
+use Rattle.bc_output.proofs.Standing.{all_whole}
+use Rattle.bc_top.specs.Ended.{says_fault, says_memory, has_failed, lacked_memory, status_of_end, message_of_end, ArePut, IsPutBehind, IsEnd, IsDone, HasStopped}
+use Rattle.bc_top.specs.Run.{HasRun}
+use Rattle.bc_top.specs.Top.{IsRefusal}
+use Rattle.bc_top.specs.declared.closing.Closing.{Closing}
+use Rattle.bc_top.specs.declared.closing.Closing.TheVariants as closing
+use Rattle.bc_top.proofs.Raising.{SomeFailed, next_rises, rises, said_failed, closed_failed}
+
+-- no run ends with another status than these
+abbrev pub IsEndStatus : ℕ → Type 0
+IsEndStatus n = (n ≡ 0) ⊎ (n ≡ 6) ⊎ (n ≡ 8) ⊎ (n ≡ 9)
+
+end_status : (fault : Bool) (how : Closing) (memory cut : Bool) → IsEndStatus (status_of_end fault how memory cut)
+end_status true how memory cut = inr (inl refl)
+end_status false (closing.Failed d) memory cut = inr (inl refl)
+end_status false (closing.Halted d) memory cut = inr (inl refl)
+end_status false closing.Memory true cut = inr (inr (inr refl))
+end_status false closing.Memory false cut = inr (inr (inr refl))
+end_status false closing.Done true cut = inr (inr (inr refl))
+end_status false closing.Done false true = inr (inr (inl refl))
+end_status false closing.Done false false = inl refl
+
+six : (fault : Bool) (how : Closing) (memory cut : Bool) → status_of_end fault how memory cut ≡ 6 → (fault ≡ true) ⊎ (has_failed how ≡ true)
+six true how memory cut is = inl refl
+six false (closing.Failed d) memory cut is = inr refl
+six false (closing.Halted d) memory cut is = inr refl
+six false closing.Memory true cut is = absurd (let no : 9 ≡ 6 = is in omega arith)
+six false closing.Memory false cut is = absurd (let no : 9 ≡ 6 = is in omega arith)
+six false closing.Done true cut is = absurd (let no : 9 ≡ 6 = is in omega arith)
+six false closing.Done false true is = absurd (let no : 8 ≡ 6 = is in omega arith)
+six false closing.Done false false is = absurd (let no : 0 ≡ 6 = is in omega arith)
+
+eight : (fault : Bool) (how : Closing) (memory cut : Bool) → status_of_end fault how memory cut ≡ 8 → cut ≡ true
+eight true how memory cut is = absurd (let no : 6 ≡ 8 = is in omega arith)
+eight false (closing.Failed d) memory cut is = absurd (let no : 6 ≡ 8 = is in omega arith)
+eight false (closing.Halted d) memory cut is = absurd (let no : 6 ≡ 8 = is in omega arith)
+eight false closing.Memory true cut is = absurd (let no : 9 ≡ 8 = is in omega arith)
+eight false closing.Memory false cut is = absurd (let no : 9 ≡ 8 = is in omega arith)
+eight false closing.Done true cut is = absurd (let no : 9 ≡ 8 = is in omega arith)
+eight false closing.Done false true is = refl
+eight false closing.Done false false is = absurd (let no : 0 ≡ 8 = is in omega arith)
+
+none : (fault : Bool) (how : Closing) (memory cut : Bool) → status_of_end fault how memory cut ≡ 0 → (fault ≡ false) × (how ≡ closing.Done) × (memory ≡ false) × (cut ≡ false)
+none true how memory cut is = absurd (let no : 6 ≡ 0 = is in omega arith)
+none false (closing.Failed d) memory cut is = absurd (let no : 6 ≡ 0 = is in omega arith)
+none false (closing.Halted d) memory cut is = absurd (let no : 6 ≡ 0 = is in omega arith)
+none false closing.Memory true cut is = absurd (let no : 9 ≡ 0 = is in omega arith)
+none false closing.Memory false cut is = absurd (let no : 9 ≡ 0 = is in omega arith)
+none false closing.Done true cut is = absurd (let no : 9 ≡ 0 = is in omega arith)
+none false closing.Done false true is = absurd (let no : 8 ≡ 0 = is in omega arith)
+none false closing.Done false false is = (refl, refl, refl, refl)
+
+-- a line that says neither fault nor memory was answered others it should be
+answered : (size worker number : ℕ) (action : Action) (answer : Answer) (own : List Entry) → ServesAction size worker number action answer own → says_fault answer ≡ false → says_memory answer ≡ false → IsAnswered size action answer
+answered size worker number (Write first count stamp) Done own serves f m = inl (serves.0, refl)
+answered size worker number (Write first count stamp) (Runs at values) own serves f m = absurd serves
+answered size worker number (Write first count stamp) (Refused refusal.OutOfRange) own serves f m = inr (serves.0, refl)
+answered size worker number (Read first count) Done own serves f m = absurd serves
+answered size worker number (Read first count) (Runs at values) own serves f m = inl (serves.0, (values, ap (λ n. Runs n values) serves.1))
+answered size worker number (Read first count) (Refused refusal.OutOfRange) own serves f m = inr (serves.0, refl)
+answered size worker number Flush Done own serves f m = refl
+answered size worker number Flush (Runs at values) own serves f m = absurd serves
+answered size worker number Flush (Refused refusal.OutOfRange) own serves f m = absurd serves
+answered size worker number action (Refused (refusal.Fault d)) own serves f m = absurd (cc)
+answered size worker number action (Refused (refusal.Halted d)) own serves f m = absurd (cc)
+answered size worker number action (Refused refusal.Memory) own serves f m = absurd (cc)
+
+neither : (a b : Bool) → (a || b) ≡ false → (a ≡ false) × (b ≡ false)
+neither true b is = absurd (cc)
+neither false b is = (refl, is)
+
+all_answered : (size number : ℕ) (lines : List Line) (answers : List Answer) (history : List Entry) → ServedFrom size number lines answers history → list_any says_fault answers ≡ false → list_any says_memory answers ≡ false → AllAnswered size lines answers
+all_answered size number [] [] history served f m = tt
+all_answered size number [] (a ∷ others) history served f m = absurd served
+all_answered size number (l ∷ ls) [] history served f m = absurd served
+all_answered size number (l ∷ ls) (a ∷ others) history served f m =
+    let fs = neither (says_fault a) (list_any says_fault others) f in
+    let ms = neither (says_memory a) (list_any says_memory others) m in (
+      answered size l.worker number l.action a served.0 served.3 fs.0 ms.0,
+      all_answered size (suc number) ls others served.1 served.4 fs.1 ms.1,
+    )
+
+-- the sink behind whole lines, where no message follows
+none_behind : (put : Result (Unit {0}) WriteFault) (old new : StreamFacts) → IsPutBehind put None old new → new ≡ old
+none_behind (Ok u) old new h = h
+none_behind (Err cause) old new h = h
+
+-- what a sink that cut the lines short did
+cut_stops : (missed : Bool) (cause : WriteFault) (answers : List Answer) (old new : StreamFacts) → IsCut missed cause answers old new → HasStopped old new
+cut_stops missed Failed answers old new cut =
+    let last = cut.fault.last in
+    let same : last.0.faults ≡ old.faults = last.1.faults ∙ cut.taken.faults in
+    inl (subst (HasRisen old.faults) (ap (λ n. next_count n) (sym same) ∙ sym last.2.1.1) (next_rises old.faults))
+cut_stops missed TookNothing answers old new cut = inr (cut.line, cut.between, cut.fault)
+
+stops : (printed : Printed) (put : Result (Unit {0}) WriteFault) (answers : List Answer) (old between new : StreamFacts) (m : Option Message)
+    → MatchResult put (λ _. (text : List ℕ) × StandForAll printed.memory_missed answers text × Takes text old between) (λ cause. IsCut printed.memory_missed cause answers old between)
+    → IsPutBehind put m between new → is_err put ≡ true → HasStopped old new
+stops printed (Ok u) answers old between new m cut behind is = absurd (cc)
+stops printed (Err cause) answers old between new m cut behind is = subst (HasStopped old) (sym behind) (cut_stops printed.memory_missed cause answers old between cut)
+
+-- where they were put whole, with memory for each and no message
+whole : (printed : Printed) (put : Result (Unit {0}) WriteFault) (answers : List Answer) (old between new : StreamFacts) → printed.memory_missed ≡ false
+    → MatchResult put (λ _. (text : List ℕ) × StandForAll printed.memory_missed answers text × Takes text old between) (λ cause. IsCut printed.memory_missed cause answers old between)
+    → IsPutBehind put None between new → is_err put ≡ false → (text : List ℕ) × AreLines answers text × Takes text old new
+whole printed (Ok u) answers old between new found put behind is = (put.0, all_whole answers put.0 (subst (λ b. StandForAll b answers put.0) found put.1), subst (Takes put.0 old) (sym behind) put.2)
+whole printed (Err cause) answers old between new found put behind is = absurd (cc)
+
+-- how the lines were put
+pub are_put : (printed : Printed) (answers : List Answer) (old new : StreamFacts) → OnOk printed.put ((text : List ℕ) × StandForAll printed.memory_missed answers text × Takes text old new)
+    → IfErr printed.put (λ cause. IsCut printed.memory_missed cause answers old new) → ArePut printed answers old new
+are_put printed answers old new = by printed.put
+  where
+    by : (put : Result (Unit {0}) WriteFault) → OnOk put ((text : List ℕ) × StandForAll printed.memory_missed answers text × Takes text old new) → IfErr put (λ cause. IsCut printed.memory_missed cause answers old new)
+        → MatchResult put (λ _. (text : List ℕ) × StandForAll printed.memory_missed answers text × Takes text old new) (λ cause. IsCut printed.memory_missed cause answers old new)
+    by (Ok u) ok err = ok
+    by (Err cause) ok err = err
+
+module _ (status : ℕ) (answers : List Answer) (how : Closing) (old new : StreamFacts) (end : IsEnd status answers how old new) where
+
+  pub known : IsEndStatus status
+  known = subst IsEndStatus (sym end.ends) (end_status (list_any says_fault answers) how (list_any says_memory answers || end.printed.memory_missed) (is_err end.printed.put))
+
+  -- it isn't a refusal of what was handed in, nor a failed source
+  pub ended_otherwise : IsRefusal status → ⊥
+  ended_otherwise refused = apart known refused
+    where
+      apart : IsEndStatus status → IsRefusal status → ⊥
+      apart (inl a) (inl b) = omega arith
+      apart (inl a) (inr (inl b)) = omega arith
+      apart (inl a) (inr (inr b)) = omega arith
+      apart (inr (inl a)) (inl b) = omega arith
+      apart (inr (inl a)) (inr (inl b)) = omega arith
+      apart (inr (inl a)) (inr (inr b)) = omega arith
+      apart (inr (inr (inl a))) (inl b) = omega arith
+      apart (inr (inr (inl a))) (inr (inl b)) = omega arith
+      apart (inr (inr (inl a))) (inr (inr b)) = omega arith
+      apart (inr (inr (inr a))) (inl b) = omega arith
+      apart (inr (inr (inr a))) (inr (inl b)) = omega arith
+      apart (inr (inr (inr a))) (inr (inr b)) = omega arith
+
+  pub sink_stopped : status ≡ 8 → HasStopped old new
+  sink_stopped is = stops end.printed end.printed.put answers old end.between new _ end.lines end.message (eight _ how _ _ (sym end.ends ∙ is))
+
+  -- with neither a failed device nor a sink that stopped, all was done or memory was missed
+  pub only_done : (status ≡ 6 → ⊥) → (HasStopped old new → ⊥) → (status ≡ 0) ⊎ (status ≡ 9)
+  only_done device takes = left known
+    where
+      left : IsEndStatus status → (status ≡ 0) ⊎ (status ≡ 9)
+      left (inl zero) = inl zero
+      left (inr (inl six)) = absurd (device six)
+      left (inr (inr (inl eight))) = absurd (takes (sink_stopped eight))
+      left (inr (inr (inr nine))) = inr nine
+
+  pub done : (size : ℕ) (lines : List Line) (history : List Entry) → Served size lines answers history → status ≡ 0 → IsDone size lines answers old new
+  done size lines history served is =
+      let ends = none (list_any says_fault answers) how (list_any says_memory answers || end.printed.memory_missed) (is_err end.printed.put) (sym end.ends ∙ is) in
+      let found = neither (list_any says_memory answers) end.printed.memory_missed ends.2 in
+      let no_message : message_of_end (list_any says_fault answers) how (list_any says_memory answers || end.printed.memory_missed) ≡ None = ap (λ (h : Closing). message_of_end (list_any says_fault answers) h (list_any says_memory answers || end.printed.memory_missed)) ends.1 in
+      let text = whole end.printed end.printed.put answers old end.between new found.1 end.lines (subst (λ (m : Option Message). IsPutBehind end.printed.put m end.between new) no_message end.message) ends.3 in
+      record { answered = all_answered size 1 lines answers history served ends.0 found.0; text = text.0; are_lines = text.1; taken = text.2 }
+
+  pub closed_whole : status ≡ 0 → how ≡ closing.Done
+  closed_whole is = (none _ how _ _ (sym end.ends ∙ is)).1
+
+  -- the device failed in this run
+  pub device_failed : (setup : Setup) (lines : List Line) (events : List Event) (pass : Pass) (after : DiskFacts) → HasRun setup lines answers how events pass after → status ≡ 6 → HasRisen setup.backing.faults after.faults
+  device_failed setup lines events pass after run is =
+      let some = failed (six (list_any says_fault answers) how (list_any says_memory answers || end.printed.memory_missed) (is_err end.printed.put) (sym end.ends ∙ is)) in
+      subst (HasRisen setup.backing.faults) (sym run.device.faults) (rises setup (opened setup) events some.0 some.1)
+    where
+      failed : (list_any says_fault answers ≡ true) ⊎ (has_failed how ≡ true) → SomeFailed events
+      failed (inl said) = said_failed events answers run.caused said
+      failed (inr closed) = closed_failed events run.closed.0 run.closed.1 how 0 run.closed.2 run.closed.3 closed
