@@ -1,14 +1,15 @@
 -- What is put for answers, one line behind the other.
-use Rattle.std.proofs.Common.{◌≡◌, ℕ, ◌+◌, ◌<◌, ◌≤◌, Bool, true, false, List, [], ◌∷◌, ◌++◌, length, get_or, take, drop, Result, Ok, Err, refl, sym, ap, ◌∙◌, subst, append_assoc, append-nil}
-use Rattle.std.specs.Prelude.{◌||◌, IfErr, MatchResult}
+use Rattle.std.proofs.Common.{◌≡◌, ℕ, ◌+◌, ◌<◌, ◌≤◌, Bool, true, false, List, [], ◌∷◌, ◌++◌, length, get_or, take, drop, Result, Ok, Err, refl, sym, ap, ◌∙◌, subst, append_assoc, append-nil, arith}
+use Rattle.std.specs.Prelude.{◌||◌, OnOk, IfErr, MatchResult}
 use Rattle.std.specs.Bool.{OnFalse}
 use Rattle.std.specs.Result.{is_err}
+use Rattle.std.proofs.Math.Seq.{take-add}
 use Rattle.std.proofs.lemmas.List.{take_more, take_all, take-append-drop}
 use Rattle.bc_disk.specs.Stream.{StreamFacts}
 use Rattle.bc_script.specs.declared.answer.Answer.{Answer}
 use Rattle.bc_output.specs.declared.put.WriteFault.{WriteFault}
 use Rattle.bc_output.specs.Put.{Takes, IsWriteFault}
-use Rattle.bc_output.specs.Lines.{AreLines, StandsFor, StandForAll, IsCut}
+use Rattle.bc_output.specs.Lines.{IsLineOf, AreLines, StandsFor, StandForAll, IsCut, memory_line}
 use Rattle.bc_output.proofs.Taken.{takes_more}
 
 or_none : (b : Bool) → b ≡ (b || false)
@@ -59,35 +60,67 @@ AreTaken missed answers old new = (text : List ℕ) × StandForAll missed answer
 abbrev pub IsPutLine : Result (Unit {0}) WriteFault → List ℕ → StreamFacts → StreamFacts → Type 0
 IsPutLine put line old new = MatchResult put (λ _. Takes line old new) (λ cause. IsWriteFault cause line old new)
 
-next_answer : (answers : List Answer) (i : ℕ) (answer : Answer) → i < length answers → answer ≡ get_or answers i answer → take (i + 1) answers ≡ take i answers ++ answer ∷ []
-next_answer answers i answer inside is = take_more answers i answer inside ∙ ap (λ (a : Answer). take i answers ++ a ∷ []) (sym is)
+-- what holds of an answer that isn't an error
+pub on_ok : {E : Type 0} {P : Type 0} (r : Result (Unit {0}) E) → is_err r ≡ false → OnOk r P → P
+on_ok (Ok u) good h = h
+on_ok (Err e) good h = absurd (cc)
 
--- the line of the next answer was put
-pub taken_more : (missed here : Bool) (put : Result (Unit {0}) WriteFault) (answers : List Answer) (i : ℕ) (answer : Answer) (line : List ℕ) (f g h : StreamFacts)
-    → i < length answers → answer ≡ get_or answers i answer → AreTaken missed (take i answers) f g → StandsFor here answer line → IsPutLine put line g h → is_err put ≡ false
-    → AreTaken (missed || here) (take (i + 1) answers) f h
-taken_more missed here (Ok _) answers i answer line f g h inside is before stands took good =
-    let P : List Answer → Type 0 = λ these. StandForAll (missed || here) these (before.0 ++ line) in
-    (before.0 ++ line, subst P (sym (next_answer answers i answer inside is)) (one_more missed here (take i answers) answer before.0 line before.1 stands), takes_more before.0 line f g h before.2 took)
-taken_more missed here (Err cause) answers i answer line f g h inside is before stands took good = absurd (cc)
+-- what became of a text that was put
+pub put_line : (put : Result (Unit {0}) WriteFault) (line : List ℕ) (f g : StreamFacts) → OnOk put (Takes line f g) → IfErr put (λ cause. IsWriteFault cause line f g) → MatchResult put (λ _. Takes line f g) (λ cause. IsWriteFault cause line f g)
+put_line (Ok u) line f g ok err = ok
+put_line (Err cause) line f g ok err = err
 
-parts : (answers : List Answer) (i : ℕ) (answer : Answer) → i < length answers → answer ≡ get_or answers i answer → answers ≡ take i answers ++ answer ∷ drop (i + 1) answers
-parts answers i answer inside is =
-    sym (take-append-drop (i + 1) answers) ∙ ap (λ (front : List Answer). front ++ drop (i + 1) answers) (next_answer answers i answer inside is)
-    ∙ append_assoc (take i answers) (answer ∷ []) (drop (i + 1) answers)
+-- more answers behind others
+pub many_more : (missed here : Bool) (answers others : List Answer) (text lines : List ℕ) → StandForAll missed answers text → StandForAll here others lines → StandForAll (missed || here) (answers ++ others) (text ++ lines)
+many_more missed here [] others text lines all behind =
+    subst (λ b. StandForAll b others (text ++ lines)) (ap (λ b. b || here) (sym all.0)) (subst (λ (t : List ℕ). StandForAll here others (t ++ lines)) (sym all.1) behind)
+many_more missed here (first ∷ answers) others text lines all behind = (
+  all.0,
+  all.1 || here,
+  all.2,
+  all.3 ++ lines,
+  all.4,
+  many_more all.1 here answers others all.3 lines all.5 behind,
+  ap (λ b. b || here) all.6 ∙ or_assoc all.0 all.1 here,
+  ap (λ (t : List ℕ). t ++ lines) all.7 ∙ append_assoc all.2 all.3 lines,
+)
 
--- or a write fault came in it
-pub cut_here : (missed here : Bool) (put : Result (Unit {0}) WriteFault) (answers : List Answer) (i : ℕ) (answer : Answer) (line : List ℕ) (f g h : StreamFacts)
-    → i < length answers → answer ≡ get_or answers i answer → AreTaken missed (take i answers) f g → StandsFor here answer line → IsPutLine put line g h
+-- the line of one more answer
+pub line_more : (answers : List Answer) (i : ℕ) (answer : Answer) (text line : List ℕ) → i < length answers → answer ≡ get_or answers i answer → StandForAll false (take i answers) text → IsLineOf answer line
+    → StandForAll false (take (i + 1) answers) (text ++ line)
+line_more answers i answer text line inside is all one =
+    subst (λ (these : List Answer). StandForAll false these (text ++ line)) (sym (take_more answers i answer inside ∙ ap (λ (a : Answer). take i answers ++ a ∷ []) (sym is))) (one_more false false (take i answers) answer text line all one)
+
+-- no memory for the first
+pub memory_first : (answers : List Answer) → 0 < length answers → StandForAll true (take 1 answers) memory_line
+memory_first [] some = absurd (omega arith)
+memory_first (answer ∷ answers) some = (true, false, memory_line, [], refl, (refl, refl), refl, sym (append-nil memory_line))
+
+-- so many of those behind a place
+next_ones : (answers : List Answer) (i n : ℕ) → take (i + n) answers ≡ take i answers ++ take n (drop i answers)
+next_ones answers i n = take-add i n answers
+
+-- the lines of the next answers were put
+pub taken_more : (missed here : Bool) (put : Result (Unit {0}) WriteFault) (answers : List Answer) (i n : ℕ) (lines : List ℕ) (f g h : StreamFacts)
+    → AreTaken missed (take i answers) f g → StandForAll here (take n (drop i answers)) lines → IsPutLine put lines g h → is_err put ≡ false
+    → AreTaken (missed || here) (take (i + n) answers) f h
+taken_more missed here (Ok _) answers i n lines f g h before stands took good =
+    let P : List Answer → Type 0 = λ these. StandForAll (missed || here) these (before.0 ++ lines) in
+    (before.0 ++ lines, subst P (sym (next_ones answers i n)) (many_more missed here (take i answers) (take n (drop i answers)) before.0 lines before.1 stands), takes_more before.0 lines f g h before.2 took)
+taken_more missed here (Err cause) answers i n lines f g h before stands took good = absurd (cc)
+
+-- or a write fault came in them
+pub cut_here : (missed here : Bool) (put : Result (Unit {0}) WriteFault) (answers : List Answer) (i n : ℕ) (lines : List ℕ) (f g h : StreamFacts)
+    → AreTaken missed (take i answers) f g → StandForAll here (take n (drop i answers)) lines → IsPutLine put lines g h
     → IfErr put (λ cause. IsCut (missed || here) cause answers f h)
-cut_here missed here (Ok _) answers i answer line f g h inside is before stands took = tt
-cut_here missed here (Err cause) answers i answer line f g h inside is before stands took = record {
+cut_here missed here (Ok _) answers i n lines f g h before stands took = tt
+cut_here missed here (Err cause) answers i n lines f g h before stands took = record {
   first = take i answers;
-  next = answer;
-  others = drop (i + 1) answers;
-  split = parts answers i answer inside is;
+  next = take n (drop i answers);
+  others = drop n (drop i answers);
+  split = sym (take-append-drop i answers) ∙ ap (λ (l : List Answer). take i answers ++ l) (sym (take-append-drop n (drop i answers)));
   text = before.0;
-  line = line;
+  line = lines;
   before = missed;
   here = here;
   lines = before.1;

@@ -19,7 +19,7 @@ pub takes_more : (xs ys : List ℕ) (f g h : StreamFacts) → Takes xs f g → T
 takes_more xs ys f g h p q = record { text = more xs ys f.text g.text h.text p.text q.text; faults = q.faults ∙ p.faults }
 
 -- all that is behind a place
-to_end : (n : ℕ) (text : List ℕ) → take (length text - n) (drop n text) ≡ drop n text
+pub to_end : {A : Type 0} (n : ℕ) (text : List A) → take (length text - n) (drop n text) ≡ drop n text
 to_end n text = take_all (length text - n) (drop n text) (omega (arith, length-drop n text))
 
 -- the front of the text was taken, and then more of it

@@ -31,20 +31,20 @@ StandForAll missed [] text = (missed ≡ false) × (text ≡ [])
 StandForAll missed (answer ∷ answers) text = (here behind : Bool) × (line rest : List ℕ)
     × StandsFor here answer line × StandForAll behind answers rest × (missed ≡ here || behind) × (text ≡ line ++ rest)
 
--- the lines of the first answers were taken whole, and a write fault came in what was put for the next one
+-- the lines of the first answers were taken whole, and a write fault came in what was put for the next ones
 pub record IsCut (missed : Bool) (cause : WriteFault) (answers : List Answer) (old new : StreamFacts) : Type 0 where
   pub first : List Answer
-  pub next : Answer
+  pub next : List Answer
   pub others : List Answer
-  pub split : answers ≡ first ++ next ∷ others
-  -- what was put for the first ones, and what for the next one
+  pub split : answers ≡ first ++ (next ++ others)
+  -- what was put for the first ones, and what for the next ones
   pub text : List ℕ
   pub line : List ℕ
-  -- whether no memory was found for one of the first ones, and for the next one
+  -- whether no memory was found for one of the first ones, and for one of the next ones
   pub before : Bool
   pub here : Bool
   pub lines : StandForAll before first text
-  pub stands : StandsFor here next line
+  pub stands : StandForAll here next line
   pub either : missed ≡ before || here
   pub between : StreamFacts
   pub taken : Takes text old between

@@ -1,10 +1,10 @@
 //! Puts the lines of answers to a sink.
-ghost use Rattle.std.specs.Prelude.{◌≡◌, List, ℕ, All, Err, OnOk, IfErr, MatchResult};
+ghost use Rattle.std.specs.Prelude.{◌≡◌, ◌<◌, ◌≤◌, ◌++◌, List, ℕ, All, Err, OnOk, OnErr, IfErr, MatchResult, false, length, take};
 ghost use Rattle.std.specs.Bool.{OnFalse};
 ghost use Rattle.bc_disk.specs.Device.{HasRisen};
 ghost use Rattle.bc_script.specs.Answer.{IsPrintable};
 ghost use Rattle.bc_output.specs.Put.{Takes, IsWriteFault};
-ghost use Rattle.bc_output.specs.Lines.{IsLineOf, AreLines, StandsFor, StandForAll, IsCut};
+ghost use Rattle.bc_output.specs.Lines.{IsLineOf, AreLines, StandForAll, IsCut};
 
 use crate::put::{WriteFault, put_all};
 use bc_disk::stream::Sink;
@@ -21,42 +21,85 @@ pub struct Printed {
     pub put: Result<(), WriteFault>,
 }
 
-// Prints the line of an answer in place of these bytes, which are of no use after an error.
-fn print_line(answer: &Answer, line: &mut Vec<u8>) -> Result<(), AllocError>
+// How many of the answers were put at once.
+#[derive(Drop)]
+struct Batch {
+    count: usize,
+    printed: Printed,
+}
+
+// The lines of answers are gathered up to at least so many bytes before they are put.
+const GATHERED: usize = 4096;
+
+// Prints the line of an answer behind these bytes, which stay as they were where there is no memory.
+fn print_line(answer: &Answer, lines: &mut Vec<u8>) -> Result<(), AllocError>
     requires { IsPrintable answer.now }
-    ensures { OnOk result (IsLineOf answer.now line.new.items) }
+    ensures ok { OnOk result ((line : List ℕ) × IsLineOf answer.now line × (lines.new.items ≡ lines.old.items ++ line)) }
+    ensures err { OnErr result (lines.new.items ≡ lines.old.items) }
 {
-    line.clear();
-    print_answer(answer, line)?;
-    line.push(b'\n')?;
+    let before = lines.len();
+    print_answer(answer, lines)?;
+    if lines.push(b'\n').is_err() {
+        lines.truncate(before);
+        return Err(AllocError);
+    }
     Ok(())
 }
 
-// Puts the line of an answer, which is printed in place of these bytes, or `memory`.
-fn put_answer<K: Sink>(answer: &Answer, line: &mut Vec<u8>, out: &mut K) -> Printed
-    requires { IsPrintable answer.now }
-    ensures put { (text : List ℕ) × StandsFor result.memory_missed answer.now text
-        × MatchResult result.put
+// Prints the lines of the first answers in place of these bytes, and answers how many: none only where
+// there are none, or no memory was found for the first.
+fn gather(answers: &[Answer], lines: &mut Vec<u8>) -> usize
+    requires { All IsPrintable answers.now }
+    ensures count { result ≤ length answers.now }
+    ensures lines { StandForAll false (take result answers.now) lines.new.items }
+{
+    lines.clear();
+    let mut count = 0;
+    while count < answers.len() && lines.len() < GATHERED {
+        if print_line(&answers[count], lines).is_err() {
+            return count;
+        }
+        count += 1;
+    }
+    count
+}
+
+// Puts the lines of the first answers, one at least, which are printed in place of these bytes; or
+// `memory` for the first.
+fn put_some<K: Sink>(answers: &[Answer], lines: &mut Vec<u8>, out: &mut K) -> Batch
+    requires printable { All IsPrintable answers.now }
+    requires some { 0 < length answers.now }
+    ensures count { (0 < result.count) × (result.count ≤ length answers.now) }
+    ensures put { (text : List ℕ) × StandForAll result.printed.memory_missed (take result.count answers.now) text
+        × MatchResult result.printed.put
         (λ _. Takes text (K.facts out.old) (K.facts out.new))
         (λ cause. IsWriteFault cause text (K.facts out.old) (K.facts out.new)) }
-    ensures risen { result.put ≡ Err WriteFault.Failed →
+    ensures risen { result.printed.put ≡ Err WriteFault.Failed →
         HasRisen (K.facts out.old).faults (K.facts out.new).faults }
 {
-    match print_line(answer, line) {
-        Ok(()) => Printed {
-            memory_missed: false,
-            put: put_all(out, line),
-        },
-        Err(AllocError) => Printed {
-            memory_missed: true,
-            put: put_all(out, b"memory\n"),
-        },
+    let count = gather(answers, lines);
+    if count == 0 {
+        Batch {
+            count: 1,
+            printed: Printed {
+                memory_missed: true,
+                put: put_all(out, b"memory\n"),
+            },
+        }
+    } else {
+        Batch {
+            count,
+            printed: Printed {
+                memory_missed: false,
+                put: put_all(out, lines),
+            },
+        }
     }
 }
 
 /// Puts the line of each answer in order: its text and a newline. Where no memory is found for a
-/// text its line is `memory`. The first write fault ends this; the lines before it were then taken
-/// whole, and of that line less than the whole.
+/// text its line is `memory`. Lines are put some at a time; the first write fault ends this, and the
+/// sink has then taken less than all lines up to there.
 pub fn put_answers<K: Sink>(alloc: Global, answers: &[Answer], out: &mut K) -> Printed
     requires { All IsPrintable answers.now }
 
@@ -72,17 +115,19 @@ pub fn put_answers<K: Sink>(alloc: Global, answers: &[Answer], out: &mut K) -> P
     ensures risen { result.put ≡ Err WriteFault.Failed →
         HasRisen (K.facts out.old).faults (K.facts out.new).faults }
 {
-    let mut line = Vec::new(alloc);
+    let mut lines = Vec::new(alloc);
     let mut memory_missed = false;
-    for answer in answers {
-        let printed = put_answer(answer, &mut line, out);
-        memory_missed |= printed.memory_missed;
-        if printed.put.is_err() {
+    let mut next = 0;
+    while next < answers.len() {
+        let some = put_some(&answers[next..], &mut lines, out);
+        memory_missed |= some.printed.memory_missed;
+        if some.printed.put.is_err() {
             return Printed {
                 memory_missed,
-                put: printed.put,
+                put: some.printed.put,
             };
         }
+        next += some.count;
     }
     Printed {
         memory_missed,

@@ -1,4 +1,6 @@
+ghost use Rattle.std.specs.Prelude.{All, IfOk};
 ghost use Rattle.bc_disk.specs.Text.{facts_of_taken};
+ghost use Rattle.bc_script.specs.Answer.{IsPrintable};
 
 use crate::answers::put_answers;
 use crate::message::{Message, Origin, print_message};
@@ -64,18 +66,17 @@ fn answers_are_put(rt: HostRuntime) -> Result<(), Fail> {
     ];
     let text = b"done\nhalted backing\n7x2\nout-of-range\n";
     let cases = [
-        (99, 5, Ok(()), 37),
-        (99, 3, Err(WriteFault::Failed), 20),
-        (22, 9, Err(WriteFault::TookNothing), 22),
+        (99, 38, Ok(()), 37),
+        (99, 21, Err(WriteFault::Failed), 20),
+        (22, 99, Err(WriteFault::TookNothing), 22),
     ];
     for (room, failing, put, taken) in cases {
-        let mut out = MemSink::new(rt.alloc(), room)?;
-        out.fail(failing)?;
+        let mut out = slow_sink(rt.alloc(), room, failing)?;
         let printed = put_answers(rt.alloc(), &answers, &mut out);
         assert_eq!(rt; printed.put, put);
         assert!(rt; !printed.memory_missed);
         assert!(rt; taken <= text.len());
-        assert_eq!(rt; *out.bytes(), text[..taken]);
+        assert_eq!(rt; *out.sink.bytes(), text[..taken]);
     }
     Ok(())
 }
@@ -112,4 +113,32 @@ fn messages_are_printed(rt: HostRuntime) {
     for (message, text) in cases {
         assert_eq!(rt; *print_message(message).as_bytes(), *text);
     }
+}
+
+// 1,000 answers, of five bytes each with the newline.
+fn many_answers(alloc: Global) -> Result<Vec<Answer>, AllocError>
+    ensures { IfOk result (λ answers. All IsPrintable answers.items) }
+{
+    let mut answers = Vec::new(alloc);
+    let mut count = 0u32;
+    while count < 1000 {
+        answers.push(Answer::Done)?;
+        count += 1;
+    }
+    Ok(answers)
+}
+
+#[test]
+fn lines_are_gathered(rt: HostRuntime) -> Result<(), Fail> {
+    let answers = many_answers(rt.alloc())?;
+    // 820 lines of five bytes are the first that make 4,096 bytes.
+    for (failing, put, taken) in [(3, Ok(()), 5000), (2, Err(WriteFault::Failed), 4100)] {
+        let mut out = MemSink::new(rt.alloc(), 6000)?;
+        out.fail(failing)?;
+        let printed = put_answers(rt.alloc(), &answers, &mut out);
+        assert_eq!(rt; printed.put, put);
+        assert_eq!(rt; out.bytes().len(), taken);
+        assert_eq!(rt; out.calls(), 2);
+    }
+    Ok(())
 }
