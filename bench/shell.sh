@@ -1,0 +1,116 @@
+#!/usr/bin/env bash
+# Tries the built program at the shell with what it has to refuse, and compares what it prints, its status, and both files
+# before and after: none of these runs may change a byte. It prints `ok`, or a line for each case that differs, and then ends
+# with status 1.
+set -euo pipefail
+cd "$(dirname "$0")/.."
+bcache=$(bench/program.sh)
+make_image=$PWD/bench/image.sh
+
+folder=$(mktemp -d)
+trap 'rm -rf "$folder"' EXIT
+cd "$folder"
+mkdir a_folder
+memory=unlimited
+through=()
+cases=0
+differing=0
+
+# new_files SECTORS makes both files anew: an empty cache file, and a backing device of so many sectors.
+new_files() {
+    : > cache.img
+    "$make_image" backing.img "$1"
+}
+
+# change BYTE ESCAPES changes the backing device's superblock at this place.
+change() {
+    printf '%b' "$2" | dd of=backing.img bs=1 seek=$((8 * 512 + $1)) conv=notrunc status=none
+}
+
+# try_from INPUT OUTPUT NAME STATUS PRINTED WORD.. runs the program with these words between these files, started by the
+# command in `through` where there is one, and with at most so many kilobytes of memory as `memory` says.
+try_from() {
+    local input=$1 output=$2 name=$3 status=$4 wanted=$5 before ended=0 differs=
+    shift 5
+    before=$(sha256sum cache.img backing.img)
+    (ulimit -v "$memory" && exec "${through[@]}" "$bcache" "$@") < "$input" > "$output" 2>&1 || ended=$?
+    [ "$ended" = "$status" ] || differs+=" status $ended and not $status;"
+    [ "$output" != printed ] || [ "$(cat printed)" = "$wanted" ] || differs+=" printed '$(cat printed)' and not '$wanted';"
+    [ "$(sha256sum cache.img backing.img)" = "$before" ] || differs+=" a file was changed;"
+    cases=$((cases + 1))
+    if [ -n "$differs" ]; then
+        echo "$name:$differs"
+        differing=$((differing + 1))
+    fi
+}
+
+# try_words NAME STATUS PRINTED WORD.. runs it on an empty trace.
+try_words() {
+    : > trace
+    try_from trace printed "$@"
+}
+
+# try_trace NAME STATUS PRINTED TRACE serves a trace over the two files.
+try_trace() {
+    printf '%b' "$4" > trace
+    try_from trace printed "$1" "$2" "$3" cache.img backing.img serve
+}
+
+new_files 80
+try_words 'no words' 2 usage
+try_words 'one word' 2 usage cache.img
+try_words 'two words' 2 usage cache.img backing.img
+try_words 'two words that name no files' 2 usage none.img none.img
+try_words 'an unknown command' 2 usage cache.img backing.img fly
+try_words 'a word behind the command' 2 usage cache.img backing.img serve now
+try_words 'a word that is not UTF-8' 2 usage cache.img backing.img $'\xff'
+try_words 'no cache file' 6 'fault cache' none.img backing.img serve
+try_words 'no backing file' 6 'fault backing' cache.img none.img serve
+try_words 'neither file, and an unknown command' 6 'fault cache' none.img none.img fly
+try_words 'a folder in the place of the cache file' 6 'fault cache' a_folder backing.img serve
+try_words 'a folder in the place of the backing file' 6 'fault backing' cache.img a_folder serve
+
+try_trace 'an unknown letter behind a write' 3 'trace 2 2' '1 w 0 1 1\n1 x 0 1\n'
+try_trace 'an empty line' 3 'trace 1 2' '\n1 w 0 1 1\n'
+try_trace 'a stamp of zero behind a write' 3 'trace 2 2' '1 w 0 1 1\n1 w 0 1 0\n'
+try_trace 'a line of 81 bytes behind a write' 3 'trace 2 2' "1 w 0 1 1\n1 r 0 1$(printf '%74s' '')\n"
+{ echo '1 w 0 1 1'; seq 262144 | sed 's/.*/1 f/'; } > trace
+try_from trace printed 'a line too many' 3 'trace 262145 2' cache.img backing.img serve
+seq 262144 | sed 's/.*/1 w 0 1 1/' > trace
+memory=8000
+try_from trace printed 'a trace beyond the memory' 9 memory cache.img backing.img serve
+memory=unlimited
+try_from a_folder printed 'a trace that cannot be read' 7 'fault source' cache.img backing.img serve
+try_trace 'a range that ends beyond the device' 0 'out-of-range' '1 w 63 2 5\n'
+echo '1 r 0 1' > trace
+try_from trace /dev/full 'answers that nothing takes' 8 '' cache.img backing.img serve
+try_from trace /dev/full 'a message that nothing takes' 2 '' cache.img backing.img fly
+through=(sh -c 'exec "$@" >&-' sh)
+try_from trace printed 'a closed standard output' 8 '' cache.img backing.img serve
+through=(sh -c 'exec "$@" <&- 2>&-' sh)
+try_from trace printed 'a closed standard input and error' 0 '' cache.img backing.img serve
+through=()
+
+for sectors in 0 15; do
+    new_files "$sectors"
+    truncate -s $((512 * sectors)) backing.img
+    try_trace "a backing file of $sectors sectors" 4 'superblock backing 9' '1 w 0 1 1\n'
+done
+new_files 16
+try_trace 'a backing file with no data sector' 4 'superblock backing 14' '1 w 0 1 1\n'
+printf 'torn' >> backing.img
+try_trace 'and then a torn one' 4 'superblock backing 14' '1 w 0 1 1\n'
+new_files 80
+printf 'torn' >> backing.img
+try_trace 'a torn last sector' 0 $'zerox1\nout-of-range\nout-of-range' '1 r 63 1\n1 r 63 2\n1 w 64 1 5\n'
+
+change 104 '\x01'
+try_trace 'a device that a cache stands before' 4 'superblock cache 15' '1 w 0 1 1\n'
+change 16 '\x02'
+try_trace 'a version that is not read' 4 'superblock backing 3' '1 w 0 1 1\n'
+change 24 '\x00'
+try_trace 'no superblock' 4 'superblock backing 1' '1 w 0 1 1\n'
+try_trace 'no superblock, and a trace that is refused' 3 'trace 1 2' 'w 0 1 1\n'
+
+[ "$differing" = 0 ] || { echo "$differing of $cases cases differ"; exit 1; }
+echo "ok: $cases cases"

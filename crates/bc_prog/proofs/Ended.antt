@@ -1,0 +1,28 @@
+-- What a status of 0 says.
+use Rattle.std.specs.Prelude.{◌≡◌, ◌⊎◌, ℕ, Option, Some, None, IsNone, IfSome, refl}
+use Rattle.std.proofs.Common.{sym, ◌∙◌, arith, inl, inr}
+use Rattle.bc_prog.specs.Refusal.{status_of as refusal_status}
+use Rattle.bc_prog.specs.declared.refusal.Refusal.{Refusal}
+use Rattle.bc_prog.specs.declared.refusal.Refusal.TheVariants as refusals
+use Rattle.bc_top.specs.Top.{status_of}
+use Rattle.bc_top.specs.declared.top.Stop.{Stop}
+use Rattle.bc_top.specs.declared.top.Stop.TheVariants.{Usage, Trace, Source, Fault, Superblock, Memory}
+
+stops_above_zero : (stop : Stop) → status_of stop ≡ 0 → ⊥
+stops_above_zero Usage zero = omega (arith, zero)
+stops_above_zero (Trace error) zero = omega (arith, zero)
+stops_above_zero Source zero = omega (arith, zero)
+stops_above_zero Fault zero = omega (arith, zero)
+stops_above_zero (Superblock device number) zero = omega (arith, zero)
+stops_above_zero Memory zero = omega (arith, zero)
+
+-- a run began
+pub began : {A : Type 0} {P : A → Type 0} (pass : Option A) (status : ℕ) → (IsNone pass → (stop : Stop) × (status ≡ status_of stop)) → IfSome pass P → status ≡ 0 → (a : A) × P a
+began (Some pass) status stopped run zero = (pass, run)
+began None status stopped run zero = let it = stopped refl in absurd (stops_above_zero it.0 (sym it.1 ∙ zero))
+
+-- a refusal that isn't one of memory
+pub refused : (refusal : Refusal) (status : ℕ) → (refusal ≡ refusals.Memory → ⊥) → status ≡ refusal_status refusal → (status ≡ 2) ⊎ (status ≡ 6)
+refused refusals.Usage status other ended = inl ended
+refused (refusals.NotOpened device) status other ended = inr ended
+refused refusals.Memory status other ended = absurd (other refl)

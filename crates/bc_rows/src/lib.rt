@@ -1,0 +1,13 @@
+//! The worked rows of traces, and devices that fail and stop, run on the call that serves.
+#![tactic(auto)]
+
+#[cfg(test)]
+mod failing;
+#[cfg(test)]
+mod rows;
+#[cfg(test)]
+mod serving;
+#[cfg(test)]
+mod slow;
+#[cfg(test)]
+mod streams;

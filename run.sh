@@ -1,0 +1,30 @@
+#!/usr/bin/env bash
+# Builds the proved program and serves a sample trace with it, over image files in a temporary folder. It needs the Rattle
+# toolchain that README.md names.
+set -euo pipefail
+cd "$(dirname "$0")"
+
+command -v rt > /dev/null || { echo "missing: rt, the command of the Rattle toolchain that README.md names"; exit 1; }
+echo "Proving and building the program. The first time takes as long as a proof of all crates below it."
+bcache=$(bench/program.sh)
+
+folder=$(mktemp -d)
+trap 'rm -rf "$folder"' EXIT
+cache=$folder/cache.img
+backing=$folder/backing.img
+: > "$cache"
+bench/image.sh "$backing" 80
+
+# serve EXPLANATION LINE.. shows a run of the program on a trace with these lines.
+serve() {
+    echo
+    echo "$1"
+    shift
+    printf '    %s\n' "$@"
+    printf '%s\n' "$@" | "$bcache" "$cache" "$backing" serve | sed 's/^/ -> /'
+}
+
+serve "A run that writes sectors 0 to 7 with stamp 7, reads sectors 0 to 9 and flushes, and what it answers line by line:" \
+    '1 w 0 8 7' '1 r 0 10' '1 f'
+serve "A second run over the same files, which reads what the first one wrote and then beyond the last of the 64 data sectors:" \
+    '1 r 0 10' '1 r 63 2'
