@@ -1,0 +1,4 @@
+pub mod WordsAt
+pub mod KeyLists
+pub mod Readings
+pub mod OnePointer

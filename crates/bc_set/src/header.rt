@@ -1,0 +1,48 @@
+//! The header of a set.
+ghost use Rattle.std.specs.Prelude.{◌≡◌, IfOk, IfErr};
+ghost use Rattle.bc_bytes.specs.Fields.{number_at};
+ghost use Rattle.bc_set.specs.declared.set.SetKind.{SetKind};
+ghost use Rattle.bc_set.specs.SetBytes.{IsWhole, IsRefused, count_in};
+
+use crate::error::SetError;
+use crate::set::{HEADER, MAGIC, VERSION};
+use bc_bytes::{crc64, get_u32, get_u64};
+
+/// What the header says of a set that is whole.
+#[derive(Clone, Copy, Drop)]
+pub struct Header {
+    /// The number that all sets of a node have in common.
+    pub seq: u64,
+    /// The number of words.
+    pub count: usize,
+}
+
+/// Reads the header, and tests all that doesn't depend on the keys.
+pub fn read_header(bytes: &[u8], start: u64, magic: u64) -> Result<Header, SetError>
+    ensures whole { IfOk result (λ _. IsWhole start magic bytes.now) }
+    ensures seq { IfOk result (λ h. h.seq ≡ number_at 8 bytes.now 16) }
+    ensures count { IfOk result (λ h. h.count ≡ count_in bytes.now) }
+    ensures refused { (kind : SetKind) → IfErr result (IsRefused start magic kind bytes.now) }
+{
+    if bytes.len() < HEADER {
+        return Err(SetError::Short);
+    }
+    if get_u64(bytes, 8) != magic ^ MAGIC {
+        return Err(SetError::Magic);
+    }
+    if get_u32(bytes, 24) != VERSION {
+        return Err(SetError::Version);
+    }
+    let count = get_u32(bytes, 28) as usize;
+    let end = HEADER + 8 * count;
+    if bytes.len() < end {
+        return Err(SetError::Short);
+    }
+    if get_u64(bytes, 0) != crc64(start, &bytes[8..end]) {
+        return Err(SetError::Checksum);
+    }
+    Ok(Header {
+        seq: get_u64(bytes, 16),
+        count,
+    })
+}

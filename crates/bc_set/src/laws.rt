@@ -1,0 +1,42 @@
+//! What the definitions come to: each law is the contract of a function.
+ghost use Rattle.std.specs.Prelude.{◌≡◌, ◌+◌, ◌≤◌, ℕ, List, length, drop, slice_range};
+ghost use Rattle.bc_bytes.specs.Fields.{number_at};
+ghost use Rattle.bc_set.specs.declared.error.SetError.{SetError};
+ghost use Rattle.bc_set.specs.declared.set.Set.{Set};
+ghost use Rattle.bc_set.specs.declared.set.SetKind.{SetKind};
+ghost use Rattle.bc_set.specs.SetBytes.{IsSet, IsRefused, StandsAt, bytes_of};
+ghost use Rattle.bc_set.specs.Example.{example_bytes};
+
+/// Bytes begin with one set at most, or they are refused for one reason at most, and never both.
+pub fn one_reading()
+    ensures one_set { (start magic : ℕ) (kind : SetKind) (bytes : List ℕ) (s t : Set)
+        → IsSet start magic kind bytes s → IsSet start magic kind bytes t → s ≡ t }
+    ensures never_both { (start magic : ℕ) (kind : SetKind) (bytes : List ℕ) (s : Set)
+        (e : SetError) → IsSet start magic kind bytes s
+        → IsRefused start magic kind bytes e → ⊥ }
+    ensures one_cause { (start magic : ℕ) (kind : SetKind) (bytes : List ℕ) (e f : SetError)
+        → IsRefused start magic kind bytes e → IsRefused start magic kind bytes f → e ≡ f }
+{}
+
+/// A set lies within the bytes in which it stands, and rests on its own bytes alone: it stays
+/// whatever the others become.
+pub fn set_stays()
+    ensures fits { (start magic : ℕ) (kind : SetKind) (bytes : List ℕ) (place : ℕ) (s : Set)
+        → StandsAt start magic kind bytes place s → place + bytes_of s ≤ length bytes }
+    ensures stays { (start magic : ℕ) (kind : SetKind) (old new : List ℕ) (place : ℕ) (s : Set)
+        → StandsAt start magic kind old place s
+        → slice_range new place (place + bytes_of s) ≡ slice_range old place (place + bytes_of s)
+        → StandsAt start magic kind new place s }
+{}
+
+/// No set stands where the bytes of its version would be zero, and so none where all are.
+pub fn zeros_are_no_set()
+    ensures { (start magic : ℕ) (kind : SetKind) (bytes : List ℕ) (place : ℕ) (s : Set)
+        → number_at 4 (drop place bytes) 24 ≡ 0 → StandsAt start magic kind bytes place s → ⊥ }
+{}
+
+/// There is a set: these bytes are one, with one extent.
+pub fn example()
+    ensures { (s : Set) × IsSet 0x80003 1 SetKind.Extents example_bytes s
+        × (s.seq ≡ 65537) × (length s.keys ≡ 1) }
+{}
