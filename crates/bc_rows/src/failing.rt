@@ -26,7 +26,13 @@ const SIZE: usize = 304;
 
 // Serves reads of all data over what a crash left, and tests that each sector that is read is allowed
 // behind the run before it.
-fn serve_again<R: Abort + Wait>(rt: &R, alloc: Global, data: &[u8], pass: &Pass, left: MemDisk) -> Result<(), Fail>
+fn serve_again<R: Abort + Wait>(
+    rt: &R,
+    alloc: Global,
+    data: &[u8],
+    pass: &Pass,
+    left: MemDisk,
+) -> Result<(), Fail>
     requires { length data.now ≡ 512 * 304 }
 {
     let source = MemSource::new(alloc, Vec::from_slice(alloc, b"1 r 0 304\n")?);

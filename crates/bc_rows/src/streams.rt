@@ -63,7 +63,14 @@ fn a_sink_with_little_room(rt: HostRuntime) -> Result<(), Fail> {
     let alloc = rt.alloc();
     for room in 0..LINES.len() + 1 {
         let mut out = MemSink::new(alloc, room)?;
-        let ran = serve(&rt, alloc, "serve", source(alloc, TRACE)?, device(alloc)?, &mut out)?;
+        let ran = serve(
+            &rt,
+            alloc,
+            "serve",
+            source(alloc, TRACE)?,
+            device(alloc)?,
+            &mut out,
+        )?;
         assert_eq!(rt; ran.status, if room < LINES.len() { 8 } else { 0 });
         assert_eq!(rt; out.bytes(), &LINES.as_bytes()[..room]);
         assert!(rt; ran.pass.is_some());
@@ -80,14 +87,28 @@ fn a_sink_that_fails(rt: HostRuntime) -> Result<(), Fail> {
             inner: MemSink::new(alloc, 100)?,
         };
         out.inner.fail(call)?;
-        let ran = serve(&rt, alloc, "serve", source(alloc, TRACE)?, device(alloc)?, &mut out)?;
+        let ran = serve(
+            &rt,
+            alloc,
+            "serve",
+            source(alloc, TRACE)?,
+            device(alloc)?,
+            &mut out,
+        )?;
         assert_eq!(rt; ran.status, 8);
         assert_eq!(rt; out.inner.bytes(), &LINES.as_bytes()[..call as usize - 1]);
     }
     // A message that isn't taken leaves the status as it was.
     for (word, trace, status) in [("load", TRACE, 2), ("serve", "1 w 0 0 7\n", 3)] {
         let mut out = MemSink::new(alloc, 4)?;
-        let ran = serve(&rt, alloc, word, source(alloc, trace)?, device(alloc)?, &mut out)?;
+        let ran = serve(
+            &rt,
+            alloc,
+            word,
+            source(alloc, trace)?,
+            device(alloc)?,
+            &mut out,
+        )?;
         assert_eq!(rt; ran.status, status);
         assert_eq!(rt; out.bytes().len(), 4);
     }
@@ -107,7 +128,14 @@ fn messages_behind_lines(rt: HostRuntime) -> Result<(), Fail> {
         let mut backing = device(alloc)?;
         backing.fail(call)?;
         let mut out = MemSink::new(alloc, 100)?;
-        let ran = serve(&rt, alloc, "serve", source(alloc, "1 w 0 8 7\n")?, backing, &mut out)?;
+        let ran = serve(
+            &rt,
+            alloc,
+            "serve",
+            source(alloc, "1 w 0 8 7\n")?,
+            backing,
+            &mut out,
+        )?;
         assert_eq!(rt; ran.status, 6);
         assert_eq!(rt; out.bytes(), text.as_bytes());
     }

@@ -1,5 +1,5 @@
 -- A trace that is served, and in which nothing failed, has one list of answers.
-use Rattle.std.proofs.Common.{◌≡◌, ◌⊎◌, inl, inr, ℕ, zero, suc, ◌+◌, ◌-◌, ◌*◌, ◌/◌, ◌<◌, ◌≤◌, Bool, true, false, List, [], ◌∷◌, ◌++◌, length, Some, None, refl, sym, ap, ◌∙◌, subst, arith}
+use Rattle.std.proofs.Common.{◌≡◌, ◌⊎◌, inl, inr, ℕ, zero, suc, ◌+◌, ◌-◌, ◌*◌, ◌/◌, ◌<◌, ◌≤◌, Bool, true, false, List, [], ◌∷◌, ◌++◌, length, Some, refl, sym, ap, ◌∙◌, subst, arith}
 use Rattle.std.specs.Prelude.{if◌then◌else◌, nat_le, max}
 use Rattle.std.proofs.lemmas.Bool.{cases_lt}
 use Rattle.bc_model.specs.Sector.{Value, Image, at_run, unless, Gives}
@@ -10,7 +10,7 @@ use Rattle.bc_model.specs.Pieces.{Piece, piece_in, pieces_from, pieces, AreReads
 use Rattle.bc_model.specs.declared.history.Entry.{Entry}
 use Rattle.bc_model.specs.declared.history.Entry.TheVariants as entry
 use Rattle.bc_model.proofs.Cases.{by_le, by_test}
-use Rattle.bc_model.proofs.Runs.{at_range, at_miss, at_hit}
+use Rattle.bc_model.proofs.Runs.{at_range, at_miss}
 use Rattle.bc_script.specs.declared.line.Action.{Action}
 use Rattle.bc_script.specs.declared.line.Action.TheVariants.{Write, Read, Flush}
 use Rattle.bc_script.specs.declared.line.Line.{Line}
@@ -54,7 +54,7 @@ written_in stamp first count image s low high = ap (λ o. unless o (image s)) (h
     hit first zero low high = absurd (omega arith)
     hit first (suc n) low high =
         by_test first s (λ t. (if t then Some (pattern stamp first) else at_run (suc first) (patterns stamp (suc first) n) s) ≡ Some (pattern stamp s))
-            (λ same. ap (λ k. Some (pattern stamp k)) same) (λ other. hit (suc first) n (omega arith) (omega arith))
+        (λ same. ap (λ k. Some (pattern stamp k)) same) (λ other. hit (suc first) n (omega arith) (omega arith))
 
 written_out : (stamp first count : ℕ) (image : Image) (s : ℕ) → (s < first) ⊎ (first + count ≤ s) → written stamp first count image s ≡ image s
 written_out stamp first count image s out = ap (λ o. unless o (image s)) (at_miss first (patterns stamp first count) s (λ at. apart (length_patterns stamp first count) at out))

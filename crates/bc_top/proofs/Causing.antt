@@ -1,14 +1,13 @@
 -- From what a line was refused for to the events of its run.
-use Rattle.std.proofs.Common.{◌≡◌, ◌⊎◌, inl, inr, ℕ, zero, suc, ◌+◌, ◌<◌, Bool, true, false, if◌then◌else◌, List, [], ◌∷◌, ◌++◌, length, get_or, Option, Some, None, append_assoc, length-append, refl, sym, ap, ◌∙◌, subst, arith}
-use Rattle.std.specs.Prelude.{Contains, filter, fold, ◌==◌}
+use Rattle.std.proofs.Common.{◌≡◌, ℕ, zero, suc, ◌+◌, ◌<◌, Bool, true, false, if◌then◌else◌, List, [], ◌∷◌, ◌++◌, length, get_or, None, append_assoc, length-append, refl, sym, ap, ◌∙◌, subst, arith}
+use Rattle.std.specs.Prelude.{Contains, filter, ◌==◌}
 use Rattle.std.proofs.Math.Seq.{get_or-append_seam}
 use Rattle.bc_disk.specs.Disk.{DiskFacts}
 use Rattle.bc_disk.specs.declared.disk.Device.{Device}
 use Rattle.bc_disk.specs.declared.disk.Device.TheVariants.{Backing}
 use Rattle.bc_parts.specs.Seat.{SeatView}
-use Rattle.bc_core.specs.Pass.{halt_of, halt_after}
 use Rattle.bc_core.specs.declared.event.CallKind.{CallKind}
-use Rattle.bc_core.specs.declared.event.CallKind.TheVariants.{Read, Write, Barrier}
+use Rattle.bc_core.specs.declared.event.CallKind.TheVariants.{Barrier}
 use Rattle.bc_core.specs.declared.event.Event.{Event}
 use Rattle.bc_core.specs.declared.event.Event.TheVariants as event
 use Rattle.bc_step.specs.declared.part.CorePart.{CorePart}
@@ -18,7 +17,7 @@ use Rattle.bc_step.specs.Seats.{deeds}
 use Rattle.bc_request.specs.declared.error.RequestError.{RequestError}
 use Rattle.bc_request.specs.declared.error.RequestError.TheVariants as request
 use Rattle.bc_request.specs.declared.job.Job.{Job}
-use Rattle.bc_request.specs.Requests.{Ran, Cause, HasFault, FlushCause, FlushRefused, ReadRefused, WriteRefused, flush_events, line_of}
+use Rattle.bc_request.specs.Requests.{Ran, Cause, HasFault, FlushRefused, ReadRefused, WriteRefused, line_of}
 use Rattle.bc_request.proofs.Running.{halted_ran}
 use Rattle.bc_model.specs.Sector.{Value}
 use Rattle.bc_script.specs.declared.answer.Answer.{Answer}

@@ -1,15 +1,13 @@
 -- Why no run began: each cause needs a fault of what was handed in.
-use Rattle.std.proofs.Common.{◌≡◌, ◌≢◌, ◌⊎◌, inl, inr, ℕ, ◌+◌, ◌*◌, ◌<◌, ◌≤◌, List, [], ◌∷◌, Option, Some, None, length, refl, sym, ap, ◌∙◌, subst, arith}
+use Rattle.std.proofs.Common.{◌≡◌, ◌≢◌, ◌⊎◌, inl, inr, ℕ, ◌+◌, ◌*◌, ◌<◌, List, [], ◌∷◌, Option, Some, None, refl, sym, ◌∙◌, subst, arith}
 use Rattle.std.specs.Prelude.{String}
 use Rattle.std.specs.declared.alloc.Global.{Global}
-use Rattle.bc_model.specs.Sector.{Image, Value, Gives}
+use Rattle.bc_model.specs.Sector.{Image, Gives}
 use Rattle.bc_disk.specs.Device.{HasRisen}
 use Rattle.bc_disk.specs.Disk.{DiskFacts, BothTold, IfTold}
 use Rattle.bc_disk.specs.Stream.{StreamFacts, BothToldText}
 use Rattle.bc_disk.specs.declared.disk.Device.TheVariants as device
-use Rattle.bc_script.specs.declared.line.Line.{Line}
-use Rattle.bc_script.specs.declared.script.ScriptError.{ScriptError}
-use Rattle.bc_script.specs.Trace.{IsTrace, IsFirstRefused, IsTaken, SpellAll, lines_of}
+use Rattle.bc_script.specs.Trace.{IsFirstRefused, IsTaken}
 use Rattle.bc_script.proofs.OneReading.{read_or_refused}
 use Rattle.bc_super.specs.Super.{IsBackingSuper, IsRefused, IsMode, IsState}
 use Rattle.bc_super.specs.Reading.{IsSuperSector, ReadsSuper, ReadsRefused, IsCause}
@@ -20,9 +18,8 @@ use Rattle.bc_super.specs.declared.mode.Mode.{Mode}
 use Rattle.bc_super.specs.declared.mode.Mode.TheVariants as mode
 use Rattle.bc_super.specs.declared.state.BackingState.{BackingState}
 use Rattle.bc_super.specs.declared.state.BackingState.TheVariants as state
-use Rattle.bc_top.specs.Opened.{SameImage, IsSameDevice, AsksForNone, IsOpenCause}
+use Rattle.bc_top.specs.Opened.{SameImage, IsSameDevice, AsksForNone}
 use Rattle.bc_top.specs.Top.{IsServe, SpellsTrace, IsStopCause, status_of}
-use Rattle.bc_top.specs.declared.opening.OpenError.TheVariants as open_errors
 use Rattle.bc_top.specs.declared.top.Stop.{Stop}
 use Rattle.bc_top.specs.declared.top.Stop.TheVariants as stop
 

@@ -1,6 +1,6 @@
 -- What the status of a run tells.
-use Rattle.std.proofs.Common.{◌≡◌, ◌⊎◌, inl, inr, ℕ, suc, Bool, true, false, ◌||◌, List, [], ◌∷◌, ◌++◌, Option, Some, None, refl, sym, ap, ◌∙◌, subst, arith}
-use Rattle.std.specs.Prelude.{Result, Ok, Err, All, MatchResult, OnOk, IfErr}
+use Rattle.std.proofs.Common.{◌≡◌, ◌⊎◌, inl, inr, ℕ, suc, Bool, true, false, ◌||◌, List, [], ◌∷◌, Option, None, refl, sym, ap, ◌∙◌, subst, arith}
+use Rattle.std.specs.Prelude.{Result, Ok, Err, MatchResult, OnOk, IfErr}
 use Rattle.std.specs.List.{list_any}
 use Rattle.std.specs.Result.{is_err}
 use Rattle.bc_disk.specs.Device.{HasRisen, next_count}
@@ -8,7 +8,6 @@ use Rattle.bc_disk.specs.Disk.{DiskFacts}
 use Rattle.bc_disk.specs.Stream.{StreamFacts}
 use Rattle.bc_model.specs.declared.history.Entry.{Entry}
 use Rattle.bc_core.specs.State.{Setup, opened}
-use Rattle.bc_core.specs.Step.{fold}
 use Rattle.bc_core.specs.declared.event.Event.{Event}
 use Rattle.bc_core.specs.declared.pass.Pass.{Pass}
 use Rattle.bc_script.specs.declared.line.Action.{Action}
@@ -22,11 +21,11 @@ use Rattle.bc_script.specs.Served.{ServesAction, ServedFrom, Served}
 use Rattle.bc_output.specs.declared.answers.Printed.{Printed}
 use Rattle.bc_output.specs.declared.put.WriteFault.{WriteFault}
 use Rattle.bc_output.specs.declared.put.WriteFault.TheVariants.{Failed, TookNothing}
-use Rattle.bc_output.specs.Lines.{AreLines, StandForAll, StandsFor, IsCut}
+use Rattle.bc_output.specs.Lines.{AreLines, StandForAll, IsCut}
 use Rattle.bc_output.specs.declared.message.Message.{Message}
-use Rattle.bc_output.specs.Put.{Takes, IsWriteFault}
+use Rattle.bc_output.specs.Put.{Takes}
 use Rattle.bc_output.proofs.Standing.{all_whole}
-use Rattle.bc_top.specs.Ended.{says_fault, says_memory, has_failed, lacked_memory, status_of_end, message_of_end, ArePut, IsPutBehind, IsEnd, IsDone, HasStopped}
+use Rattle.bc_top.specs.Ended.{says_fault, says_memory, has_failed, status_of_end, message_of_end, ArePut, IsPutBehind, IsEnd, IsDone, HasStopped}
 use Rattle.bc_top.specs.Run.{HasRun}
 use Rattle.bc_top.specs.Top.{IsRefusal}
 use Rattle.bc_top.specs.declared.closing.Closing.{Closing}
@@ -144,7 +143,6 @@ are_put printed answers old new = by printed.put
     by (Err cause) ok err = err
 
 module _ (status : ℕ) (answers : List Answer) (how : Closing) (old new : StreamFacts) (end : IsEnd status answers how old new) where
-
   pub known : IsEndStatus status
   known = subst IsEndStatus (sym end.ends) (end_status (list_any says_fault answers) how (list_any says_memory answers || end.printed.memory_missed) (is_err end.printed.put))
 

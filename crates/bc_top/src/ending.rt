@@ -28,9 +28,7 @@ fn says_fault(answers: &[Answer]) -> bool
 fn says_memory(answers: &[Answer]) -> bool
     ensures { result ≡ list_any says_memory answers.now }
 {
-    answers
-        .iter()
-        .any(|answer| matches!(answer, Answer::Refused(Refusal::Memory)))
+    answers.iter().any(|answer| matches!(answer, Answer::Refused(Refusal::Memory)))
 }
 
 // The status of a run: whether a line says fault, how it was closed, whether memory was missed for a

@@ -1,4 +1,4 @@
-use Rattle.std.proofs.Common.{◌≡◌, ◌+◌, ◌++◌, ◌∷◌, List, ℕ, false, take, sym, subst, arith}
+use Rattle.std.proofs.Common.{◌+◌, List, ℕ, false, take, sym, subst, arith}
 use Rattle.bc_output.specs.Lines.{StandForAll}
 use Rattle.bc_output.proofs.Standing.{on_ok, line_more}
 use Rattle.bc_output.proofs.answers.gather.Goals as goal
