@@ -2,6 +2,8 @@ pub mod Bytes
 pub mod Crash
 pub mod Device
 pub mod Disk
+pub mod Gens
+pub mod Geometry
 pub mod Kept
 pub mod Log
 pub mod MemDisk

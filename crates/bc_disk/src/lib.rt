@@ -6,6 +6,8 @@ pub(crate) mod bytes;
 pub(crate) mod calls;
 pub mod crash;
 pub mod disk;
+pub mod gens;
+pub mod geometry;
 pub mod laws;
 pub mod log;
 pub mod mem_disk;

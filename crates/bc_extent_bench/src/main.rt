@@ -1,0 +1,163 @@
+//! Measures what an insert into a large extent map costs: random small extents over sectors that a
+//! given number of keys cover. `bench/extent.cpp` makes the same inserts into an ordered map.
+#![tactic(auto)]
+
+ghost use Rattle.std.specs.Prelude.{◌≡◌, ℕ, ◌+◌, ◌*◌, ◌<◌, ◌≤◌, ◌^◌, ◌++◌, [], ◌∷◌, OnOk};
+ghost use Rattle.bc_key.specs.Key.{IsExtent};
+ghost use Rattle.bc_extent.specs.LastKey.{last_key};
+ghost use Rattle.bc_extent.specs.Extents.{Shows};
+
+use bc_extent::Extents;
+use bc_key::{Key, Ptr};
+use std::alloc::{AllocError, Global};
+use std::process::ExitCode;
+use std::rt::Clock;
+use std::time::Instant;
+use std::{env, io};
+
+/// How many sectors an inserted extent has at most.
+const LONGEST: u64 = 8;
+
+/// How much is done.
+#[derive(Clone, Copy)]
+struct Work {
+    /// How many keys the map has at first, and about so many afterwards too.
+    keys: u32,
+    /// How many extents are inserted.
+    inserts: u32,
+    ghost some_keys: { 4 ≤ keys },
+}
+
+/// What a run with no words does.
+const SMALL: Work = Work {
+    keys: 1000,
+    inserts: 1000,
+};
+
+/// Numbers that look random.
+#[derive(Drop)]
+struct Random(u64);
+
+impl Random {
+    /// The next one, below `limit`.
+    fn below(&mut self, limit: u64) -> u64
+        requires { 0 < limit }
+        ensures { result < limit }
+    {
+        self.0 = self
+            .0
+            .wrapping_mul(6_364_136_223_846_793_005)
+            .wrapping_add(1_442_695_040_888_963_407);
+        (self.0 >> 33) % limit
+    }
+}
+
+// The sector at which key `i` of the first ones begins: each of them has two or three sectors.
+// Random inserts of 1 to 8 sectors keep the number of keys about there, since a sector begins a key
+// with a chance of 4 in 11 in the long run.
+fn first_sector(i: u32) -> u64
+    ensures low { result * 4 ≤ i * 11 }
+    ensures high { i * 11 < result * 4 + 4 }
+{
+    u64::from(i) * 11 / 4
+}
+
+// A dirty key of these sectors. Its data is the extent with this number.
+fn extent(first: u64, size: u16, number: u64) -> Key
+    requires first { first < 2 ^ 40 }
+    requires number { number < 2 ^ 40 }
+    ensures { IsExtent result }
+{
+    let pointer = Ptr {
+        dev: 0,
+        offset: LONGEST * number,
+        generation: 0,
+    };
+    Key::new(first + u64::from(size), size, true, Some(pointer))
+}
+
+// Makes room for a key, and inserts it.
+fn add(map: &mut Extents, key: &Key) -> Result<(), AllocError>
+    requires { IsExtent key.now }
+    ensures { OnOk result (Shows (last_key (map.old.keys ++ key.now ∷ [])) map.new.keys) }
+{
+    map.reserve(2)?;
+    map.insert(key);
+    Ok(())
+}
+
+// A map of so many keys, one behind the other.
+fn filled(alloc: Global, keys: u32) -> Result<Extents, AllocError> {
+    let mut map = Extents::new(alloc);
+    for i in 0..keys {
+        let first = first_sector(i);
+        let size = (first_sector(i + 1) - first) as u16;
+        add(&mut map, &extent(first, size, u64::from(i)))?;
+    }
+    Ok(map)
+}
+
+// Inserts so many extents of 1 to 8 sectors, somewhere in the sectors of the first keys.
+fn insert_all(map: &mut Extents, work: Work) -> Result<(), AllocError> {
+    let mut random = Random(7);
+    let places = first_sector(work.keys) - LONGEST;
+    for n in 0..work.inserts {
+        let first = random.below(places);
+        let size = 1 + random.below(LONGEST) as u16;
+        let number = u64::from(work.keys) + u64::from(n);
+        add(map, &extent(first, size, number))?;
+    }
+    Ok(())
+}
+
+// A number that tells the keys from others.
+fn sum_of(keys: &[Key]) -> u64 {
+    let mut sum = 0u64;
+    for key in keys {
+        for word in [key.start(), key.end, key.ptrs[0].offset] {
+            sum = sum.wrapping_mul(31).wrapping_add(word);
+        }
+    }
+    sum
+}
+
+// What these arguments ask for, or `None` where they are wrong.
+fn work_of(arguments: &[String]) -> Option<Work> {
+    match arguments {
+        [] => Some(SMALL),
+        [keys, inserts] => {
+            let keys = keys.parse::<u32>().ok()?;
+            let inserts = inserts.parse::<u32>().ok()?;
+            if keys < 4 {
+                return None;
+            }
+            Some(Work { keys, inserts })
+        }
+        _ => None,
+    }
+}
+
+// Does the work, and prints how many keys are left, their sum and the microseconds of the inserts.
+fn run<R: Clock + Print + AllocGlobal>(rt: &R, work: Work, timed: bool) -> io::Result<ExitCode> {
+    let mut map = filled(rt.alloc(), work.keys)?;
+    let start = Instant::now(rt)?;
+    insert_all(&mut map, work)?;
+    let spent = start.elapsed(rt)?;
+    let keys = map.keys();
+    println!(rt; "{} keys, sum {}", keys.len(), sum_of(keys))?;
+    if timed {
+        println!(rt; "{} us", spent.as_micros())?;
+    }
+    Ok(ExitCode::SUCCESS)
+}
+
+fn main(rt: HostRuntime) -> io::Result<ExitCode> {
+    let arguments: Vec<String> = env::args(&rt)?.skip(1).collect(rt.alloc())?;
+    match work_of(&arguments) {
+        Some(work) => run(&rt, work, !arguments.is_empty()),
+        None => {
+            eprintln!(rt; "usage: bc_extent_bench [KEYS INSERTS]")?;
+            Ok(ExitCode::from(2))
+        }
+    }
+}

@@ -1,0 +1,9 @@
+pub mod Amounts
+pub mod Places
+pub mod Checked
+pub mod Encoded
+pub mod Chains
+pub mod Readings
+pub mod Writings
+pub mod Examples
+pub mod Unique

@@ -1,0 +1,6 @@
+pub mod Sizes
+pub mod Set
+pub mod Chain
+pub mod Refusal
+pub mod Reading
+pub mod Writes
