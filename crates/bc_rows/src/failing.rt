@@ -29,11 +29,11 @@ const SIZE: usize = 304;
 fn serve_again<R: Abort + Wait>(
     rt: &R,
     alloc: Global,
-    data: &[u8],
+    opening: &[u8],
     pass: &Pass,
     left: MemDisk,
 ) -> Result<(), Fail>
-    requires { length data.now ≡ 512 * 304 }
+    requires { length opening.now ≡ 512 * 304 }
 {
     let source = MemSource::new(alloc, Vec::from_slice(alloc, b"1 r 0 304\n")?);
     let mut out = MemSink::new(alloc, 10000)?;
@@ -46,7 +46,7 @@ fn serve_again<R: Abort + Wait>(
             for place in 0..values.len() {
                 assert!(rt; read < 304);
                 let sector = read;
-                assert!(rt; is_allowed(data, pass.entries(), sector, &values.get(place)));
+                assert!(rt; is_allowed(opening, pass.entries(), sector, &values.get(place)));
                 read = sector + 1;
             }
         }
