@@ -57,7 +57,7 @@ pub fn run<R: Files<File = File> + Wait, S: Source, K: Sink>(
     ensures few { length words.now < 3 → IsRefused refusals.Usage result (K.facts out.old) (K.facts out.new) }
     ensures usage { result ≡ 2 → IsServe (drop 2 words.now) → ⊥ }
     ensures unknown { (IsServe (drop 2 words.now) → ⊥) → (result ≡ 2) ⊎ (result ≡ 6) }
-    ensures done { result ≡ 0 → IsDone (S.facts trace.old) (S.facts trace.new) (K.facts out.old) (K.facts out.new) }
+    ensures done { IsServe (drop 2 words.now) → result ≡ 0 → IsDone (S.facts trace.old) (S.facts trace.new) (K.facts out.old) (K.facts out.new) }
 {
     match open_disks(rt, words) {
         Ok((cache, backing)) => bcache(rt, alloc, &words[2..], trace, cache, backing, out).status,

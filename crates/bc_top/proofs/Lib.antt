@@ -5,4 +5,5 @@ pub mod Telling
 pub mod Causing
 pub mod Raising
 pub mod Statuses
+pub mod Settled
 pub mod Completing

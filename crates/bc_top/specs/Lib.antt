@@ -4,4 +4,5 @@ pub mod Closed
 pub mod Causes
 pub mod Ended
 pub mod Opened
+pub mod Stops
 pub mod Top

@@ -4,6 +4,9 @@
 pub mod closing;
 mod ending;
 pub mod opening;
+pub mod ran;
 pub mod running;
+mod serve;
 mod serving;
+pub mod stop;
 pub mod top;
