@@ -6,4 +6,5 @@ pub mod Causing
 pub mod Raising
 pub mod Statuses
 pub mod Settled
+pub mod Pairing
 pub mod Completing

@@ -5,4 +5,5 @@ pub mod Causes
 pub mod Ended
 pub mod Opened
 pub mod Stops
+pub mod Pairs
 pub mod Top

@@ -7,14 +7,32 @@ use Rattle.bc_disk.specs.Stream.{StreamFacts}
 use Rattle.bc_script.specs.Trace.{IsCause, IsTrace, SpellAll, lines_of}
 use Rattle.bc_script.specs.declared.line.Line.{Line}
 use Rattle.bc_script.specs.declared.script.TraceError.TheVariants as trace
+use Rattle.bc_pair.specs.declared.pair.NewPair.{NewPair}
+use Rattle.bc_words.specs.Words.{IsInRange, Spells}
+use Rattle.bc_words.specs.declared.command.Command.{Command}
+use Rattle.bc_words.specs.declared.command.Command.TheVariants as command
 use Rattle.bc_top.specs.Opened.{IsOpenCause, IsSameDevice}
+use Rattle.bc_top.specs.Pairs.{HasAdopted, HasFormatted, HasShown}
 use Rattle.bc_top.specs.declared.opening.OpenError.TheVariants as errors
 use Rattle.bc_top.specs.declared.stop.Stop.{Stop}
 use Rattle.bc_top.specs.declared.stop.Stop.TheVariants as stop
 
+-- the words spell this command
+abbrev pub Says : List (String Global) → Command → Type 0
+Says words command = IsInRange command × Spells (map string_bytes words) command
+
 -- the one word `serve`
 abbrev pub IsServe : List (String Global) → Type 0
 IsServe words = map string_bytes words ≡ codes "serve" ∷ []
+
+-- What a command but `serve` does. The words of `format` are the new pair, field by field.
+abbrev pub Does : {C B : Type 0} → (C → DiskFacts) → (B → DiskFacts) → Command → ℕ → C → C → B → B → StreamFacts → StreamFacts → Type 0
+Does cache_facts backing_facts (command.Format set cuuid buuid block bucket) status cache cache' backing backing' old new = (p : NewPair)
+    × (p.set_uuid ≡ set) × (p.cache_uuid ≡ cuuid) × (p.backing_uuid ≡ buuid) × (p.block ≡ block) × (p.bucket ≡ bucket)
+    × HasFormatted cache_facts backing_facts status cache cache' backing backing' old new p
+Does cache_facts backing_facts command.Adopt status cache cache' backing backing' old new = HasAdopted cache_facts backing_facts status cache cache' backing backing' old new
+Does cache_facts backing_facts command.Show status cache cache' backing backing' old new = HasShown cache_facts backing_facts status cache cache' backing backing' old new
+Does cache_facts backing_facts command.Serve status cache cache' backing backing' old new = Unit {0}
 
 -- the source tells a text that spells a trace
 abbrev pub SpellsTrace : StreamFacts → Type 0

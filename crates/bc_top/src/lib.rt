@@ -4,6 +4,7 @@
 pub mod closing;
 mod ending;
 pub mod opening;
+mod pairs;
 pub mod ran;
 pub mod running;
 mod serve;

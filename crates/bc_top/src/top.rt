@@ -16,30 +16,27 @@ ghost use Rattle.bc_top.specs.Ended.{IsEnd, IsDone, AreExpected, IsPutOf, HasSto
 ghost use Rattle.bc_top.specs.Opened.{IsOpened, IsPassThrough, SameImage, AsksForNone};
 ghost use Rattle.bc_top.specs.Run.{HasRun, Survives, IsStable, setup_on};
 ghost use Rattle.bc_top.specs.Stops.{IsRefusal, IsStatus, message_of, status_of};
-ghost use Rattle.bc_top.specs.Top.{AreSame, IsServe, IsServeCause, OneHasRisen, SpellsTrace};
+ghost use Rattle.bc_top.specs.Top.{AreSame, Does, IsServe, IsServeCause, OneHasRisen, Says, SpellsTrace};
 ghost use Rattle.bc_top.specs.declared.closing.Closing.{Closing};
 ghost use Rattle.bc_top.specs.declared.stop.Stop.{Stop};
+ghost use Rattle.bc_pair.specs.Causes.{KeepsOthers};
+ghost use Rattle.bc_words.specs.declared.command.Command.{Command};
 
+use crate::pairs::{adopt_pair, format_pair, print_pair};
 use crate::ran::Ran;
 use crate::serve::serve;
 use crate::stop::{Stop, tell};
 use bc_disk::disk::Disk;
 use bc_disk::stream::{Sink, Source};
+use bc_pair::pair::NewPair;
+use bc_words::{Command, WordsError, read_words};
 use std::alloc::Global;
 use std::sync::Wait;
 
-// Whether the words are those of the one command that there is.
-fn is_serve(words: &[String]) -> bool
-    ensures { IsTrue result ↔ IsServe words.now }
-{
-    match words {
-        [word] if word.as_str() == "serve" => true,
-        _ => false,
-    }
-}
-
 /// Runs a command over a cache device and a backing device. The words are those behind the two
-/// devices: `serve`, which serves a trace and prints its answers. Both devices come back.
+/// devices, as `read_words` reads them: `serve` serves a trace and prints its answers; `format` makes
+/// a new pair, and `adopt` takes one into use that another tool formatted; `show` prints what the
+/// superblocks say. Both devices come back.
 pub fn bcache<R: Wait, C: Disk + Drop, B: Disk + Drop, S: Source, K: Sink>(
     rt: &R,
     alloc: Global,
@@ -49,9 +46,17 @@ pub fn bcache<R: Wait, C: Disk + Drop, B: Disk + Drop, S: Source, K: Sink>(
     backing: B,
     out: &mut K,
 ) -> Ran<C, B>
-    ensures usage { (result.status ≡ 2) ↔ (IsServe words.now → ⊥) }
-    ensures told { (IsServe words.now → ⊥) → IsPutOf (message_text Message.Usage) (K.facts out.old) (K.facts out.new) × (result.cache ≡ cache) × (result.backing ≡ backing) × IsNone result.pass }
-    ensures cache { IfSome result.pass (λ _. result.cache ≡ cache) }
+    // 2 comes exactly where the words spell no command. Then nothing is done but that this is told.
+    ensures usage { (result.status ≡ 2) ↔ ((command : Command) → Says words.now command → ⊥) }
+    ensures told { result.status ≡ 2 → IsPutOf (message_text Message.Usage) (K.facts out.old) (K.facts out.new) × (result.cache ≡ cache) × (result.backing ≡ backing) }
+
+    // What a command but `serve` does. None of them writes a sector of data.
+    ensures does { (command : Command) → Says words.now command
+        → Does C.facts B.facts command result.status cache result.cache backing result.backing (K.facts out.old) (K.facts out.new) }
+    ensures data { (IsServe words.now → ⊥) → KeepsOthers (B.facts backing) (B.facts result.backing) }
+
+    // A run began only where a trace is served, and then the cache device isn't touched.
+    ensures cache { IfSome result.pass (λ _. IsServe words.now × (result.cache ≡ cache)) }
 
     // Where no run began the status has its cause, the message was put, and no sector was written.
     ensures stopped { IsServe words.now → IsNone result.pass → (stop : Stop) × (result.status ≡ status_of stop)
@@ -87,14 +92,33 @@ pub fn bcache<R: Wait, C: Disk + Drop, B: Disk + Drop, S: Source, K: Sink>(
     ensures stable { result.status ≡ 0 → IfSome result.pass (λ pass. IfTold (B.facts backing).holds
         (λ held. (s : BackingSuper) × ReadsSuper (B.facts backing) s × ((image : Image) × SameImage held image × IsStable s.data_offset image pass (B.facts result.backing)))) }
 {
-    if is_serve(words) {
-        serve(rt, alloc, trace, cache, backing, out)
-    } else {
-        Ran {
+    match read_words(words) {
+        Ok(Command::Serve) => serve(rt, alloc, trace, cache, backing, out),
+        Ok(
+            Command::Format {
+                set,
+                cuuid,
+                buuid,
+                block,
+                bucket,
+            },
+        ) => {
+            let pair = NewPair {
+                set_uuid: set,
+                cache_uuid: cuuid,
+                backing_uuid: buuid,
+                block,
+                bucket,
+            };
+            format_pair(alloc, &pair, cache, backing, out)
+        }
+        Ok(Command::Adopt) => adopt_pair(alloc, cache, backing, out),
+        Ok(Command::Show) => print_pair(alloc, cache, backing, out),
+        Err(WordsError::Usage) => Ran {
             status: tell(&Stop::Usage, out),
             cache,
             backing,
             pass: None,
-        }
+        },
     }
 }
