@@ -24,7 +24,7 @@ one_stand g image (suc n) xs ys p q =
     p.4 ∙ ap (λ (zs : List JEntry). zs ++ p.1) before ∙ ap (λ (zs : List JEntry). q.0 ++ zs) here ∙ sym q.4
 
 -- what is found has the number, and what all have
-found_number : (number : ℕ) (all : List JEntry) (e : JEntry) → first_with number all ≡ Some e → e.seq ≡ number
+pub found_number : (number : ℕ) (all : List JEntry) (e : JEntry) → first_with number all ≡ Some e → e.seq ≡ number
 found_number number [] e is = absurd (cc)
 found_number number (x ∷ xs) e is = elim (cases_Bool (x.seq == number)) [
   | inl same ↦ let first : x ≡ e = (let at : cond (x.seq == number) (Some x) (first_with number xs) ≡ Some x = rw same refl in cc) in ap (λ (y : JEntry). y.seq) (sym first) ∙ eqb-true x.seq number same
@@ -41,7 +41,7 @@ found_has P number (x ∷ xs) e each is = elim (cases_Bool (x.seq == number)) [
 one_of_two : {A : Type 0} (o : Option A) (d e : A) → o ≡ Some d → o ≡ Some e → d ≡ e
 one_of_two o d e p q = cc
 
-one_newest : (all : List JEntry) (a b : JEntry) → IsNewest all a → IsNewest all b → a ≡ b
+pub one_newest : (all : List JEntry) (a b : JEntry) → IsNewest all a → IsNewest all b → a ≡ b
 one_newest all a b p q =
     let low = found_has (λ e. e.seq ≤ b.seq) a.seq all a q.greatest p.counts in
     let high = found_has (λ e. e.seq ≤ a.seq) b.seq all b p.greatest q.counts in
