@@ -1,13 +1,15 @@
 -- What is found of a kind whose records rest on their own bytes alone.
-use Rattle.std.proofs.Common.{◌≡◌, ℕ, ◌+◌, ◌-◌, ◌*◌, ◌<◌, ◌≤◌, List, [], ◌∷◌, length, take, refl, sym, subst, ap, ◌∙◌, arith}
+use Rattle.std.proofs.Common.{◌≡◌, ◌↔◌, ℕ, ◌+◌, ◌-◌, ◌*◌, ◌<◌, ◌≤◌, List, [], ◌∷◌, length, take, drop, refl, sym, subst, ap, ◌∙◌, arith}
 use Rattle.std.specs.Prelude.{All, ◌/◌}
 use Rattle.std.proofs.Math.Nat.{mul-add, lt_of_mul-lt-mul_left}
+use Rattle.std.proofs.lemmas.List.{take-take}
 use Rattle.std.proofs.lemmas.List.Elements.{All-nil, All-cons}
 use Rattle.bc_model.specs.Sector.{Image, values_of}
+use Rattle.bc_disk.specs.Bytes.{image_of}
 use Rattle.bc_record.specs.Sectors.{bytes_to, Has, AgreeOn}
 use Rattle.bc_record.specs.Kind.{Kind, sectors_of, IsFound, AreFound}
 use Rattle.bc_record.proofs.Blocks.{blocks_hold, blocks_within, some_blocks}
-use Rattle.bc_record.proofs.Parts.{length-bytes_in, bytes_in-agree, bytes_in-front, bytes_in-has, bytes_to-agree}
+use Rattle.bc_record.proofs.Parts.{length-bytes_in, bytes_in-agree, bytes_in-front, bytes_in-has, bytes_to-agree, bytes_to-image_of}
 
 pub record IsCodec {A : Type 0} (kind : Kind A) : Type 0 where
   pub block : 0 < kind.block
@@ -53,6 +55,18 @@ module _ {A : Type 0} (kind : Kind A) (codec : IsCodec kind) where
       let fits = codec.fits bytes e begins in
       codec.stays bytes (bytes_to image end place) e begins
       (bytes_in-front image place n (end - place) k (omega (arith, inside)) (omega (arith, fits, whole)) ∙ ap (take k) (bytes_in-has image place n bytes whole has))
+
+  -- in the image of bytes a record is found exactly where it stands in them and ends before the end
+  pub found_in_bytes : (bytes : List ℕ) (end place : ℕ) (e : A) → place ≤ end → 512 * end ≤ length bytes
+      → IsFound kind (image_of bytes) end place e ↔ (kind.Begins (drop (512 * place) bytes) e × (512 * place + kind.bytes e ≤ 512 * end))
+  found_in_bytes bytes end place e low room =
+      let part = bytes_to (image_of bytes) end place in
+      let rest = drop (512 * place) bytes in
+      let n = kind.bytes e in
+      let cut : n ≤ 512 * (end - place) → take n part ≡ take n rest =
+      λ within. ap (take n) (bytes_to-image_of bytes end place low room) ∙ take-take n (512 * (end - place)) rest within in
+      ((λ found. (let within = found_bytes (image_of bytes) end place e found in (codec.stays part rest e found (sym (cut within)), omega (arith, within)))),
+       (λ stands. codec.stays rest part e stands.0 (cut (omega (arith, stands.1)))))
 
   pub one_run : (image : Image) (end place : ℕ) (ds es : List A) → AreFound kind image end place ds → AreFound kind image end place es → ds ≡ es
   one_run image end place [] [] p q = refl
