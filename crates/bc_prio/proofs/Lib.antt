@@ -7,3 +7,4 @@ pub mod Readings
 pub mod Writings
 pub mod Examples
 pub mod Unique
+pub mod Found

@@ -4,3 +4,4 @@ pub mod Chain
 pub mod Refusal
 pub mod Reading
 pub mod Writes
+pub mod Records
