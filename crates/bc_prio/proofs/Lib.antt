@@ -8,3 +8,4 @@ pub mod Writings
 pub mod Examples
 pub mod Unique
 pub mod Found
+pub mod Example

@@ -5,3 +5,4 @@ pub mod Refusal
 pub mod Reading
 pub mod Writes
 pub mod Records
+pub mod Example

@@ -1,5 +1,5 @@
 //! What the definitions come to, as the contract of a function.
-ghost use Rattle.std.specs.Prelude.{◌≡◌, ◌≢◌, ℕ, ◌+◌, ◌*◌, List, Some, Contains};
+ghost use Rattle.std.specs.Prelude.{◌≡◌, ◌≢◌, ℕ, ◌+◌, ◌*◌, List, [], ◌∷◌, Some, Contains};
 ghost use Rattle.bc_model.specs.Sector.{Image, values_of};
 ghost use Rattle.bc_model.specs.Pattern.{zeros};
 ghost use Rattle.bc_disk.specs.Gens.{Gens};
@@ -8,6 +8,7 @@ ghost use Rattle.bc_disk.specs.declared.gens.BucketRecord.{BucketRecord};
 ghost use Rattle.bc_record.specs.Sectors.{Has, AgreeOn};
 ghost use Rattle.bc_prio.specs.Set.{HasCount, IsWrittenSet, magic_of};
 ghost use Rattle.bc_prio.specs.Records.{SetFound, ChainIn};
+ghost use Rattle.bc_prio.specs.Example.{example_geometry, example_image, example_records};
 ghost use Rattle.bc_prio.specs.Chain.{IsChain};
 
 use bc_disk::disk::Disk;
@@ -52,4 +53,10 @@ pub fn chain_in_image<D: Disk>()
     ensures told { (g : Geometry) (d : D) (image : Image) (first : ℕ) (gens : Gens)
         → (D.facts d).holds ≡ Some image → IsChain g (D.facts d) first gens
         → ChainIn g image first gens }
+{}
+
+/// There is a chain: one set in bucket 3 of a device of 128 buckets.
+pub fn example()
+    ensures { (gens : Gens) × ChainIn example_geometry example_image 3 gens
+        × (gens.chain ≡ 3 ∷ []) × (gens.records ≡ example_records) }
 {}
