@@ -1,10 +1,18 @@
 //! What the definitions come to: each law is the contract of a function.
-ghost use Rattle.std.specs.Prelude.{◌≡◌, ◌+◌, ◌≤◌, ℕ, List, length, drop, slice_range};
+ghost use Rattle.std.specs.Prelude.{◌≡◌, ◌↔◌, ◌+◌, ◌*◌, ◌<◌, ◌≤◌, ℕ, List, [], ◌∷◌, length, drop, slice_range, All};
 ghost use Rattle.bc_bytes.specs.Fields.{number_at};
 ghost use Rattle.bc_jset.specs.declared.entry.JEntry.{JEntry};
 ghost use Rattle.bc_jset.specs.declared.error.JsetError.{JsetError};
 ghost use Rattle.bc_jset.specs.EntryBytes.{IsEntry, IsRefused, StandsAt, bytes_of};
 ghost use Rattle.bc_jset.specs.Example.{example_bytes};
+ghost use Rattle.bc_model.specs.Sector.{Image, values_of};
+ghost use Rattle.bc_model.specs.Pattern.{zeros};
+ghost use Rattle.bc_disk.specs.Bytes.{image_of};
+ghost use Rattle.bc_disk.specs.declared.geometry.Geometry.{Geometry};
+ghost use Rattle.bc_record.specs.Sectors.{Has, AgreeOn};
+ghost use Rattle.bc_jset.specs.Records.{entry_sectors, EntryFound};
+ghost use Rattle.bc_jset.specs.ExampleEntries.{example_geometry, example_image, gapped_image};
+ghost use Rattle.bc_jset.specs.Entries.{AreEntries, CountUp, StandsInJournal, bucket_start};
 
 /// Bytes begin with one entry at most, or they are refused for one reason at most, and never both.
 pub fn one_reading()
@@ -37,4 +45,56 @@ pub fn zeros_are_no_entry()
 pub fn example()
     ensures { (e : JEntry) × IsEntry 1 example_bytes e
         × (e.seq ≡ 7) × (e.last_seq ≡ 5) × (length e.keys ≡ 1) }
+{}
+
+/// Entries in an image: one at most is found at a place, it takes some sectors and lies before the
+/// end, it rests on its own sectors alone, and what was written is found, whatever follows it.
+pub fn entries_in_sectors()
+    ensures one { (g : Geometry) (image : Image) (end place : ℕ) (d e : JEntry)
+        → EntryFound g image end place d → EntryFound g image end place e → d ≡ e }
+    ensures some { (g : Geometry) (e : JEntry) → 0 < entry_sectors g e }
+    ensures fits { (g : Geometry) (image : Image) (end place blocks : ℕ) (e : JEntry)
+        → end ≡ place + g.block * blocks → EntryFound g image end place e
+        → place + entry_sectors g e ≤ end }
+    ensures stays { (g : Geometry) (a b : Image) (end place : ℕ) (e : JEntry)
+        → EntryFound g a end place e → AgreeOn a b place (place + entry_sectors g e)
+        → place + entry_sectors g e ≤ end → EntryFound g b end place e }
+    ensures reads_back { (g : Geometry) (image : Image) (end place n : ℕ) (bytes : List ℕ)
+        (e : JEntry) → length bytes ≡ 512 * n → IsEntry g.set_magic bytes e
+        → Has image place (values_of bytes) → place + n ≤ end → EntryFound g image end place e }
+    ensures zeros { (g : Geometry) (image : Image) (end place : ℕ) (e : JEntry)
+        → image place ≡ zeros → EntryFound g image end place e → ⊥ }
+{}
+
+/// In the image of bytes an entry is found exactly where it stands in the bytes and ends before the
+/// end.
+pub fn found_is_spelled()
+    ensures { (g : Geometry) (bytes : List ℕ) (end place : ℕ) (e : JEntry)
+        → place ≤ end → 512 * end ≤ length bytes → EntryFound g (image_of bytes) end place e
+        ↔ (StandsAt g.set_magic bytes (512 * place) e × (512 * place + bytes_of e ≤ 512 * end)) }
+{}
+
+/// A device has one list of entries at most. Each number from the oldest one's to the newest one's
+/// stands in it once, in order, and each of its entries stands in the journal.
+pub fn one_list()
+    ensures one { (g : Geometry) (image : Image) (ds es : List JEntry)
+        → AreEntries g image ds → AreEntries g image es → ds ≡ es }
+    ensures numbers { (g : Geometry) (image : Image) (es : List JEntry)
+        → AreEntries g image es → CountUp es }
+    ensures stand { (g : Geometry) (image : Image) (es : List JEntry)
+        → AreEntries g image es → All (StandsInJournal g image) es }
+{}
+
+/// The entries of a device rest on its journal alone.
+pub fn entries_stay()
+    ensures { (g : Geometry) (a b : Image) (es : List JEntry) → AreEntries g a es
+        → AgreeOn a b (bucket_start g 0) (bucket_start g g.journal) → AreEntries g b es }
+{}
+
+/// There is a device with two entries, and one where entries are found and none are listed, since two
+/// numbers are missing.
+pub fn example_entries()
+    ensures two { (d e : JEntry) × AreEntries example_geometry example_image (d ∷ e ∷ [])
+        × (d.seq ≡ 1) × (e.seq ≡ 2) }
+    ensures none { (es : List JEntry) → AreEntries example_geometry gapped_image es → ⊥ }
 {}

@@ -2,3 +2,4 @@ pub mod Devices
 pub mod Entries
 pub mod Images
 pub mod Told
+pub mod Listed

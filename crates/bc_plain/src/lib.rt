@@ -5,6 +5,7 @@
 pub mod device;
 pub mod history;
 mod image;
+pub mod journal;
 mod slot;
 #[cfg(test)]
 mod tests;

@@ -1,6 +1,12 @@
-//! Histories and a device of a few sectors, with the answers that were worked out by hand.
+//! Histories, a device of a few sectors and a journal, with the answers that were worked out by hand.
+ghost use Rattle.std.specs.Prelude.{◌<◌};
+
 use crate::device::PlainDevice;
 use crate::history::{floor, is_allowed, is_legal, now};
+use crate::journal::entries_of;
+use bc_bytes::{crc64, put_u16, put_u32, put_u64};
+use bc_disk::geometry::Geometry;
+use bc_jset::JEntry;
 use bc_model::history::Entry;
 use bc_model::values::Values;
 use std::alloc::{AllocError, Global};
@@ -118,5 +124,84 @@ fn a_failed_write_leaves_either_value(rt: HostRuntime) -> Result<(), Fail> {
     for (first, second, may) in [(1, 5, true), (7, 5, true), (7, 2, false), (7, 8, false)] {
         assert_eq!(rt; device.may_leave(&two(first, second)), may);
     }
+    Ok(())
+}
+
+// A cache device of 4 MiB, whose journal is in sectors 64 to 191.
+const GEOMETRY: Geometry = Geometry {
+    block: 1,
+    bucket: 64,
+    nbuckets: 128,
+    first_bucket: 1,
+    journal: 2,
+    set_magic: 1,
+    node_sectors: 64,
+};
+
+// Puts an entry without keys into a sector.
+fn put_entry(image: &mut [u8], sector: usize, seq: u64, last_seq: u64)
+    requires { sector < 192 }
+{
+    if image.len() < 512 * sector + 240 {
+        return;
+    }
+    let entry = &mut image[512 * sector..512 * sector + 240];
+    put_u64(entry, 8, 0x2452_35c1_a362_5033);
+    put_u64(entry, 16, seq);
+    put_u32(entry, 24, 1);
+    put_u64(entry, 32, last_seq);
+    put_u64(entry, 40, 0x9000_0000_0400_0000);
+    put_u64(entry, 104, 0x9000_0000_0400_0000);
+    put_u16(entry, 168, 1);
+    let checksum = crc64(u64::MAX, &entry[8..]);
+    put_u64(entry, 0, checksum);
+}
+
+// The bytes of a device that has only zeros.
+fn empty_device(alloc: Global) -> Result<Vec<u8>, AllocError> {
+    let len = 4_194_304;
+    vec![in alloc; 0u8; len]
+}
+
+// The entries of a device.
+fn listed(alloc: Global, image: &[u8]) -> Result<Option<Vec<JEntry>>, AllocError> {
+    if image.len() < 4_194_304 {
+        return Ok(None);
+    }
+    entries_of(alloc, image, &GEOMETRY)
+}
+
+// Whether these are the numbers of the entries and of the oldest that each needs.
+fn are(list: &[JEntry], numbers: &[(u64, u64)]) -> bool {
+    let mut same = list.len() == numbers.len();
+    for (entry, number) in list.iter().zip(numbers) {
+        same &= (entry.seq, entry.last_seq) == *number;
+    }
+    same
+}
+
+#[test]
+fn entries_are_listed_by_their_numbers(rt: HostRuntime) -> Result<(), Fail> {
+    let mut image = empty_device(rt.alloc())?;
+    assert!(rt; listed(rt.alloc(), &image)?.is_none());
+    // Of two entries with number 5 the lower one counts, and none behind a sector without one.
+    for (sector, seq, last_seq) in [(64, 5, 4), (65, 6, 4), (67, 9, 9), (128, 4, 4), (129, 5, 3)] {
+        assert!(rt; sector < 192);
+        put_entry(&mut image, sector, seq, last_seq);
+    }
+    match listed(rt.alloc(), &image)? {
+        Some(list) => assert!(rt; are(&list, &[(4, 4), (5, 4), (6, 4)])),
+        None => assert!(rt; false),
+    }
+    put_entry(&mut image, 64, 7, 4);
+    match listed(rt.alloc(), &image)? {
+        Some(list) => assert!(rt; are(&list, &[(4, 4), (5, 3), (6, 4), (7, 4)])),
+        None => assert!(rt; false),
+    }
+    // A number is missing, or the newest entry needs a newer one.
+    put_entry(&mut image, 128, 3, 3);
+    assert!(rt; listed(rt.alloc(), &image)?.is_none());
+    put_entry(&mut image, 64, 7, 8);
+    assert!(rt; listed(rt.alloc(), &image)?.is_none());
     Ok(())
 }

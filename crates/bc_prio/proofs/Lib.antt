@@ -7,3 +7,5 @@ pub mod Readings
 pub mod Writings
 pub mod Examples
 pub mod Unique
+pub mod Found
+pub mod Example

@@ -34,10 +34,10 @@ same_bytes g d image bucket xs ys told x y = same_image xs ys (x.whole ∙ sym y
     go s (inr past) = let a = x.whole in let b = y.whole in image_of-past xs s (omega arith) ∙ sym (image_of-past ys s (omega arith))
 
 -- each part of either chain has the same bytes
-abbrev Shared : (P Q : ℕ → List ℕ → Type 0) (k : ℕ) → Type 0
+abbrev pub Shared : (P Q : ℕ → List ℕ → Type 0) (k : ℕ) → Type 0
 Shared P Q k = (bytes : List ℕ) × P k bytes × Q k bytes
 
-record SameSets (P Q : ℕ → List ℕ → Type 0) (part : ℕ) (xs ys : List ℕ) : Type 0 where
+pub record SameSets (P Q : ℕ → List ℕ → Type 0) (part : ℕ) (xs ys : List ℕ) : Type 0 where
   pub chain : xs ≡ ys
   pub shared : (k : ℕ) → part ≤ k → k < part + length xs → Shared P Q k
 
@@ -71,7 +71,7 @@ entry_of priority generation = record { priority = priority; generation = genera
 same_entry : (a b : BucketRecord) → a.priority ≡ b.priority → a.generation ≡ b.generation → a ≡ b
 same_entry a b p q = ap (λ (n : ℕ). entry_of n a.generation) p ∙ ap (λ (n : ℕ). entry_of b.priority n) q
 
-same_records : (g : Geometry) (xs ys : List BucketRecord) → length xs ≡ g.nbuckets → length ys ≡ g.nbuckets
+pub same_records : (g : Geometry) (xs ys : List BucketRecord) → length xs ≡ g.nbuckets → length ys ≡ g.nbuckets
     → ((k : ℕ) → k < sets_in_chain g → Shared (HoldsPart g xs) (HoldsPart g ys) k) → xs ≡ ys
 same_records g xs ys long other shared = ext_get_or (record { priority = 0; generation = 0 }) xs ys (long ∙ sym other) each
   where
@@ -94,7 +94,7 @@ same_records g xs ys long other shared = ext_get_or (record { priority = 0; gene
 abbrev gens_of : List BucketRecord → List ℕ → Gens
 gens_of records chain = record { records = records; chain = chain }
 
-same_gens : (a b : Gens) → a.records ≡ b.records → a.chain ≡ b.chain → a ≡ b
+pub same_gens : (a b : Gens) → a.records ≡ b.records → a.chain ≡ b.chain → a ≡ b
 same_gens a b p q = ap (λ (xs : List BucketRecord). gens_of xs a.chain) p ∙ ap (λ (xs : List ℕ). gens_of b.records xs) q
 
 pub one_chain : (g : Geometry) (d : DiskFacts) (image : Image) (first : ℕ) (a b : Gens) → d.holds ≡ Some image → IsChain g d first a → IsChain g d first b → a ≡ b

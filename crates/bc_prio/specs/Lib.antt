@@ -4,3 +4,5 @@ pub mod Chain
 pub mod Refusal
 pub mod Reading
 pub mod Writes
+pub mod Records
+pub mod Example

@@ -1,8 +1,14 @@
 //! What the definitions come to, as the contract of a function.
-ghost use Rattle.std.specs.Prelude.{◌≡◌, ℕ, Some};
-ghost use Rattle.bc_model.specs.Sector.{Image};
+ghost use Rattle.std.specs.Prelude.{◌≡◌, ◌≢◌, ℕ, ◌+◌, ◌*◌, List, [], ◌∷◌, Some, Contains};
+ghost use Rattle.bc_model.specs.Sector.{Image, values_of};
+ghost use Rattle.bc_model.specs.Pattern.{zeros};
 ghost use Rattle.bc_disk.specs.Gens.{Gens};
 ghost use Rattle.bc_disk.specs.declared.geometry.Geometry.{Geometry};
+ghost use Rattle.bc_disk.specs.declared.gens.BucketRecord.{BucketRecord};
+ghost use Rattle.bc_record.specs.Sectors.{Has, AgreeOn};
+ghost use Rattle.bc_prio.specs.Set.{HasCount, IsWrittenSet, magic_of};
+ghost use Rattle.bc_prio.specs.Records.{SetFound, ChainIn};
+ghost use Rattle.bc_prio.specs.Example.{example_geometry, example_image, example_records};
 ghost use Rattle.bc_prio.specs.Chain.{IsChain};
 
 use bc_disk::disk::Disk;
@@ -13,4 +19,44 @@ pub fn one_chain<D: Disk>()
     ensures { (g : Geometry) (d : D) (image : Image) (first : ℕ) (a b : Gens)
         → (D.facts d).holds ≡ Some image
         → IsChain g (D.facts d) first a → IsChain g (D.facts d) first b → a ≡ b }
+{}
+
+/// Sets in an image, each in a bucket of its own: one at most is found in a bucket, it rests on the
+/// bucket alone, and what was written is found. In a first sector of zeros none is, unless the magic
+/// is zero itself.
+pub fn sets_in_buckets()
+    ensures one { (g : Geometry) (image : Image) (bucket part m n : ℕ)
+        (xs ys : List BucketRecord) → SetFound g image bucket part m xs
+        → SetFound g image bucket part n ys → m ≡ n }
+    ensures stays { (g : Geometry) (a b : Image) (bucket part next : ℕ)
+        (records : List BucketRecord) → SetFound g a bucket part next records
+        → AgreeOn a b (g.bucket * bucket) (g.bucket * bucket + g.bucket)
+        → SetFound g b bucket part next records }
+    ensures reads_back { (g : Geometry) (image : Image) (bucket part next : ℕ) (bytes : List ℕ)
+        (records : List BucketRecord) → IsWrittenSet g records part next bytes
+        → HasCount g part bytes → Has image (g.bucket * bucket) (values_of bytes)
+        → SetFound g image bucket part next records }
+    ensures zeros { (g : Geometry) (image : Image) (bucket part next : ℕ)
+        (records : List BucketRecord) → magic_of g ≢ 0 → image (g.bucket * bucket) ≡ zeros
+        → SetFound g image bucket part next records → ⊥ }
+{}
+
+/// The chain of an image, as a crash leaves one: it says one thing at most, it rests on its own
+/// buckets alone, and the chain of a disk is that of what the disk holds.
+pub fn chain_in_image<D: Disk>()
+    ensures one { (g : Geometry) (image : Image) (first : ℕ) (a b : Gens)
+        → ChainIn g image first a → ChainIn g image first b → a ≡ b }
+    ensures stays { (g : Geometry) (a b : Image) (first : ℕ) (gens : Gens)
+        → ChainIn g a first gens → ((bucket : ℕ) → Contains gens.chain bucket
+        → AgreeOn a b (g.bucket * bucket) (g.bucket * bucket + g.bucket))
+        → ChainIn g b first gens }
+    ensures told { (g : Geometry) (d : D) (image : Image) (first : ℕ) (gens : Gens)
+        → (D.facts d).holds ≡ Some image → IsChain g (D.facts d) first gens
+        → ChainIn g image first gens }
+{}
+
+/// There is a chain: one set in bucket 3 of a device of 128 buckets.
+pub fn example()
+    ensures { (gens : Gens) × ChainIn example_geometry example_image 3 gens
+        × (gens.chain ≡ 3 ∷ []) × (gens.records ≡ example_records) }
 {}

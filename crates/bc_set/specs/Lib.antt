@@ -1,2 +1,3 @@
 pub mod SetBytes
 pub mod Example
+pub mod Records

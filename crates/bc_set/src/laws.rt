@@ -1,10 +1,16 @@
 //! What the definitions come to: each law is the contract of a function.
-ghost use Rattle.std.specs.Prelude.{◌≡◌, ◌+◌, ◌≤◌, ℕ, List, length, drop, slice_range};
+ghost use Rattle.std.specs.Prelude.{◌≡◌, ◌↔◌, ◌+◌, ◌*◌, ◌<◌, ◌≤◌, ℕ, List, length, drop, slice_range};
 ghost use Rattle.bc_bytes.specs.Fields.{number_at};
+ghost use Rattle.bc_model.specs.Sector.{Image, values_of};
+ghost use Rattle.bc_model.specs.Pattern.{zeros};
+ghost use Rattle.bc_disk.specs.Bytes.{image_of};
+ghost use Rattle.bc_disk.specs.declared.geometry.Geometry.{Geometry};
+ghost use Rattle.bc_record.specs.Sectors.{Has, AgreeOn};
 ghost use Rattle.bc_set.specs.declared.error.SetError.{SetError};
 ghost use Rattle.bc_set.specs.declared.set.Set.{Set};
 ghost use Rattle.bc_set.specs.declared.set.SetKind.{SetKind};
 ghost use Rattle.bc_set.specs.SetBytes.{IsSet, IsRefused, StandsAt, bytes_of};
+ghost use Rattle.bc_set.specs.Records.{set_sectors, SetFound};
 ghost use Rattle.bc_set.specs.Example.{example_bytes};
 
 /// Bytes begin with one set at most, or they are refused for one reason at most, and never both.
@@ -39,4 +45,36 @@ pub fn zeros_are_no_set()
 pub fn example()
     ensures { (s : Set) × IsSet 0x80003 1 SetKind.Extents example_bytes s
         × (s.seq ≡ 65537) × (length s.keys ≡ 1) }
+{}
+
+/// Sets in an image: one at most is found at a place, it takes some sectors and lies before the end,
+/// it rests on its own sectors alone, and what was written is found, whatever follows it.
+pub fn sets_in_sectors()
+    ensures one { (g : Geometry) (start : ℕ) (kind : SetKind) (image : Image) (end place : ℕ)
+        (s t : Set) → SetFound g start kind image end place s
+        → SetFound g start kind image end place t → s ≡ t }
+    ensures some { (g : Geometry) (s : Set) → 0 < set_sectors g s }
+    ensures fits { (g : Geometry) (start : ℕ) (kind : SetKind) (image : Image)
+        (end place blocks : ℕ) (s : Set) → end ≡ place + g.block * blocks
+        → SetFound g start kind image end place s → place + set_sectors g s ≤ end }
+    ensures stays { (g : Geometry) (start : ℕ) (kind : SetKind) (a b : Image) (end place : ℕ)
+        (s : Set) → SetFound g start kind a end place s
+        → AgreeOn a b place (place + set_sectors g s) → place + set_sectors g s ≤ end
+        → SetFound g start kind b end place s }
+    ensures reads_back { (g : Geometry) (start : ℕ) (kind : SetKind) (image : Image)
+        (end place n : ℕ) (bytes : List ℕ) (s : Set) → length bytes ≡ 512 * n
+        → IsSet start g.set_magic kind bytes s → Has image place (values_of bytes)
+        → place + n ≤ end → SetFound g start kind image end place s }
+    ensures zeros { (g : Geometry) (start : ℕ) (kind : SetKind) (image : Image)
+        (end place : ℕ) (s : Set) → image place ≡ zeros
+        → SetFound g start kind image end place s → ⊥ }
+{}
+
+/// In the image of bytes a set is found exactly where it stands in the bytes and ends before the end.
+pub fn found_is_spelled()
+    ensures { (g : Geometry) (start : ℕ) (kind : SetKind) (bytes : List ℕ) (end place : ℕ)
+        (s : Set) → place ≤ end → 512 * end ≤ length bytes
+        → SetFound g start kind (image_of bytes) end place s
+        ↔ (StandsAt start g.set_magic kind bytes (512 * place) s
+        × (512 * place + bytes_of s ≤ 512 * end)) }
 {}

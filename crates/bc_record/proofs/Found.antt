@@ -1,0 +1,109 @@
+-- What is found of a kind whose records rest on their own bytes alone.
+use Rattle.std.proofs.Common.{◌≡◌, ◌↔◌, ℕ, ◌+◌, ◌-◌, ◌*◌, ◌<◌, ◌≤◌, List, [], ◌∷◌, length, take, drop, refl, sym, subst, ap, ◌∙◌, arith}
+use Rattle.std.specs.Prelude.{All, ◌/◌}
+use Rattle.std.proofs.Math.Nat.{mul-add, lt_of_mul-lt-mul_left}
+use Rattle.std.proofs.lemmas.List.{take-take}
+use Rattle.std.proofs.lemmas.List.Elements.{All-nil, All-cons}
+use Rattle.bc_model.specs.Sector.{Image, values_of}
+use Rattle.bc_disk.specs.Bytes.{image_of}
+use Rattle.bc_record.specs.Sectors.{bytes_to, Has, AgreeOn}
+use Rattle.bc_record.specs.Kind.{Kind, sectors_of, IsFound, AreFound}
+use Rattle.bc_record.proofs.Blocks.{blocks_hold, blocks_within, some_blocks}
+use Rattle.bc_record.proofs.Parts.{length-bytes_in, bytes_in-agree, bytes_in-front, bytes_in-has, bytes_to-agree, bytes_to-image_of}
+
+pub record IsCodec {A : Type 0} (kind : Kind A) : Type 0 where
+  pub block : 0 < kind.block
+  pub some : (e : A) → 0 < kind.bytes e
+  pub one : (bytes : List ℕ) (d e : A) → kind.Begins bytes d → kind.Begins bytes e → d ≡ e
+  pub fits : (bytes : List ℕ) (e : A) → kind.Begins bytes e → kind.bytes e ≤ length bytes
+  pub stays : (old new : List ℕ) (e : A) → kind.Begins old e → take (kind.bytes e) new ≡ take (kind.bytes e) old → kind.Begins new e
+
+module _ {A : Type 0} (kind : Kind A) (codec : IsCodec kind) where
+  pub takes_some : (e : A) → 0 < sectors_of kind e
+  takes_some e = some_blocks kind.block (kind.bytes e) codec.block (codec.some e)
+
+  pub one_found : (image : Image) (end place : ℕ) (d e : A) → IsFound kind image end place d → IsFound kind image end place e → d ≡ e
+  one_found image end place d e = codec.one (bytes_to image end place) d e
+
+  -- its bytes lie in front of the end
+  found_bytes : (image : Image) (end place : ℕ) (e : A) → IsFound kind image end place e → kind.bytes e ≤ 512 * (end - place)
+  found_bytes image end place e found =
+      let fits = codec.fits (bytes_to image end place) e found in
+      omega (arith, fits, length-bytes_in image place (end - place))
+
+  pub found_fits : (image : Image) (end place n : ℕ) (e : A) → end ≡ place + kind.block * n → IsFound kind image end place e → place + sectors_of kind e ≤ end
+  found_fits image end place n e whole found =
+      let room = found_bytes image end place e found in
+      let width : end - place ≡ kind.block * n = omega (arith, whole) in
+      let within = blocks_within kind.block (kind.bytes e) n codec.block (omega (arith, room, ap (λ j. 512 * j) width)) in
+      omega (arith, within, whole)
+
+  -- a record that begins some sectors is found where another image has what it takes of them
+  pub found_stays : (a b : Image) (end place : ℕ) (e : A) → IsFound kind a end place e → AgreeOn a b place (place + sectors_of kind e) → place + sectors_of kind e ≤ end → IsFound kind b end place e
+  found_stays a b end place e found same inside =
+      let n = sectors_of kind e in
+      let k = kind.bytes e in
+      let held = blocks_hold kind.block k codec.block in
+      codec.stays (bytes_to a end place) (bytes_to b end place) e found
+      (bytes_in-front b place n (end - place) k (omega (arith, inside)) held
+      ∙ ap (take k) (sym (bytes_in-agree a b place n same))
+      ∙ sym (bytes_in-front a place n (end - place) k (omega (arith, inside)) held))
+
+  pub reads_back : (image : Image) (end place n : ℕ) (bytes : List ℕ) (e : A) → length bytes ≡ 512 * n → kind.Begins bytes e → Has image place (values_of bytes) → place + n ≤ end → IsFound kind image end place e
+  reads_back image end place n bytes e whole begins has inside =
+      let k = kind.bytes e in
+      let fits = codec.fits bytes e begins in
+      codec.stays bytes (bytes_to image end place) e begins
+      (bytes_in-front image place n (end - place) k (omega (arith, inside)) (omega (arith, fits, whole)) ∙ ap (take k) (bytes_in-has image place n bytes whole has))
+
+  -- in the image of bytes a record is found exactly where it stands in them and ends before the end
+  pub found_in_bytes : (bytes : List ℕ) (end place : ℕ) (e : A) → place ≤ end → 512 * end ≤ length bytes
+      → IsFound kind (image_of bytes) end place e ↔ (kind.Begins (drop (512 * place) bytes) e × (512 * place + kind.bytes e ≤ 512 * end))
+  found_in_bytes bytes end place e low room =
+      let part = bytes_to (image_of bytes) end place in
+      let rest = drop (512 * place) bytes in
+      let n = kind.bytes e in
+      let cut : n ≤ 512 * (end - place) → take n part ≡ take n rest =
+      λ within. ap (take n) (bytes_to-image_of bytes end place low room) ∙ take-take n (512 * (end - place)) rest within in
+      ((λ found. (let within = found_bytes (image_of bytes) end place e found in (codec.stays part rest e found (sym (cut within)), omega (arith, within)))),
+       (λ stands. codec.stays rest part e stands.0 (cut (omega (arith, stands.1)))))
+
+  pub one_run : (image : Image) (end place : ℕ) (ds es : List A) → AreFound kind image end place ds → AreFound kind image end place es → ds ≡ es
+  one_run image end place [] [] p q = refl
+  one_run image end place [] (e ∷ es) p q = absurd (p e q.0)
+  one_run image end place (d ∷ ds) [] p q = absurd (q d p.0)
+  one_run image end place (d ∷ ds) (e ∷ es) p q =
+      let same : d ≡ e = one_found image end place d e p.0 q.0 in
+      let there : AreFound kind image end (place + sectors_of kind d) es = subst (λ (x : A). AreFound kind image end (place + sectors_of kind x) es) (sym same) q.1 in
+      ap (λ (x : A). x ∷ ds) same ∙ ap (λ (xs : List A). e ∷ xs) (one_run image end (place + sectors_of kind d) ds es p.1 there)
+
+  -- ---- records behind each other
+
+  pub run_stays : (a b : Image) (from end place : ℕ) (es : List A) → from ≤ place → AgreeOn a b from end → AreFound kind a end place es → AreFound kind b end place es
+  run_stays a b from end place [] low same p = λ e found. p e (subst (λ (bs : List ℕ). kind.Begins bs e) (sym (bytes_to-agree a b from end place low same)) found)
+  run_stays a b from end place (e ∷ es) low same p = (
+    subst (λ (bs : List ℕ). kind.Begins bs e) (bytes_to-agree a b from end place low same) p.0,
+    run_stays a b from end (place + sectors_of kind e) es (omega arith) same p.1,
+  )
+
+  -- each is found at a block and whole
+  abbrev pub IsPlaced : Image → ℕ → ℕ → A → Type 0
+  IsPlaced image end start e = (k : ℕ) × IsFound kind image end (start + kind.block * k) e × (start + kind.block * k + sectors_of kind e ≤ end)
+
+  run_places_from : (image : Image) (end start n k place : ℕ) (es : List A) → end ≡ start + kind.block * n → place ≡ start + kind.block * k → k ≤ n → AreFound kind image end place es → All (IsPlaced image end start) es
+  run_places_from image end start n k place [] ends here inside p = All-nil (IsPlaced image end start)
+  run_places_from image end start n k place (e ∷ es) ends here inside p =
+      let m = (kind.bytes e + (512 * kind.block - 1)) / (512 * kind.block) in
+      let split : kind.block * n ≡ kind.block * k + kind.block * (n - k) = ap (λ j. kind.block * j) (let e : n ≡ k + (n - k) = omega arith in e) ∙ mul-add kind.block k (n - k) in
+      let fits : place + kind.block * m ≤ end = found_fits image end place (n - k) e (omega (arith, ends, here, split)) p.0 in
+      let next : kind.block * (k + m) ≡ kind.block * k + kind.block * m = mul-add kind.block k m in
+      let more : kind.block * (n + 1) ≡ kind.block * n + kind.block * 1 = mul-add kind.block n 1 in
+      let some = codec.block in
+      let below : k + m < n + 1 = lt_of_mul-lt-mul_left kind.block (omega (arith, fits, next, more, ends, here, some)) in
+      All-cons (IsPlaced image end start) e es
+      (k, subst (λ (q : ℕ). IsFound kind image end q e) here p.0, omega (arith, fits, here))
+      (run_places_from image end start n (k + m) (place + kind.block * m) es ends (omega (arith, here, next)) (omega (arith, below)) p.1)
+
+  pub run_places : (image : Image) (end start n : ℕ) (es : List A) → end ≡ start + kind.block * n → AreFound kind image end start es → All (IsPlaced image end start) es
+  run_places image end start n es ends p =
+      run_places_from image end start n 0 start es ends (omega arith) (omega arith) p
