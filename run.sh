@@ -1,6 +1,6 @@
 #!/usr/bin/env bash
-# Builds the proved program and serves a sample trace with it, over image files in a temporary folder. It needs the Rattle
-# toolchain that README.md names.
+# Builds the proved program, serves sample traces with it, and makes and shows a pair, over image files in a temporary folder. It
+# needs the Rattle toolchain that README.md names.
 set -euo pipefail
 cd "$(dirname "$0")"
 
@@ -28,3 +28,17 @@ serve "A run that writes sectors 0 to 7 with stamp 7, reads sectors 0 to 9 and f
     '1 w 0 8 7' '1 r 0 10' '1 f'
 serve "A second run over the same files, which reads what the first one wrote and then beyond the last of the 64 data sectors:" \
     '1 r 0 10' '1 r 63 2'
+
+# command WORD.. shows a run of a command over a second pair of files.
+command() {
+    echo "    bcache CACHE BACKING $*"
+    "$bcache" "$folder/cache2.img" "$folder/backing2.img" "$@" | sed 's/^/ -> /'
+}
+
+truncate -s 4M "$folder/cache2.img"
+truncate -s 2105344 "$folder/backing2.img"
+echo
+echo "A cache device of 4 MiB and a backing device are formatted as a pair, and shown:"
+command format --set 5e70000000000000000000000000005e --cuuid ca000000000000000000000000000ca0 \
+    --buuid ba0000000000000000000000000000ba --block 1 --bucket 64
+command show

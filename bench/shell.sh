@@ -70,6 +70,19 @@ try_words 'neither file, and an unknown command' 6 'fault cache' none.img none.i
 try_words 'a folder in the place of the cache file' 6 'fault cache' a_folder backing.img serve
 try_words 'a folder in the place of the backing file' 6 'fault backing' cache.img a_folder serve
 
+ids=(--set 5e70000000000000000000000000005e --cuuid ca000000000000000000000000000ca0 --buuid ba0000000000000000000000000000ba)
+try_words 'format with no further word' 2 usage cache.img backing.img format
+try_words 'a set of zeros' 2 usage cache.img backing.img format --set 00000000000000000000000000000000 "${ids[@]:2}" --block 1 --bucket 64
+try_words 'upper-case digits' 2 usage cache.img backing.img format --set 5E70000000000000000000000000005E "${ids[@]:2}" --block 1 --bucket 64
+try_words 'the options in another order' 2 usage cache.img backing.img format "${ids[@]}" --bucket 64 --block 1
+try_words 'a block of three sectors' 2 usage cache.img backing.img format "${ids[@]}" --block 3 --bucket 64
+try_words 'a bucket beyond any number' 2 usage cache.img backing.img format "${ids[@]}" --block 1 --bucket 18446744073709551680
+try_words 'a further word behind format' 2 usage cache.img backing.img format "${ids[@]}" --block 1 --bucket 64 now
+try_words 'a further word behind show' 2 usage cache.img backing.img show now
+try_words 'format over an empty cache file' 4 'superblock cache 7' cache.img backing.img format "${ids[@]}" --block 1 --bucket 64
+try_words 'adopt over an empty cache file' 4 'superblock cache 9' cache.img backing.img adopt
+try_words 'show over an empty cache file' 4 'superblock cache 9' cache.img backing.img show
+
 try_trace 'an unknown letter behind a write' 3 'trace 2 2' '1 w 0 1 1\n1 x 0 1\n'
 try_trace 'an empty line' 3 'trace 1 2' '\n1 w 0 1 1\n'
 try_trace 'a stamp of zero behind a write' 3 'trace 2 2' '1 w 0 1 1\n1 w 0 1 0\n'
@@ -114,6 +127,23 @@ try_trace 'a version that is not read' 4 'superblock backing 3' '1 w 0 1 1\n'
 change 24 '\x00'
 try_trace 'no superblock' 4 'superblock backing 1' '1 w 0 1 1\n'
 try_trace 'no superblock, and a trace that is refused' 3 'trace 1 2' 'w 0 1 1\n'
+
+new_files 16
+truncate -s 4M cache.img
+try_words 'format over a backing file with no data sector' 4 'superblock backing 14' cache.img backing.img format "${ids[@]}" --block 1 --bucket 64
+new_files 80
+truncate -s 4M cache.img
+"$bcache" cache.img backing.img format "${ids[@]}" --block 1 --bucket 64
+try_words 'adopt of a pair in use' 4 'superblock cache 18' cache.img backing.img adopt
+try_words 'show to a sink that takes it' 0 "$("$bcache" cache.img backing.img show)" cache.img backing.img show
+try_trace 'a pair with no journal entry' 5 'image 2' '1 w 0 1 1\n'
+change 60 '\x01'
+try_trace 'a pair whose superblock is torn' 4 'superblock backing 2' '1 w 0 1 1\n'
+memory=12000
+new_files 80
+truncate -s 2G cache.img
+try_words 'no memory for a bucket of 16 MiB' 9 memory cache.img backing.img format "${ids[@]}" --block 1 --bucket 32768
+memory=unlimited
 
 [ "$differing" = 0 ] || { echo "$differing of $cases cases differ"; exit 1; }
 echo "ok: $cases cases"
