@@ -9,13 +9,14 @@ use Rattle.bc_disk.specs.Device.{HasRisen, next_count}
 use Rattle.bc_output.specs.Put.{IsWriteFault}
 use Rattle.bc_output.specs.declared.put.WriteFault.{WriteFault}
 use Rattle.bc_output.specs.declared.put.WriteFault.TheVariants.{Failed, TookNothing}
-use Rattle.bc_pair.specs.Causes.{AdoptLeaves, AreKept, KeepsOthers}
+use Rattle.bc_disk.specs.declared.disk.Device.TheVariants as device
+use Rattle.bc_pair.specs.Causes.{AdoptLeaves, AreKept, FaultRose, KeepsOthers}
 use Rattle.bc_pair.specs.declared.error.PairError.{PairError}
 use Rattle.bc_pair.specs.declared.error.PairError.TheVariants as errors
 use Rattle.bc_top.specs.Ended.{HasStopped}
-use Rattle.bc_top.specs.Pairs.{EndsPrinting, EndsSilently}
+use Rattle.bc_top.specs.Pairs.{EndsPrinting, EndsSilently, IsStopped}
 use Rattle.bc_top.specs.Stops.{IsRefusal}
-use Rattle.bc_top.specs.Top.{AreSame}
+use Rattle.bc_top.specs.Top.{AreSame, OneHasRisen}
 use Rattle.bc_top.proofs.Raising.{next_rises}
 use Rattle.bc_top.proofs.Settled.{same_kept}
 
@@ -69,3 +70,23 @@ printing_stops (Ok text) status old new (inr cut) is = fault_stops cut.1.0 _ old
 printing_stops (Err (errors.Superblock d why)) status old new ends is = absurd (let four = ends.0 in omega arith)
 printing_stops (Err (errors.Fault d)) status old new ends is = absurd (let six = ends.0 in omega arith)
 printing_stops (Err errors.Memory) status old new ends is = absurd (let nine = ends.0 in omega arith)
+
+-- a command that isn't a trace's, where no device failed and the sink took all
+abbrev pub EndsQuietly : ℕ → Type 0
+EndsQuietly status = (status ≡ 0) ⊎ (status ≡ 2) ⊎ (status ≡ 4) ⊎ (status ≡ 9)
+
+module _ (cache cache' backing backing' : DiskFacts) (still : OneHasRisen cache cache' backing backing' → ⊥) where
+  stopped_quietly : (e : PairError) (status : ℕ) (old new : StreamFacts) → FaultRose e cache cache' backing backing' → IsStopped e status old new → EndsQuietly status
+  stopped_quietly (errors.Superblock d why) status old new rose ends = inr (inr (inl ends.0))
+  stopped_quietly (errors.Fault device.Cache) status old new rose ends = absurd (still (inl rose.0))
+  stopped_quietly (errors.Fault device.Backing) status old new rose ends = absurd (still (inr rose.1))
+  stopped_quietly errors.Memory status old new rose ends = inr (inr (inr ends.0))
+
+  pub silent_ends : (answer : Result (Unit {0}) PairError) (status : ℕ) (old new : StreamFacts) → IfErr answer (λ e. FaultRose e cache cache' backing backing') → EndsSilently answer status old new → EndsQuietly status
+  silent_ends (Ok u) status old new rose ends = inl ends.0
+  silent_ends (Err e) status old new rose ends = stopped_quietly e status old new rose ends
+
+  pub printing_ends : (answer : Result (String Global) PairError) (status : ℕ) (old new : StreamFacts) → IfErr answer (λ e. FaultRose e cache cache' backing backing') → EndsPrinting answer status old new → (HasStopped old new → ⊥) → EndsQuietly status
+  printing_ends (Ok text) status old new rose (inl done) takes = inl done.0
+  printing_ends (Ok text) status old new rose (inr cut) takes = absurd (takes (fault_stops cut.1.0 _ old new cut.1.1))
+  printing_ends (Err e) status old new rose ends takes = stopped_quietly e status old new rose ends

@@ -85,6 +85,11 @@ pub fn bcache<R: Wait, C: Disk + Drop, B: Disk + Drop, S: Source, K: Sink>(
         → (HasStopped (K.facts out.old) (K.facts out.new) → ⊥)
         → (result.status ≡ 0) ⊎ (result.status ≡ 9) }
 
+    ensures ends { (IsServe words.now → ⊥)
+        → (OneHasRisen (C.facts cache) (C.facts result.cache) (B.facts backing) (B.facts result.backing) → ⊥)
+        → (HasStopped (K.facts out.old) (K.facts out.new) → ⊥)
+        → (result.status ≡ 0) ⊎ (result.status ≡ 2) ⊎ (result.status ≡ 4) ⊎ (result.status ≡ 9) }
+
     // Over a device that tells what it holds the history is legal, and whatever a crash leaves shows
     // for each sector a value no older than the last acknowledged flush; at status 0, its last write.
     ensures survives { IfSome result.pass (λ pass. IfTold (B.facts backing).holds

@@ -3,7 +3,7 @@ use Rattle.std.specs.Prelude.{Ok}
 use Rattle.bc_words.specs.declared.command.Command.{Command}
 use Rattle.bc_words.specs.declared.command.Command.TheVariants.{Format, Serve}
 use Rattle.bc_top.specs.Top.{Does}
-use Rattle.bc_top.proofs.Pairing.{adopt_unwritten, keeps_kept, printing_stops, same_both}
+use Rattle.bc_top.proofs.Pairing.{adopt_unwritten, keeps_kept, printing_ends, printing_stops, same_both, silent_ends}
 use Rattle.bc_top.proofs.top.bcache.Goals as goal
 
 pub returns-in-Ok-Format-clause-does : goal.returns-in-Ok-Format-clause-does
@@ -33,3 +33,18 @@ returns-in-Err-Usage-clause-stopped g c = λ serves. absurd (let read = c.read_w
 
 pub returns-in-Err-Usage-clause-complete : goal.returns-in-Err-Usage-clause-complete
 returns-in-Err-Usage-clause-complete g c = λ serves. absurd (let read = c.read_words.ensures.read Serve tt serves in cc)
+
+pub returns-in-Ok-Format-clause-ends : goal.returns-in-Ok-Format-clause-ends
+returns-in-Ok-Format-clause-ends g c = λ other still takes.
+    let did = c.format_pair.ensures.formatted in
+    silent_ends (g.C.Disk.facts c.args.cache) (g.C.Disk.facts c.format_pair.result.cache) (g.B.Disk.facts c.args.backing) (g.B.Disk.facts c.format_pair.result.backing) still did.answer c.format_pair.result.status (g.K.Sink.facts c.args.out.now) (g.K.Sink.facts c.format_pair.new.out) did.faults did.ends
+
+pub returns-in-Ok-Adopt-clause-ends : goal.returns-in-Ok-Adopt-clause-ends
+returns-in-Ok-Adopt-clause-ends g c = λ other still takes.
+    let did = c.adopt_pair.ensures.adopted in
+    silent_ends (g.C.Disk.facts c.args.cache) (g.C.Disk.facts c.adopt_pair.result.cache) (g.B.Disk.facts c.args.backing) (g.B.Disk.facts c.adopt_pair.result.backing) still did.answer c.adopt_pair.result.status (g.K.Sink.facts c.args.out.now) (g.K.Sink.facts c.adopt_pair.new.out) did.faults did.ends
+
+pub returns-in-Ok-Show-clause-ends : goal.returns-in-Ok-Show-clause-ends
+returns-in-Ok-Show-clause-ends g c = λ other still takes.
+    let did = c.print_pair.ensures.shown in
+    printing_ends (g.C.Disk.facts c.args.cache) (g.C.Disk.facts c.print_pair.result.cache) (g.B.Disk.facts c.args.backing) (g.B.Disk.facts c.print_pair.result.backing) still did.answer c.print_pair.result.status (g.K.Sink.facts c.args.out.now) (g.K.Sink.facts c.print_pair.new.out) did.faults did.ends takes
