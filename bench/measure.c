@@ -1,6 +1,7 @@
 /*
  * measure COMMAND WORD.. runs a command with this program's own input and output, and then says on standard error how many
- * microseconds it took and how many kilobytes it had at most. It ends with the command's status.
+ * microseconds it took, how many of processor time it and the system for it worked, and how many kilobytes it had at most. It
+ * ends with the command's status.
  */
 #include <stdio.h>
 #include <stdlib.h>
@@ -8,6 +9,11 @@
 #include <sys/wait.h>
 #include <time.h>
 #include <unistd.h>
+
+static long micros_of(struct timeval time)
+{
+    return time.tv_sec * 1000000 + time.tv_usec;
+}
 
 int main(int many, char **words)
 {
@@ -26,6 +32,6 @@ int main(int many, char **words)
         return 2;
     clock_gettime(CLOCK_MONOTONIC, &end);
     long micros = (end.tv_sec - begin.tv_sec) * 1000000 + (end.tv_nsec - begin.tv_nsec) / 1000;
-    fprintf(stderr, "%ld %ld\n", micros, used.ru_maxrss);
+    fprintf(stderr, "%ld %ld %ld\n", micros, micros_of(used.ru_utime) + micros_of(used.ru_stime), used.ru_maxrss);
     return WIFEXITED(status) ? WEXITSTATUS(status) : 128 + WTERMSIG(status);
 }

@@ -105,8 +105,11 @@ printf 'torn' >> backing.img
 try_trace 'a torn last sector' 0 $'zerox1\nout-of-range\nout-of-range' '1 r 63 1\n1 r 63 2\n1 w 64 1 5\n'
 
 change 104 '\x01'
-try_trace 'a device that a cache stands before' 4 'superblock cache 15' '1 w 0 1 1\n'
+try_trace 'a checksum that is wrong' 4 'superblock backing 2' '1 w 0 1 1\n'
+change 0 '\x86\xed\xc4\x23\x36\xec\x52\x5a'
+try_trace 'a device that asks for a cache, and an empty cache file' 4 'superblock cache 9' '1 w 0 1 1\n'
 change 16 '\x02'
+change 0 '\x70\x25\x78\xac\xd9\x2c\x7f\x5c'
 try_trace 'a version that is not read' 4 'superblock backing 3' '1 w 0 1 1\n'
 change 24 '\x00'
 try_trace 'no superblock' 4 'superblock backing 1' '1 w 0 1 1\n'

@@ -5,13 +5,10 @@ use Rattle.bc_model.specs.Sector.{Value}
 use Rattle.bc_model.specs.declared.history.Entry.{Entry}
 use Rattle.bc_disk.specs.declared.disk.Device.{Device}
 use Rattle.bc_core.specs.declared.event.Event.{Event}
-use Rattle.bc_core.specs.declared.event.Written.{Written}
 use Rattle.bc_core.specs.declared.event.Written.TheVariants.{Values}
-use Rattle.bc_core.specs.declared.pass.Kept.{Kept}
-use Rattle.bc_core.specs.declared.pass.Kept.TheVariants as kept
 use Rattle.bc_core.specs.declared.pass.Record.{Record}
 use Rattle.bc_core.specs.declared.pass.Record.TheVariants as told
-use Rattle.bc_core.specs.Pass.{entry_of, entries_of, halt_after, halt_of, beside_at, write_at, answer_at, tried_at, written_at, event_of, events_in, KeptIn, StandsIn, AllStandIn, TellsIn}
+use Rattle.bc_core.specs.Pass.{entry_of, entries_of, halt_after, halt_of, beside_at, write_at, answer_at, fault_at, event_of, events_in, StandsIn, AllStandIn, TellsIn}
 
 pub length_events : (es : List Entry) (vs : List (List Value)) (rs : List Record) → length (events_in es vs rs) ≡ length rs
 length_events es vs [] = refl
@@ -27,11 +24,6 @@ get_end [] x = refl
 get_end (y ∷ ys) x = get_end ys x
 
 module _ (es xs : List Entry) (vs ys : List (List Value)) where
-  written_grown : (what : Kept) → KeptIn (length es) (length vs) what → written_at (es ++ xs) (vs ++ ys) what ≡ written_at es vs what
-  written_grown kept.Nothing h = refl
-  written_grown (kept.Entry place) h = ap (λ (o : Option Entry). tried_at o) (get_front es xs place h)
-  written_grown (kept.Beside place) h = ap (λ (o : Option (List Value)). Some (Values (beside_at o))) (get_front vs ys place h)
-
   event_grown : (r : Record) → StandsIn (length es) (length vs) r → event_of (es ++ xs) (vs ++ ys) r ≡ event_of es vs r
   event_grown (told.Claim seat first count how) h = refl
   event_grown (told.Release seat) h = refl
@@ -42,7 +34,9 @@ module _ (es xs : List Entry) (vs ys : List (List Value)) where
   event_grown (told.Answer seat place) h = ap (λ (o : Option Entry). answer_at seat o) (get_front es xs place h)
   event_grown (told.FlushFrom seat of) h = refl
   event_grown (told.FlushDone seat of) h = refl
-  event_grown (told.DeviceFault seat device call at what tried) h = ap (λ (o : Option Written). Rattle.bc_core.specs.declared.event.Event.TheVariants.DeviceFault seat device call at o tried) (written_grown what h)
+  event_grown (told.LineFault device seat place) h = ap (λ (o : Option Entry). fault_at device seat o) (get_front es xs place h)
+  event_grown (told.PlainFault device call tried seat at place) h = ap (λ (o : Option (List Value)). Rattle.bc_core.specs.declared.event.Event.TheVariants.DeviceFault seat device call at (Some (Values (beside_at o))) tried) (get_front vs ys place h)
+  event_grown (told.BareFault device call tried seat at) h = refl
 
   pub events_grown : (rs : List Record) (r : Record) → AllStandIn (length es) (length vs) rs → events_in (es ++ xs) (vs ++ ys) (rs ++ r ∷ []) ≡ events_in es vs rs ++ event_of (es ++ xs) (vs ++ ys) r ∷ []
   events_grown [] r h = refl
@@ -61,11 +55,6 @@ halt_from h (x ∷ xs) e = halt_from (halt_after h x) xs e
 pub halt_more : (evs : List Event) (e : Event) → halt_of (evs ++ e ∷ []) ≡ halt_after (halt_of evs) e
 halt_more evs e = halt_from None evs e
 
-kept_more : (a b c d : ℕ) → a ≤ c → b ≤ d → (what : Kept) → KeptIn a b what → KeptIn c d what
-kept_more a b c d p q kept.Nothing h = tt
-kept_more a b c d p q (kept.Entry place) h = omega arith
-kept_more a b c d p q (kept.Beside place) h = omega arith
-
 stands_more : (a b c d : ℕ) → a ≤ c → b ≤ d → (r : Record) → StandsIn a b r → StandsIn c d r
 stands_more a b c d p q (told.Claim seat first count how) h = tt
 stands_more a b c d p q (told.Release seat) h = tt
@@ -76,7 +65,9 @@ stands_more a b c d p q (told.BackingBarrier seat) h = tt
 stands_more a b c d p q (told.Answer seat place) h = omega arith
 stands_more a b c d p q (told.FlushFrom seat of) h = tt
 stands_more a b c d p q (told.FlushDone seat of) h = tt
-stands_more a b c d p q (told.DeviceFault seat device call at what tried) h = kept_more a b c d p q what h
+stands_more a b c d p q (told.LineFault device seat place) h = omega arith
+stands_more a b c d p q (told.PlainFault device call tried seat at place) h = omega arith
+stands_more a b c d p q (told.BareFault device call tried seat at) h = tt
 
 pub all_stand_more : (a b c d : ℕ) → a ≤ c → b ≤ d → (rs : List Record) (r : Record) → AllStandIn a b rs → StandsIn c d r → AllStandIn c d (rs ++ r ∷ [])
 all_stand_more a b c d p q [] r h new = (new, tt)

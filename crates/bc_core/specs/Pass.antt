@@ -11,8 +11,6 @@ use Rattle.bc_core.specs.declared.event.Written.{Written}
 use Rattle.bc_core.specs.declared.event.Written.TheVariants.{Values}
 use Rattle.bc_core.specs.declared.event.Event.{Event}
 use Rattle.bc_core.specs.declared.event.Event.TheVariants as event
-use Rattle.bc_core.specs.declared.pass.Kept.{Kept}
-use Rattle.bc_core.specs.declared.pass.Kept.TheVariants as kept
 use Rattle.bc_core.specs.declared.pass.Record.{Record}
 use Rattle.bc_core.specs.declared.pass.Record.TheVariants as told
 use Rattle.bc_core.specs.Step.{halted_by}
@@ -86,18 +84,13 @@ answer_at seat (Some (entry.FlushFrom worker line)) = event.Release seat
 answer_at seat (Some (entry.FlushDone worker line)) = event.Release seat
 answer_at seat (Some (entry.Tried first values)) = event.Release seat
 
-abbrev pub tried_at : Option Entry → Option Written
-tried_at None = None
-tried_at (Some (entry.Write worker line first values)) = None
-tried_at (Some (entry.Read worker line first values)) = None
-tried_at (Some (entry.FlushFrom worker line)) = None
-tried_at (Some (entry.FlushDone worker line)) = None
-tried_at (Some (entry.Tried first values)) = Some (Values values)
-
-abbrev pub written_at : List Entry → List (List Value) → Kept → Option Written
-written_at entries beside kept.Nothing = None
-written_at entries beside (kept.Entry place) = tried_at (slice_get entries place)
-written_at entries beside (kept.Beside place) = Some (Values (beside_at (slice_get beside place)))
+abbrev pub fault_at : Device → ℕ → Option Entry → Event
+fault_at device seat None = event.Release seat
+fault_at device seat (Some (entry.Write worker line first values)) = event.Release seat
+fault_at device seat (Some (entry.Read worker line first values)) = event.Release seat
+fault_at device seat (Some (entry.FlushFrom worker line)) = event.Release seat
+fault_at device seat (Some (entry.FlushDone worker line)) = event.Release seat
+fault_at device seat (Some (entry.Tried first values)) = event.DeviceFault seat device Write first (Some (Values values)) true
 
 -- the event that a record tells, beside these entries and values
 abbrev pub event_of : List Entry → List (List Value) → Record → Event
@@ -110,18 +103,15 @@ event_of entries beside (told.BackingBarrier seat) = event.BackingBarrier seat
 event_of entries beside (told.Answer seat place) = answer_at seat (slice_get entries place)
 event_of entries beside (told.FlushFrom seat of) = event.FlushFrom seat of
 event_of entries beside (told.FlushDone seat of) = event.FlushDone seat of
-event_of entries beside (told.DeviceFault seat device call at what tried) = event.DeviceFault seat device call at (written_at entries beside what) tried
+event_of entries beside (told.LineFault device seat place) = fault_at device seat (slice_get entries place)
+event_of entries beside (told.PlainFault device call tried seat at place) = event.DeviceFault seat device call at (Some (Values (beside_at (slice_get beside place)))) tried
+event_of entries beside (told.BareFault device call tried seat at) = event.DeviceFault seat device call at None tried
 
 abbrev pub events_in : List Entry → List (List Value) → List Record → List Event
 events_in entries beside [] = []
 events_in entries beside (r ∷ rs) = event_of entries beside r ∷ events_in entries beside rs
 
 -- the places of a record are there
-abbrev pub KeptIn : ℕ → ℕ → Kept → Type 0
-KeptIn entries beside kept.Nothing = Unit {0}
-KeptIn entries beside (kept.Entry place) = place < entries
-KeptIn entries beside (kept.Beside place) = place < beside
-
 abbrev pub StandsIn : ℕ → ℕ → Record → Type 0
 StandsIn entries beside (told.Claim seat first count how) = Unit {0}
 StandsIn entries beside (told.Release seat) = Unit {0}
@@ -132,7 +122,9 @@ StandsIn entries beside (told.BackingBarrier seat) = Unit {0}
 StandsIn entries beside (told.Answer seat place) = place < entries
 StandsIn entries beside (told.FlushFrom seat of) = Unit {0}
 StandsIn entries beside (told.FlushDone seat of) = Unit {0}
-StandsIn entries beside (told.DeviceFault seat device call at what tried) = KeptIn entries beside what
+StandsIn entries beside (told.LineFault device seat place) = place < entries
+StandsIn entries beside (told.PlainFault device call tried seat at place) = place < beside
+StandsIn entries beside (told.BareFault device call tried seat at) = Unit {0}
 
 abbrev pub AllStandIn : ℕ → ℕ → List Record → Type 0
 AllStandIn entries beside [] = Unit {0}

@@ -3,7 +3,7 @@ ghost use Rattle.std.specs.Prelude.{◌≡◌, ◌+◌, ◌<◌, ◌++◌, ◌�
 ghost use Rattle.bc_core.specs.Pass.{events_in, entries_of, halt_of, entry_of, entry_of_fault, StandsIn, TellsIn, verdict_of};
 
 use crate::event::{CallKind, Event, Line, Written};
-use crate::pass::{Kept, Pass, Record};
+use crate::pass::{Pass, Record};
 use bc_disk::disk::Device;
 use bc_model::history::Entry;
 use bc_model::values::Values;
@@ -59,49 +59,38 @@ fn record_of_fault(
     ensures event { TellsIn entries beside result.entry result.beside result.record (Event.DeviceFault seat device call at what tried) }
 {
     match what {
-        None => {
-            let record = Record::DeviceFault {
-                seat,
+        None => Told {
+            record: Record::BareFault {
                 device,
                 call,
-                at,
-                what: Kept::Nothing,
                 tried,
-            };
-            Told {
-                record,
-                entry: None,
-                beside: None,
-            }
-        }
+                seat,
+                at,
+            },
+            entry: None,
+            beside: None,
+        },
         Some(Written::Values(values)) => {
             if call == CallKind::Write && tried {
-                let what = Kept::Entry(entries);
-                let record = Record::DeviceFault {
-                    seat,
-                    device,
-                    call,
-                    at,
-                    what,
-                    tried,
-                };
                 Told {
-                    record,
+                    record: Record::LineFault {
+                        device,
+                        seat,
+                        entry: entries,
+                    },
                     entry: Some(Entry::Tried { first: at, values }),
                     beside: None,
                 }
             } else {
-                let what = Kept::Beside(beside);
-                let record = Record::DeviceFault {
-                    seat,
-                    device,
-                    call,
-                    at,
-                    what,
-                    tried,
-                };
                 Told {
-                    record,
+                    record: Record::PlainFault {
+                        device,
+                        call,
+                        tried,
+                        seat,
+                        at,
+                        values: beside,
+                    },
                     entry: None,
                     beside: Some(values),
                 }

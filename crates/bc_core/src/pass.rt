@@ -7,15 +7,8 @@ use bc_flight::claim::Share;
 use bc_model::history::Entry;
 use bc_model::values::Values;
 
-/// Where the values of a record stand: at a place among the entries, or among the values beside them.
-#[derive(Clone, Copy, Drop)]
-pub enum Kept {
-    Nothing,
-    Entry(usize),
-    Beside(usize),
-}
-
-/// An event without its values.
+/// An event without its values: these stand at a place among the entries, or among the values beside
+/// them. Fields lie in the order in which they stand here, so that the narrow ones come first.
 #[derive(Drop)]
 pub enum Record {
     Claim {
@@ -58,15 +51,33 @@ pub enum Record {
         seat: u32,
         of: Line,
     },
-    DeviceFault {
+    /// A fault of a write that a line asked for, which the history has as tried.
+    LineFault {
+        device: Device,
         seat: u32,
+        entry: usize,
+    },
+    /// A fault with values that it hasn't.
+    PlainFault {
         device: Device,
         call: CallKind,
-        at: u64,
-        what: Kept,
         tried: bool,
+        seat: u32,
+        at: u64,
+        values: usize,
+    },
+    /// A fault without values.
+    BareFault {
+        device: Device,
+        call: CallKind,
+        tried: bool,
+        seat: u32,
+        at: u64,
     },
 }
+
+// A run keeps one record for each event, so that a byte more is a byte for each of them.
+const _: () = prove!(size_of::<Record>() <= 24);
 
 /// What a run did: its history, and the records of its events.
 #[derive(Drop)]

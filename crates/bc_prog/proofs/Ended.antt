@@ -4,16 +4,17 @@ use Rattle.std.proofs.Common.{sym, ◌∙◌, arith, inl, inr}
 use Rattle.bc_prog.specs.Refusal.{status_of as refusal_status}
 use Rattle.bc_prog.specs.declared.refusal.Refusal.{Refusal}
 use Rattle.bc_prog.specs.declared.refusal.Refusal.TheVariants as refusals
-use Rattle.bc_top.specs.Top.{status_of}
-use Rattle.bc_top.specs.declared.top.Stop.{Stop}
-use Rattle.bc_top.specs.declared.top.Stop.TheVariants.{Usage, Trace, Source, Fault, Superblock, Memory}
+use Rattle.bc_top.specs.Stops.{status_of}
+use Rattle.bc_top.specs.declared.stop.Stop.{Stop}
+use Rattle.bc_top.specs.declared.stop.Stop.TheVariants.{Usage, Trace, Source, Fault, Superblock, Image, Memory}
 
 stops_above_zero : (stop : Stop) → status_of stop ≡ 0 → ⊥
 stops_above_zero Usage zero = omega (arith, zero)
 stops_above_zero (Trace error) zero = omega (arith, zero)
 stops_above_zero Source zero = omega (arith, zero)
-stops_above_zero Fault zero = omega (arith, zero)
+stops_above_zero (Fault device) zero = omega (arith, zero)
 stops_above_zero (Superblock device number) zero = omega (arith, zero)
+stops_above_zero (Image why) zero = omega (arith, zero)
 stops_above_zero Memory zero = omega (arith, zero)
 
 -- a run began

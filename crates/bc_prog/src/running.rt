@@ -3,7 +3,8 @@ ghost use Rattle.std.specs.Prelude.{◌≡◌, ◌≢◌, ◌<◌, ◌≤◌, �
 ghost use Rattle.bc_prog.specs.Done.{IsDone};
 ghost use Rattle.bc_prog.specs.Refusal.{IsRefused};
 ghost use Rattle.bc_prog.specs.declared.refusal.Refusal.TheVariants as refusals;
-ghost use Rattle.bc_top.specs.Top.{IsServe};
+ghost use Rattle.bc_top.specs.Top.{IsServe, Says};
+ghost use Rattle.bc_words.specs.declared.command.Command.{Command};
 
 use crate::refusal::{Refusal, refuse};
 use bc_disk::disk::Device;
@@ -55,9 +56,9 @@ pub fn run<R: Files<File = File> + Wait, S: Source, K: Sink>(
     out: &mut K,
 ) -> u8
     ensures few { length words.now < 3 → IsRefused refusals.Usage result (K.facts out.old) (K.facts out.new) }
-    ensures usage { result ≡ 2 → IsServe (drop 2 words.now) → ⊥ }
-    ensures unknown { (IsServe (drop 2 words.now) → ⊥) → (result ≡ 2) ⊎ (result ≡ 6) }
-    ensures done { result ≡ 0 → IsDone (S.facts trace.old) (S.facts trace.new) (K.facts out.old) (K.facts out.new) }
+    ensures usage { result ≡ 2 → (command : Command) → Says (drop 2 words.now) command → ⊥ }
+    ensures unknown { ((command : Command) → Says (drop 2 words.now) command → ⊥) → (result ≡ 2) ⊎ (result ≡ 6) }
+    ensures done { IsServe (drop 2 words.now) → result ≡ 0 → IsDone (S.facts trace.old) (S.facts trace.new) (K.facts out.old) (K.facts out.new) }
 {
     match open_disks(rt, words) {
         Ok((cache, backing)) => bcache(rt, alloc, &words[2..], trace, cache, backing, out).status,

@@ -1,7 +1,7 @@
 //! Devices that fail and stop at each call, and what a crash leaves of them then.
 ghost use Rattle.std.specs.Prelude.{◌≡◌, ◌*◌, length};
 
-use crate::serving::{image, serve};
+use crate::serving::{NO_CACHE, image, serve};
 use bc_core::pass::Pass;
 use bc_disk::crash::Pick;
 use bc_disk::mem_disk::MemDisk;
@@ -87,7 +87,7 @@ fn test_crashes<R: Abort + Wait>(
 #[test]
 fn each_call_fails_or_is_the_last(rt: HostRuntime) -> Result<(), Fail> {
     let alloc = rt.alloc();
-    let opening = image(alloc, OFFSET + SIZE, 1, 3)?;
+    let opening = image(alloc, OFFSET + SIZE, NO_CACHE)?;
     for call in 0..14 {
         for stops in [false, true] {
             let mut device = MemDisk::new(alloc, Vec::from_slice(alloc, &opening)?, 64)?;

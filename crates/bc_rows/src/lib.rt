@@ -4,6 +4,10 @@
 #[cfg(test)]
 mod failing;
 #[cfg(test)]
+mod pair;
+#[cfg(test)]
+mod pairs;
+#[cfg(test)]
 mod rows;
 #[cfg(test)]
 mod serving;

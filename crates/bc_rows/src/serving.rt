@@ -1,34 +1,55 @@
 //! A trace served over a made image.
 ghost use Rattle.std.specs.Prelude.{◌≡◌, ◌*◌, ◌<◌, ◌≤◌, length, IfOk};
 
-use bc_bytes::put_u64;
+use bc_bytes::{crc64, put_u64};
 use bc_disk::mem_disk::MemDisk;
 use bc_disk::stream::{Sink, Source};
-use bc_top::top::{Ran, bcache};
+use bc_super::backing::{BackingSuper, write_backing};
+use bc_top::ran::Ran;
+use bc_top::top::bcache;
 use std::alloc::{AllocError, Global};
 use std::sync::Wait;
 use std::test::Fail;
 
-/// The magic of a superblock.
-const MAGIC: [u8; 16] = [
-    0xc6, 0x85, 0x73, 0xf6, 0x4e, 0x1a, 0x45, 0xca, 0x82, 0x65, 0xf5, 0x7f, 0x48, 0xba, 0x6d, 0x81,
-];
+/// The mode of a device that asks for no cache.
+pub const NO_CACHE: u64 = 3;
 
-/// An image of so many zero sectors but for a superblock of this version with these flags.
-pub fn image(alloc: Global, sectors: usize, version: u64, flags: u64) -> Result<Vec<u8>, AllocError>
-    requires { (9 ≤ sectors) × (sectors < 4096) }
-    ensures { IfOk result (λ bytes. length bytes.items ≡ 512 * sectors) }
-{
-    let mut bytes = vec![in alloc; 0u8; 512 * sectors]?;
-    let sector = &mut bytes[4096..4608];
-    put_u64(sector, 8, 8);
-    put_u64(sector, 16, version);
-    put_u64(sector, 104, flags);
-    sector[24..40].copy_from_slice(&MAGIC);
-    Ok(bytes)
+/// The superblock of a backing device of this mode that has no state.
+pub const fn superblock(mode: u64) -> BackingSuper {
+    BackingSuper {
+        version: 1,
+        uuid: [0x0b; 16],
+        set_uuid: [0; 16],
+        label: [0; 32],
+        flags: mode % 16,
+        seq: 0,
+        block: 1,
+        last_mount: 0,
+        data_offset: 16,
+    }
 }
 
-/// Serves the trace over the device by this word. What is printed goes to the sink.
+/// An image of so many sectors that are zero but for the superblock of a device of this mode.
+pub fn image(alloc: Global, sectors: usize, mode: u64) -> Result<Vec<u8>, Fail>
+    requires { (17 ≤ sectors) × (sectors < 4096) }
+    ensures { IfOk result (λ bytes. length bytes.items ≡ 512 * sectors) }
+{
+    let mut disk = MemDisk::new(alloc, vec![in alloc; 0u8; 512 * sectors]?, 1)?;
+    let _written = write_backing(&mut disk, &superblock(mode));
+    Ok(Vec::from_slice(alloc, disk.bytes())?)
+}
+
+/// Makes the checksum of a backing device's superblock right again.
+pub fn seal(bytes: &mut [u8])
+    requires { 4608 ≤ length bytes.old }
+    ensures { length bytes.new ≡ length bytes.old }
+{
+    let sum = crc64(u64::MAX, &bytes[4104..4304]);
+    put_u64(bytes, 4096, sum);
+}
+
+/// Serves the trace over the device by this word, before an empty cache device. What is printed goes
+/// to the sink.
 pub fn serve<R: Wait, S: Source + Drop, K: Sink>(
     rt: &R,
     alloc: Global,

@@ -1,5 +1,5 @@
 //! Sources and sinks that fail, that are slow and that are full.
-use crate::serving::{image, serve};
+use crate::serving::{NO_CACHE, image, serve};
 use crate::slow::{SlowSink, SlowSource};
 use bc_disk::mem_disk::MemDisk;
 use bc_disk::mem_sink::MemSink;
@@ -19,8 +19,8 @@ fn source(alloc: Global, trace: &str) -> Result<MemSource, AllocError> {
 }
 
 // A device of 64 data sectors of zeros.
-fn device(alloc: Global) -> Result<MemDisk, AllocError> {
-    MemDisk::new(alloc, image(alloc, 80, 1, 3)?, 80)
+fn device(alloc: Global) -> Result<MemDisk, Fail> {
+    Ok(MemDisk::new(alloc, image(alloc, 80, NO_CACHE)?, 80)?)
 }
 
 #[test]
@@ -42,7 +42,7 @@ fn one_byte_at_a_time(rt: HostRuntime) -> Result<(), Fail> {
 #[test]
 fn a_source_that_fails_at_each_byte(rt: HostRuntime) -> Result<(), Fail> {
     let alloc = rt.alloc();
-    let opening = image(alloc, 80, 1, 3)?;
+    let opening = image(alloc, 80, NO_CACHE)?;
     for call in 1..TRACE.len() as u64 + 2 {
         let mut slow = SlowSource {
             inner: source(alloc, TRACE)?,

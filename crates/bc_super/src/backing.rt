@@ -1,80 +1,112 @@
 //! The superblock of a backing device.
-ghost use Rattle.std.specs.Prelude.{◌≡◌, ◌↔◌, ◌<◌, ◌≤◌, IsTrue, IfOk, IfErr, IsErrOf};
+ghost use Rattle.std.specs.Prelude.{◌≡◌, ◌↔◌, ◌<◌, ◌≤◌, length, IfOk, IfErr, OnOk, OnErr, IsErrOf};
 ghost use Rattle.bc_disk.specs.Disk.{IsKept, IsCounted};
-ghost use Rattle.bc_super.specs.Super.{HasMagic, IsBackingSuper, IsRefused};
-ghost use Rattle.bc_super.specs.Reading.{ReadsSuper, IsCause, call_of};
+ghost use Rattle.bc_super.specs.Super.{IsMode, IsState, IsUsable, IsBackingSuper, IsRefused, backing_of, fields_in, mode_number, state_number};
+ghost use Rattle.bc_super.specs.Reading.{ReadsSuper, OnlyReads, IsCause, call_of};
+ghost use Rattle.bc_super.specs.Writing.{IsBackingSector, IsBackingStored, IsBackingTorn, AreCounted, fields_of};
 
 use crate::error::SuperError;
+use crate::fields::{Fields, get_fields, put_fields};
+use crate::head::{DATA_START, SUPER_BYTES, SUPER_SECTOR, check_head, put_checksum};
 use crate::mode::Mode;
 use crate::state::BackingState;
-use bc_bytes::get_u64;
-use bc_disk::disk::Disk;
+use crate::store::store;
+use bc_disk::disk::{Disk, Failed};
 
 /// What a backing device says of itself.
 #[derive(Clone, Copy, Debug, PartialEq, Eq, Drop)]
 pub struct BackingSuper {
-    /// The version of the format, 1.
+    /// The version of the format, 1 or 4.
     pub version: u64,
+    /// The uuid of the device.
+    pub uuid: [u8; 16],
+    /// The uuid of the set whose cache stands before the device.
+    pub set_uuid: [u8; 16],
+    /// The device's label.
+    pub label: [u8; 32],
+    /// The mode in bits 0 to 3, the state in bits 61 and 62; the other bits are kept.
+    pub flags: u64,
+    /// A number that is kept.
+    pub seq: u64,
+    /// The sectors of a block, a number that is kept.
+    pub block: u16,
+    /// When the device was last in use, a number that is kept.
+    pub last_mount: u32,
     /// The sector of the device at which the data begins, 16 by version 1.
     pub data_offset: u64,
-    /// How requests are to use a cache.
-    pub mode: Mode,
-    /// Whether a cache may have data that the device lacks.
-    pub state: BackingState,
 }
 
-/// The sector in which a superblock stands.
-const SUPER_SECTOR: u64 = 8;
-
 /// The version of a backing device whose data begins at `DATA_START`.
-const BACKING_VERSION: u64 = 1;
+const FIXED_VERSION: u64 = 1;
 
-/// The sectors before this one are set aside on each device.
-const DATA_START: u64 = 16;
+/// The version of a backing device that tells where its data begins.
+const OFFSET_VERSION: u64 = 4;
 
-/// What tells a superblock from other bytes.
-const MAGIC: [u8; 16] = [
-    0xc6, 0x85, 0x73, 0xf6, 0x4e, 0x1a, 0x45, 0xca, 0x82, 0x65, 0xf5, 0x7f, 0x48, 0xba, 0x6d, 0x81,
-];
+impl BackingSuper {
+    /// How requests are to use a cache. A number above 3 counts as writethrough.
+    pub fn mode(&self) -> Mode
+        ensures { IsMode (mode_number self.now.flags) result }
+    {
+        Mode::from_flags(self.flags)
+    }
 
-// Whether they may be a superblock.
-fn has_magic(bytes: &[u8; 512]) -> bool
-    ensures { IsTrue result ↔ HasMagic bytes.now }
+    /// Whether a cache may have data that the device lacks.
+    pub fn state(&self) -> BackingState
+        ensures { IsState (state_number self.now.flags) result }
+    {
+        BackingState::from_flags(self.flags)
+    }
+}
+
+// The fields of a backing device.
+fn from_fields(fields: &Fields) -> BackingSuper
+    ensures { result ≡ backing_of fields.now }
 {
-    bytes[24..40] == MAGIC[..]
+    BackingSuper {
+        version: fields.version,
+        uuid: fields.uuid,
+        set_uuid: fields.set_uuid,
+        label: fields.label,
+        flags: fields.flags,
+        seq: fields.seq,
+        block: fields.block,
+        last_mount: fields.last_mount,
+        data_offset: if fields.version == OFFSET_VERSION {
+            fields.nbuckets
+        } else {
+            DATA_START
+        },
+    }
 }
 
 // What the bytes say as the superblock of a backing device with so many sectors.
-fn decode(bytes: &[u8; 512], sectors: u64) -> Result<BackingSuper, SuperError>
+fn decode(bytes: &[u8], sectors: u64) -> Result<BackingSuper, SuperError>
+    requires { length bytes.now ≡ 2560 }
     ensures ok { IfOk result (λ s. IsBackingSuper bytes.now sectors s) }
     ensures refused { IfErr result (λ e. IsRefused bytes.now sectors e) }
 {
-    if !has_magic(bytes) {
-        return Err(SuperError::Magic);
+    check_head(bytes)?;
+    let s = from_fields(&get_fields(bytes));
+    if s.version != FIXED_VERSION && s.version != OFFSET_VERSION {
+        return Err(SuperError::Version(s.version));
     }
-    let version = get_u64(bytes, 16);
-    if version != BACKING_VERSION {
-        return Err(SuperError::Version(version));
-    }
-    if sectors <= DATA_START {
+    if s.data_offset < DATA_START || sectors <= s.data_offset {
         return Err(SuperError::DataOffset);
     }
-    let flags = get_u64(bytes, 104);
-    Ok(BackingSuper {
-        version,
-        data_offset: DATA_START,
-        mode: Mode::from_flags(flags),
-        state: BackingState::from_flags(flags),
-    })
+    match s.state() {
+        BackingState::Stale => Err(SuperError::Stale),
+        _ => Ok(s),
+    }
 }
 
-/// Reads the superblock of a backing device of version 1, from sector 8. Its checksum isn't tested.
-/// Takes no memory.
+/// Reads the superblock of a backing device of version 1 or 4, from sector 8 on. Takes no memory.
 ///
 /// The error is the first of these that holds: `DeviceSmall`, where the device has fewer than 16
-/// sectors; `Fault`, where the read failed; `Magic`; `Version`; `DataOffset`, where the device has
-/// no sector from 16 on. `DeviceSmall` is answered without a call of the device. Each other answer
-/// has made one call, which leaves what the device holds as it was.
+/// sectors; `Fault`, where the read failed; `Magic`; `Place`; `JournalList`, where a list of more
+/// than 256 items is told; `Checksum`; `Version`; `DataOffset`, where data would begin before
+/// sector 16 or at none of the device's sectors; `Stale`. `DeviceSmall` is answered without a call
+/// of the device. Each other answer has made one call, which leaves what the device holds as it
+/// was.
 pub fn read_backing<D: Disk>(disk: &mut D) -> Result<BackingSuper, SuperError>
     ensures small { IsErrOf result SuperError.DeviceSmall ↔ ((D.facts disk.old).sectors < 16) }
     ensures untouched { (D.facts disk.old).sectors < 16 → disk.new ≡ disk.old }
@@ -90,7 +122,59 @@ pub fn read_backing<D: Disk>(disk: &mut D) -> Result<BackingSuper, SuperError>
     if sectors < DATA_START {
         return Err(SuperError::DeviceSmall);
     }
-    let mut bytes = [0; 512];
+    let mut bytes = [0; SUPER_BYTES];
     disk.read(SUPER_SECTOR, &mut bytes)?;
     decode(&bytes, sectors)
+}
+
+// The fields of a backing device as they are written.
+fn to_fields(s: &BackingSuper) -> Fields
+    ensures { result ≡ fields_of s.now }
+{
+    Fields {
+        version: s.version,
+        uuid: s.uuid,
+        set_uuid: s.set_uuid,
+        label: s.label,
+        flags: s.flags,
+        seq: s.seq,
+        nbuckets: if s.version == OFFSET_VERSION {
+            s.data_offset
+        } else {
+            0
+        },
+        block: s.block,
+        bucket: 0,
+        devices: 0,
+        device: 0,
+        last_mount: s.last_mount,
+        first_bucket: 0,
+        journal: 0,
+    }
+}
+
+// The one sector that the superblock of a backing device needs.
+fn encode(s: &BackingSuper) -> [u8; 512]
+    ensures { IsBackingSector result s.now }
+{
+    let mut bytes = [0; 512];
+    put_fields(&mut bytes, &to_fields(s));
+    put_checksum(&mut bytes);
+    bytes
+}
+
+/// Writes the superblock of a backing device of version 1 or 4 and makes it stable. It has no list,
+/// so it takes sector 8 alone, and a crash leaves it whole or as it was; no other sector is
+/// written. What it doesn't tell is written as zero. Takes no memory.
+///
+/// After `Ok` it is what is read, and what the device holds is all that a crash may leave. After
+/// `Failed` sector 8 has its old value or the new one, and a crash may leave either.
+pub fn write_backing<D: Disk>(disk: &mut D, s: &BackingSuper) -> Result<(), Failed>
+    requires { IsUsable (D.facts disk.old).sectors s.now }
+    ensures ok { OnOk result (IsBackingStored s.now (D.facts disk.old) (D.facts disk.new)) }
+    ensures failed { OnErr result (IsBackingTorn s.now (D.facts disk.old) (D.facts disk.new)) }
+    ensures reads { OnOk result (OnlyReads (D.facts disk.new) s.now) }
+    ensures counted { AreCounted 2 result (D.facts disk.old) (D.facts disk.new) }
+{
+    store(disk, SUPER_SECTOR, &encode(s))
 }

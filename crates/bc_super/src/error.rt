@@ -4,19 +4,47 @@ ghost use Rattle.bc_super.specs.declared.error.SuperError.TheVariants as errors;
 
 use bc_disk::disk::Failed;
 
-/// Why a device has no superblock that can be used.
+/// Why a device has no superblock that can be used. The calls that read a superblock say which of
+/// these they answer, and in which order they test.
 #[derive(Clone, Copy, Debug, PartialEq, Eq, Drop)]
 pub enum SuperError {
     /// Bytes 24 to 39 aren't the magic.
     Magic,
+    /// The bytes haven't the checksum that they tell.
+    Checksum,
     /// The version, which isn't one that the device may have.
     Version(u64),
-    /// The device has fewer than 16 sectors.
+    /// The superblock says that it stands in another sector than 8.
+    Place,
+    /// The block isn't 1, 2, 4 or 8 sectors.
+    Block,
+    /// The bucket isn't a power of two from 64 to 32,768 sectors.
+    Bucket,
+    /// There are fewer than 128 buckets.
+    FewBuckets,
+    /// There are more buckets than 1,024 times the sectors of one, or more than 1,048,576.
+    ManyBuckets,
+    /// The device has fewer than 16 sectors, or fewer than its buckets have.
     DeviceSmall,
-    /// The device has no sector from the one on at which its data begins.
+    /// The uuid of the set is zero.
+    ZeroUuid,
+    /// The set has another number of devices than 1, or the device another number in it than 0.
+    SetNumber,
+    /// The first bucket begins before sector 16, or isn't one of the device's buckets.
+    FirstBucket,
+    /// The journal has more than 256 buckets, or not those that follow from the first bucket on, or
+    /// some past the last one, or from 1 to 7 of them on a device that was set up.
+    JournalList,
+    /// Data would begin before sector 16, or at none of the device's sectors.
     DataOffset,
-    /// A cache device is needed that was set up. Reading a backing device doesn't answer it.
+    /// A cache device is needed that was set up. No call of this crate answers it.
     NotInitialised,
+    /// The backing device was used without a cache that had data which it lacked.
+    Stale,
+    /// The backing device belongs to another set than the cache. No call of this crate answers it.
+    OtherSet,
+    /// The two devices are in use. No call of this crate answers it.
+    Initialised,
     /// The device failed while its superblock was read.
     Fault,
 }
@@ -30,10 +58,23 @@ impl SuperError {
     {
         match self {
             SuperError::Magic => 1,
+            SuperError::Checksum => 2,
             SuperError::Version(_) => 3,
+            SuperError::Place => 4,
+            SuperError::Block => 5,
+            SuperError::Bucket => 6,
+            SuperError::FewBuckets => 7,
+            SuperError::ManyBuckets => 8,
             SuperError::DeviceSmall => 9,
+            SuperError::ZeroUuid => 10,
+            SuperError::SetNumber => 11,
+            SuperError::FirstBucket => 12,
+            SuperError::JournalList => 13,
             SuperError::DataOffset => 14,
             SuperError::NotInitialised => 15,
+            SuperError::Stale => 16,
+            SuperError::OtherSet => 17,
+            SuperError::Initialised => 18,
             SuperError::Fault => 19,
         }
     }

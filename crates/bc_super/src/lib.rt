@@ -1,10 +1,18 @@
-//! Superblocks: what a device says of itself in its sector 8.
+//! Superblocks: what a device says of itself from its sector 8 on.
 #![tactic(auto)]
 
 pub mod backing;
+pub mod cache;
 pub mod error;
+pub mod fields;
+pub mod geometry;
+pub(crate) mod head;
 pub mod laws;
+pub mod layout;
+pub(crate) mod list;
 pub mod mode;
+pub mod show;
 pub mod state;
+pub(crate) mod store;
 #[cfg(test)]
 mod tests;

@@ -1,5 +1,4 @@
 //! The mode of a backing device.
-ghost use Rattle.std.specs.Prelude.{◌%◌, ◌^◌};
 
 /// How requests are to use a cache.
 #[derive(Clone, Copy, Debug, PartialEq, Eq, Drop)]
@@ -15,12 +14,12 @@ pub enum Mode {
 }
 
 impl Mode {
-    ghost use Rattle.bc_super.specs.Super.{IsMode};
+    ghost use Rattle.bc_super.specs.Super.{IsMode, mode_number};
 
     /// The mode that bits 0 to 3 of a backing device's flags name. A number above 3 counts as
     /// writethrough.
     pub(crate) fn from_flags(flags: u64) -> Mode
-        ensures { IsMode (flags % 2 ^ 4) result }
+        ensures { IsMode (mode_number flags) result }
     {
         match flags & 0xf {
             1 => Mode::Writeback,

@@ -1,5 +1,4 @@
 //! The state of a backing device.
-ghost use Rattle.std.specs.Prelude.{◌/◌, ◌%◌, ◌^◌};
 
 /// Whether a cache may have data that a backing device lacks.
 #[derive(Clone, Copy, Debug, PartialEq, Eq, Drop)]
@@ -15,11 +14,11 @@ pub enum BackingState {
 }
 
 impl BackingState {
-    ghost use Rattle.bc_super.specs.Super.{IsState};
+    ghost use Rattle.bc_super.specs.Super.{IsState, state_number};
 
     /// The state that bits 61 and 62 of a backing device's flags name.
     pub(crate) fn from_flags(flags: u64) -> BackingState
-        ensures { IsState (flags / 2 ^ 61 % 2 ^ 2) result }
+        ensures { IsState (state_number flags) result }
     {
         match (flags >> 61) & 0b11 {
             0 => BackingState::None,

@@ -1,16 +1,71 @@
 //! What real and made superblocks are read as.
-use crate::backing::{BackingSuper, read_backing};
+use crate::backing::{BackingSuper, read_backing, write_backing};
+use crate::cache::{CacheSuper, initialised, read_cache, write_cache};
 use crate::error::SuperError;
+use crate::layout::layout;
 use crate::mode::Mode;
+use crate::show::show;
 use crate::state::BackingState;
-use bc_bytes::put_u64;
+use bc_bytes::{crc64, put_u16, put_u64};
+use bc_disk::disk::Disk;
 use bc_disk::mem_disk::MemDisk;
 use std::alloc::{AllocError, Global};
 use std::process::Abort;
 use std::test::Fail;
 
-/// The first bytes of a superblock that `make-bcache --block 4k --writeback -B` wrote.
-const WRITTEN: [u8; 112] = [
+/// The first bytes, and all that aren't zero, that `make-bcache --bucket 32k --block 512 -C` wrote.
+const SMALL_CACHE: [u8; 208] = [
+    0xfd, 0x65, 0x90, 0x1f, 0x9f, 0xa2, 0x5f, 0x2e, 0x08, 0x00, 0x00, 0x00, 0x00, 0x00, 0x00, 0x00,
+    0x00, 0x00, 0x00, 0x00, 0x00, 0x00, 0x00, 0x00, 0xc6, 0x85, 0x73, 0xf6, 0x4e, 0x1a, 0x45, 0xca,
+    0x82, 0x65, 0xf5, 0x7f, 0x48, 0xba, 0x6d, 0x81, 0xa1, 0xf4, 0x20, 0x89, 0x54, 0xbb, 0x49, 0xb9,
+    0xbd, 0x5b, 0x87, 0x65, 0xe1, 0xfb, 0x7f, 0xb5, 0xa9, 0x9a, 0x46, 0xba, 0xf4, 0x7a, 0x42, 0xe1,
+    0x92, 0x74, 0x9f, 0x9d, 0xeb, 0x92, 0x0f, 0xf0, 0x00, 0x00, 0x00, 0x00, 0x00, 0x00, 0x00, 0x00,
+    0x00, 0x00, 0x00, 0x00, 0x00, 0x00, 0x00, 0x00, 0x00, 0x00, 0x00, 0x00, 0x00, 0x00, 0x00, 0x00,
+    0x00, 0x00, 0x00, 0x00, 0x00, 0x00, 0x00, 0x00, 0x00, 0x00, 0x00, 0x00, 0x00, 0x00, 0x00, 0x00,
+    0x00, 0x00, 0x00, 0x00, 0x00, 0x00, 0x00, 0x00, 0x00, 0x00, 0x00, 0x00, 0x00, 0x00, 0x00, 0x00,
+    0x00, 0x00, 0x00, 0x00, 0x00, 0x00, 0x00, 0x00, 0x00, 0x00, 0x00, 0x00, 0x00, 0x00, 0x00, 0x00,
+    0x00, 0x00, 0x00, 0x00, 0x00, 0x00, 0x00, 0x00, 0x00, 0x00, 0x00, 0x00, 0x00, 0x00, 0x00, 0x00,
+    0x00, 0x00, 0x00, 0x00, 0x00, 0x00, 0x00, 0x00, 0x00, 0x00, 0x00, 0x00, 0x00, 0x00, 0x00, 0x00,
+    0x00, 0x00, 0x00, 0x00, 0x00, 0x00, 0x00, 0x00, 0x80, 0x00, 0x00, 0x00, 0x00, 0x00, 0x00, 0x00,
+    0x01, 0x00, 0x40, 0x00, 0x01, 0x00, 0x00, 0x00, 0x00, 0x00, 0x00, 0x00, 0x01, 0x00, 0x00, 0x00,
+];
+
+/// Those of `make-bcache --block 512 -B`.
+const SMALL_BACKING: [u8; 208] = [
+    0xd2, 0xa3, 0x20, 0xc1, 0xd9, 0xfe, 0xfb, 0xc3, 0x08, 0x00, 0x00, 0x00, 0x00, 0x00, 0x00, 0x00,
+    0x01, 0x00, 0x00, 0x00, 0x00, 0x00, 0x00, 0x00, 0xc6, 0x85, 0x73, 0xf6, 0x4e, 0x1a, 0x45, 0xca,
+    0x82, 0x65, 0xf5, 0x7f, 0x48, 0xba, 0x6d, 0x81, 0x78, 0x15, 0xea, 0xcc, 0x9b, 0xce, 0x47, 0x3c,
+    0xbe, 0xed, 0xbc, 0x10, 0xd9, 0x42, 0x85, 0x58, 0xa9, 0x9a, 0x46, 0xba, 0xf4, 0x7a, 0x42, 0xe1,
+    0x92, 0x74, 0x9f, 0x9d, 0xeb, 0x92, 0x0f, 0xf0, 0x00, 0x00, 0x00, 0x00, 0x00, 0x00, 0x00, 0x00,
+    0x00, 0x00, 0x00, 0x00, 0x00, 0x00, 0x00, 0x00, 0x00, 0x00, 0x00, 0x00, 0x00, 0x00, 0x00, 0x00,
+    0x00, 0x00, 0x00, 0x00, 0x00, 0x00, 0x00, 0x00, 0x00, 0x00, 0x00, 0x00, 0x00, 0x00, 0x00, 0x00,
+    0x00, 0x00, 0x00, 0x00, 0x00, 0x00, 0x00, 0x00, 0x00, 0x00, 0x00, 0x00, 0x00, 0x00, 0x00, 0x00,
+    0x00, 0x00, 0x00, 0x00, 0x00, 0x00, 0x00, 0x00, 0x00, 0x00, 0x00, 0x00, 0x00, 0x00, 0x00, 0x00,
+    0x00, 0x00, 0x00, 0x00, 0x00, 0x00, 0x00, 0x00, 0x00, 0x00, 0x00, 0x00, 0x00, 0x00, 0x00, 0x00,
+    0x00, 0x00, 0x00, 0x00, 0x00, 0x00, 0x00, 0x00, 0x00, 0x00, 0x00, 0x00, 0x00, 0x00, 0x00, 0x00,
+    0x00, 0x00, 0x00, 0x00, 0x00, 0x00, 0x00, 0x00, 0x00, 0x00, 0x00, 0x00, 0x00, 0x00, 0x00, 0x00,
+    0x01, 0x00, 0x00, 0x04, 0x00, 0x00, 0x00, 0x00, 0x00, 0x00, 0x00, 0x00, 0x00, 0x00, 0x00, 0x00,
+];
+
+/// Those of `make-bcache --bucket 64k --block 4k -C`.
+const LARGE_CACHE: [u8; 208] = [
+    0x35, 0xd3, 0x5f, 0xa3, 0x0f, 0x55, 0xc0, 0xeb, 0x08, 0x00, 0x00, 0x00, 0x00, 0x00, 0x00, 0x00,
+    0x00, 0x00, 0x00, 0x00, 0x00, 0x00, 0x00, 0x00, 0xc6, 0x85, 0x73, 0xf6, 0x4e, 0x1a, 0x45, 0xca,
+    0x82, 0x65, 0xf5, 0x7f, 0x48, 0xba, 0x6d, 0x81, 0x0f, 0x9b, 0xba, 0x7a, 0x1f, 0x89, 0x41, 0x17,
+    0xab, 0x8a, 0x41, 0x2f, 0xa4, 0x14, 0xa1, 0x84, 0x6e, 0xba, 0x6c, 0xf5, 0x50, 0x87, 0x41, 0x9c,
+    0x89, 0x81, 0x9c, 0x2a, 0xc9, 0x83, 0x05, 0xbc, 0x00, 0x00, 0x00, 0x00, 0x00, 0x00, 0x00, 0x00,
+    0x00, 0x00, 0x00, 0x00, 0x00, 0x00, 0x00, 0x00, 0x00, 0x00, 0x00, 0x00, 0x00, 0x00, 0x00, 0x00,
+    0x00, 0x00, 0x00, 0x00, 0x00, 0x00, 0x00, 0x00, 0x00, 0x00, 0x00, 0x00, 0x00, 0x00, 0x00, 0x00,
+    0x00, 0x00, 0x00, 0x00, 0x00, 0x00, 0x00, 0x00, 0x00, 0x00, 0x00, 0x00, 0x00, 0x00, 0x00, 0x00,
+    0x00, 0x00, 0x00, 0x00, 0x00, 0x00, 0x00, 0x00, 0x00, 0x00, 0x00, 0x00, 0x00, 0x00, 0x00, 0x00,
+    0x00, 0x00, 0x00, 0x00, 0x00, 0x00, 0x00, 0x00, 0x00, 0x00, 0x00, 0x00, 0x00, 0x00, 0x00, 0x00,
+    0x00, 0x00, 0x00, 0x00, 0x00, 0x00, 0x00, 0x00, 0x00, 0x00, 0x00, 0x00, 0x00, 0x00, 0x00, 0x00,
+    0x00, 0x00, 0x00, 0x00, 0x00, 0x00, 0x00, 0x00, 0x00, 0x02, 0x00, 0x00, 0x00, 0x00, 0x00, 0x00,
+    0x08, 0x00, 0x80, 0x00, 0x01, 0x00, 0x00, 0x00, 0x00, 0x00, 0x00, 0x00, 0x01, 0x00, 0x00, 0x00,
+];
+
+/// Those of `make-bcache --block 4k --writeback -B`.
+const LARGE_BACKING: [u8; 208] = [
     0x74, 0xdb, 0x10, 0x71, 0x99, 0xfc, 0x99, 0x9e, 0x08, 0x00, 0x00, 0x00, 0x00, 0x00, 0x00, 0x00,
     0x01, 0x00, 0x00, 0x00, 0x00, 0x00, 0x00, 0x00, 0xc6, 0x85, 0x73, 0xf6, 0x4e, 0x1a, 0x45, 0xca,
     0x82, 0x65, 0xf5, 0x7f, 0x48, 0xba, 0x6d, 0x81, 0x9a, 0x0b, 0x22, 0xff, 0x14, 0xa7, 0x4c, 0x9f,
@@ -18,103 +73,299 @@ const WRITTEN: [u8; 112] = [
     0x89, 0x81, 0x9c, 0x2a, 0xc9, 0x83, 0x05, 0xbc, 0x00, 0x00, 0x00, 0x00, 0x00, 0x00, 0x00, 0x00,
     0x00, 0x00, 0x00, 0x00, 0x00, 0x00, 0x00, 0x00, 0x00, 0x00, 0x00, 0x00, 0x00, 0x00, 0x00, 0x00,
     0x00, 0x00, 0x00, 0x00, 0x00, 0x00, 0x00, 0x00, 0x01, 0x00, 0x00, 0x00, 0x00, 0x00, 0x00, 0x00,
+    0x00, 0x00, 0x00, 0x00, 0x00, 0x00, 0x00, 0x00, 0x00, 0x00, 0x00, 0x00, 0x00, 0x00, 0x00, 0x00,
+    0x00, 0x00, 0x00, 0x00, 0x00, 0x00, 0x00, 0x00, 0x00, 0x00, 0x00, 0x00, 0x00, 0x00, 0x00, 0x00,
+    0x00, 0x00, 0x00, 0x00, 0x00, 0x00, 0x00, 0x00, 0x00, 0x00, 0x00, 0x00, 0x00, 0x00, 0x00, 0x00,
+    0x00, 0x00, 0x00, 0x00, 0x00, 0x00, 0x00, 0x00, 0x00, 0x00, 0x00, 0x00, 0x00, 0x00, 0x00, 0x00,
+    0x00, 0x00, 0x00, 0x00, 0x00, 0x00, 0x00, 0x00, 0x00, 0x00, 0x00, 0x00, 0x00, 0x00, 0x00, 0x00,
+    0x08, 0x00, 0x00, 0x04, 0x00, 0x00, 0x00, 0x00, 0x00, 0x00, 0x00, 0x00, 0x00, 0x00, 0x00, 0x00,
 ];
 
-// A sector with the magic, this version and these flags.
-fn sector(version: u64, flags: u64) -> [u8; 512] {
-    let mut bytes = [0; 512];
-    put_u64(&mut bytes, 8, 8);
-    put_u64(&mut bytes, 16, version);
-    put_u64(&mut bytes, 104, flags);
-    bytes[24..40].copy_from_slice(&WRITTEN[24..40]);
-    bytes
-}
+/// The uuids of the small ones and of their set.
+const CACHE: [u8; 16] = [
+    0xa1, 0xf4, 0x20, 0x89, 0x54, 0xbb, 0x49, 0xb9, 0xbd, 0x5b, 0x87, 0x65, 0xe1, 0xfb, 0x7f, 0xb5,
+];
 
-// A disk of so many sectors, all zero but for sector 8.
+const BACKING: [u8; 16] = [
+    0x78, 0x15, 0xea, 0xcc, 0x9b, 0xce, 0x47, 0x3c, 0xbe, 0xed, 0xbc, 0x10, 0xd9, 0x42, 0x85, 0x58,
+];
+
+const SET: [u8; 16] = [
+    0xa9, 0x9a, 0x46, 0xba, 0xf4, 0x7a, 0x42, 0xe1, 0x92, 0x74, 0x9f, 0x9d, 0xeb, 0x92, 0x0f, 0xf0,
+];
+
+/// What is read of the small ones.
+const SMALL_CACHE_FIELDS: CacheSuper = CacheSuper {
+    version: 0,
+    uuid: CACHE,
+    set_uuid: SET,
+    label: [0; 32],
+    flags: 0,
+    seq: 0,
+    nbuckets: 128,
+    block: 1,
+    bucket: 64,
+    last_mount: 0,
+    first_bucket: 1,
+    journal: 0,
+};
+
+const SMALL_BACKING_FIELDS: BackingSuper = BackingSuper {
+    version: 1,
+    uuid: BACKING,
+    set_uuid: SET,
+    label: [0; 32],
+    flags: 0,
+    seq: 0,
+    block: 1,
+    last_mount: 0,
+    data_offset: 16,
+};
+
+// A disk of so many sectors, all zero but for the superblock, with room for one write of another.
 fn disk(
     rt: &impl Abort,
     alloc: Global,
     sectors: usize,
-    value: &[u8; 512],
+    superblock: &[u8],
 ) -> Result<MemDisk, AllocError> {
-    assert!(rt; 8 < sectors && sectors <= 80);
+    assert!(rt; 9 <= sectors && sectors <= 65536 && superblock.len() <= 512);
     let mut bytes = vec![in alloc; 0u8; 512 * sectors]?;
-    bytes[4096..4608].copy_from_slice(value);
-    MemDisk::new(alloc, bytes, 0)
+    bytes[4096..4096 + superblock.len()].copy_from_slice(superblock);
+    MemDisk::new(alloc, bytes, 5)
 }
 
-// What is read of version 1.
-fn fixed(mode: Mode, state: BackingState) -> Result<BackingSuper, SuperError> {
-    Ok(BackingSuper {
-        version: 1,
-        data_offset: 16,
-        mode,
-        state,
-    })
+// The superblock with its checksum made right.
+fn summed(superblock: &[u8; 208]) -> [u8; 208] {
+    let mut bytes = *superblock;
+    let checksum = crc64(u64::MAX, &bytes[8..208]);
+    put_u64(&mut bytes, 0, checksum);
+    bytes
+}
+
+// The superblock of a cache device that lists eight journal buckets, the last of them told.
+fn listing(flags: u64, last: u64) -> [u8; 512] {
+    let mut bytes = [0; 512];
+    bytes[..208].copy_from_slice(&SMALL_CACHE);
+    put_u64(&mut bytes, 104, flags);
+    put_u16(&mut bytes, 206, 8);
+    for i in 0..7 {
+        put_u64(&mut bytes, 208 + 8 * i, 1 + i as u64);
+    }
+    put_u64(&mut bytes, 264, last);
+    let checksum = crc64(u64::MAX, &bytes[8..272]);
+    put_u64(&mut bytes, 0, checksum);
+    bytes
 }
 
 #[test]
-fn made_superblocks(rt: HostRuntime) -> Result<(), Fail> {
-    for (sectors, version, flags, read) in [
-        (80, 1, 3, fixed(Mode::None, BackingState::None)),
-        (80, 1, 1, fixed(Mode::Writeback, BackingState::None)),
+fn real_backing_devices(rt: HostRuntime) -> Result<(), Fail> {
+    let mut small = disk(&rt, rt.alloc(), 4112, &SMALL_BACKING)?;
+    let read = read_backing(&mut small)?;
+    assert_eq!(rt; read, SMALL_BACKING_FIELDS);
+    assert_eq!(rt; read.mode(), Mode::Writethrough);
+    assert_eq!(rt; read.state(), BackingState::None);
+
+    let mut large = disk(&rt, rt.alloc(), 16384, &LARGE_BACKING)?;
+    let read = read_backing(&mut large)?;
+    assert_eq!(rt; read.block, 8);
+    assert_eq!(rt; read.mode(), Mode::Writeback);
+    assert_eq!(rt; read.state(), BackingState::None);
+
+    // What was read is written as the tool wrote it, but for the bucket that it told, and a read that
+    // fails is a fault.
+    let mut other = disk(&rt, rt.alloc(), 80, &SMALL_BACKING)?;
+    assert_eq!(rt; other.sectors(), 80);
+    let written = BackingSuper {
+        version: 1,
+        flags: 1,
+        data_offset: 16,
+        ..read
+    };
+    assert_eq!(rt; write_backing(&mut other, &written), Ok(()));
+    assert_eq!(rt; other.bytes().get(4104..4290), Some(&LARGE_BACKING[8..194]));
+    assert_eq!(rt; other.bytes().get(4290..4292), Some([0, 0].as_slice()));
+    other.fail(3)?;
+    assert_eq!(rt; read_backing(&mut other), Err(SuperError::Fault));
+    assert_eq!(rt; read_backing(&mut other), Ok(read));
+    Ok(())
+}
+
+#[test]
+fn real_cache_devices(rt: HostRuntime) -> Result<(), Fail> {
+    let mut small = disk(&rt, rt.alloc(), 8192, &SMALL_CACHE)?;
+    let read = read_cache(&mut small)?;
+    assert_eq!(rt; read, SMALL_CACHE_FIELDS);
+    assert!(rt; !initialised(&read));
+
+    // What was read is written as the tool wrote it.
+    let mut large = disk(&rt, rt.alloc(), 65536, &LARGE_CACHE)?;
+    let read = read_cache(&mut large)?;
+    assert_eq!(rt; (read.block, read.bucket, read.nbuckets), (8, 128, 512));
+    assert!(rt; !initialised(&read));
+    let mut other = disk(&rt, rt.alloc(), 65536, &SMALL_CACHE)?;
+    if other.sectors() == 65536 && large.sectors() == 65536 {
+        assert_eq!(rt; write_cache(&mut other, &read), Ok(()));
+    }
+    assert_eq!(rt; other.bytes().get(4096..4304), Some(LARGE_CACHE.as_slice()));
+    other.fail(5)?;
+    assert_eq!(rt; read_cache(&mut other), Err(SuperError::Fault));
+    assert_eq!(rt; read_cache(&mut other), Ok(read));
+    Ok(())
+}
+
+// The fault of a superblock without a list that has this one bit changed.
+fn fault_of_flip(place: usize, bit: u8) -> SuperError {
+    match place {
+        8..16 => SuperError::Place,
+        24..40 => SuperError::Magic,
+        207 if bit > 0 => SuperError::JournalList,
+        _ => SuperError::Checksum,
+    }
+}
+
+#[test]
+fn flipped_bits(rt: HostRuntime) -> Result<(), Fail> {
+    for place in 0..208 {
+        for bit in 0..8 {
+            let fault = fault_of_flip(place, bit);
+            let mut bytes = LARGE_BACKING;
+            bytes[place] ^= 1 << bit;
+            let mut backing = disk(&rt, rt.alloc(), 17, &bytes)?;
+            assert_eq!(rt;
+                read_backing(&mut backing),
+                Err(fault),
+                "bit {bit} of {place}"
+            );
+            let mut bytes = LARGE_CACHE;
+            bytes[place] ^= 1 << bit;
+            let mut cache = disk(&rt, rt.alloc(), 17, &bytes)?;
+            assert_eq!(rt; read_cache(&mut cache), Err(fault), "bit {bit} of {place}");
+        }
+    }
+    Ok(())
+}
+
+#[test]
+fn changed_backing_devices(rt: HostRuntime) -> Result<(), Fail> {
+    for (sectors, version, flags, offset, wanted) in [
+        (80, 1, 3, 0, Ok((16, Mode::None, BackingState::None))),
         (
             17,
             1,
             2 + (1 << 61),
-            fixed(Mode::Writearound, BackingState::Clean),
+            79,
+            Ok((16, Mode::Writearound, BackingState::Clean)),
         ),
         (
             80,
-            1,
+            4,
             4 + (2 << 61),
-            fixed(Mode::Writethrough, BackingState::Dirty),
+            79,
+            Ok((79, Mode::Writethrough, BackingState::Dirty)),
         ),
         (
             80,
-            1,
-            0xf000_0000_0000_0010,
-            fixed(Mode::Writethrough, BackingState::Stale),
+            4,
+            0x8000_0000_0000_0010,
+            16,
+            Ok((16, Mode::Writethrough, BackingState::None)),
         ),
-        (16, 4, 3, Err(SuperError::Version(4))),
-        (16, 1, 3, Err(SuperError::DataOffset)),
-        (15, 1, 3, Err(SuperError::DeviceSmall)),
+        (80, 1, 3 << 61, 0, Err(SuperError::Stale)),
+        (80, 4, 3 << 61, 80, Err(SuperError::DataOffset)),
+        (80, 4, 0, 15, Err(SuperError::DataOffset)),
+        (16, 1, 0, 0, Err(SuperError::DataOffset)),
+        (16, 0, 3 << 61, 0, Err(SuperError::Version(0))),
+        (80, 6, 0, 16, Err(SuperError::Version(6))),
+        (15, 1, 0, 0, Err(SuperError::DeviceSmall)),
     ] {
-        let mut disk = disk(&rt, rt.alloc(), sectors, &sector(version, flags))?;
-        assert_eq!(rt; read_backing(&mut disk), read, "of {sectors} sectors");
+        let mut bytes = SMALL_BACKING;
+        put_u64(&mut bytes, 16, version);
+        put_u64(&mut bytes, 104, flags);
+        put_u64(&mut bytes, 184, offset);
+        let mut disk = disk(&rt, rt.alloc(), sectors, &summed(&bytes))?;
+        let read = read_backing(&mut disk).map(|s| (s.data_offset, s.mode(), s.state()));
+        assert_eq!(rt; read, wanted, "version {version} on {sectors} sectors");
     }
     Ok(())
 }
 
 #[test]
-fn a_real_superblock(rt: HostRuntime) -> Result<(), Fail> {
-    let mut bytes = [0; 512];
-    bytes[..112].copy_from_slice(&WRITTEN);
-    let mut real = disk(&rt, rt.alloc(), 80, &bytes)?;
-    let read = fixed(Mode::Writeback, BackingState::None);
-    assert_eq!(rt; read_backing(&mut real), read);
-
-    real.fail(2)?;
-    assert_eq!(rt; read_backing(&mut real), Err(SuperError::Fault));
-    assert_eq!(rt; real.calls(), 2);
-    assert_eq!(rt; real.faults(), 1);
-
-    bytes[39] += 1;
-    let mut other = disk(&rt, rt.alloc(), 80, &bytes)?;
-    assert_eq!(rt; read_backing(&mut other), Err(SuperError::Magic));
+fn changed_cache_devices(rt: HostRuntime) -> Result<(), Fail> {
+    for (place, number, fault) in [
+        (16, 1, SuperError::Version(1)),
+        (192, 3, SuperError::Block),
+        (194, 96, SuperError::Bucket),
+        (184, 127, SuperError::FewBuckets),
+        (186, 1, SuperError::ManyBuckets),
+        (184, 129, SuperError::DeviceSmall),
+        (196, 2, SuperError::SetNumber),
+        (198, 1, SuperError::SetNumber),
+        (204, 0, SuperError::FirstBucket),
+        (204, 128, SuperError::FirstBucket),
+        (206, 257, SuperError::JournalList),
+    ] {
+        let mut bytes = SMALL_CACHE;
+        assert!(rt; place <= 206);
+        put_u16(&mut bytes, place, number);
+        let mut disk = disk(&rt, rt.alloc(), 8192, &summed(&bytes))?;
+        assert_eq!(rt; read_cache(&mut disk), Err(fault), "{number} at {place}");
+    }
     Ok(())
 }
 
 #[test]
-fn numbers_of_errors(rt: HostRuntime) {
-    for (error, number) in [
-        (SuperError::Magic, 1),
-        (SuperError::Version(0), 3),
-        (SuperError::DeviceSmall, 9),
-        (SuperError::DataOffset, 14),
-        (SuperError::NotInitialised, 15),
-        (SuperError::Fault, 19),
+fn listed_journals(rt: HostRuntime) -> Result<(), Fail> {
+    for (flags, last, wanted) in [
+        (1, 8, Ok(true)),
+        (0, 8, Ok(false)),
+        (1, 9, Err(SuperError::JournalList)),
     ] {
-        assert_eq!(rt; error.number(), number);
+        let mut disk = disk(&rt, rt.alloc(), 8192, &listing(flags, last))?;
+        let read = read_cache(&mut disk).map(|s| initialised(&s));
+        assert_eq!(rt; read, wanted, "flags {flags}, last item {last}");
     }
+    Ok(())
+}
+
+#[test]
+fn layouts(rt: HostRuntime) -> Result<(), Fail> {
+    for (sectors, bucket, journal, p, others) in [
+        (8192, 64, 8, 1, [9, 10, 11, 12]),
+        (8_388_608, 1024, 64, 1, [65, 66, 67, 68]),
+        (4_194_304, 64, 256, 7, [257, 264, 265, 266]),
+    ] {
+        let l = layout(sectors, 1, bucket)?;
+        assert_eq!(rt; u64::from(l.geometry.nbuckets) * u64::from(bucket), sectors);
+        assert_eq!(rt; l.geometry.first_bucket, 1);
+        assert_eq!(rt; (l.geometry.journal, l.p), (journal, p));
+        assert_eq!(rt; [l.prio, l.uuid, l.root, l.leaf], others);
+    }
+    assert_eq!(rt; layout(8191, 1, 64).err(), Some(SuperError::FewBuckets));
+    assert_eq!(rt; layout(8191, 1, 96).err(), Some(SuperError::Bucket));
+    assert_eq!(rt; layout(8191, 3, 96).err(), Some(SuperError::Block));
+    Ok(())
+}
+
+#[test]
+fn shown_lines(rt: HostRuntime) -> Result<(), Fail> {
+    let cache = CacheSuper {
+        version: 3,
+        flags: 1,
+        journal: 8,
+        ..SMALL_CACHE_FIELDS
+    };
+    let backing = BackingSuper {
+        flags: 1 + (1 << 61),
+        ..SMALL_BACKING_FIELDS
+    };
+    let text = show(rt.alloc(), &cache, &backing, 4096)?;
+    assert_eq!(rt;
+        text.as_str(),
+        "cache version 3 block 1 bucket 64 buckets 128 first 1 journal 8 replacement lru sync 1 discard 0\n\
+         cache uuid a1f4208954bb49b9bd5b8765e1fb7fb5 set a99a46baf47a42e192749f9deb920ff0\n\
+         backing version 1 offset 16 size 4096 mode writeback state clean\n\
+         backing uuid 7815eacc9bce473cbeedbc10d9428558 set a99a46baf47a42e192749f9deb920ff0\n"
+    );
+    Ok(())
 }

@@ -5,4 +5,6 @@ pub mod Telling
 pub mod Causing
 pub mod Raising
 pub mod Statuses
+pub mod Settled
+pub mod Pairing
 pub mod Completing

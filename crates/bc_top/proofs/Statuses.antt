@@ -27,7 +27,7 @@ use Rattle.bc_output.specs.Put.{Takes}
 use Rattle.bc_output.proofs.Standing.{all_whole}
 use Rattle.bc_top.specs.Ended.{says_fault, says_memory, has_failed, status_of_end, message_of_end, ArePut, IsPutBehind, IsEnd, IsDone, HasStopped}
 use Rattle.bc_top.specs.Run.{HasRun}
-use Rattle.bc_top.specs.Top.{IsRefusal}
+use Rattle.bc_top.specs.Stops.{IsRefusal}
 use Rattle.bc_top.specs.declared.closing.Closing.{Closing}
 use Rattle.bc_top.specs.declared.closing.Closing.TheVariants as closing
 use Rattle.bc_top.proofs.Raising.{SomeFailed, next_rises, rises, said_failed, closed_failed}
@@ -151,18 +151,10 @@ module _ (status : ℕ) (answers : List Answer) (how : Closing) (old new : Strea
   ended_otherwise refused = apart known refused
     where
       apart : IsEndStatus status → IsRefusal status → ⊥
-      apart (inl a) (inl b) = omega arith
-      apart (inl a) (inr (inl b)) = omega arith
-      apart (inl a) (inr (inr b)) = omega arith
-      apart (inr (inl a)) (inl b) = omega arith
-      apart (inr (inl a)) (inr (inl b)) = omega arith
-      apart (inr (inl a)) (inr (inr b)) = omega arith
-      apart (inr (inr (inl a))) (inl b) = omega arith
-      apart (inr (inr (inl a))) (inr (inl b)) = omega arith
-      apart (inr (inr (inl a))) (inr (inr b)) = omega arith
-      apart (inr (inr (inr a))) (inl b) = omega arith
-      apart (inr (inr (inr a))) (inr (inl b)) = omega arith
-      apart (inr (inr (inr a))) (inr (inr b)) = omega arith
+      apart ended (inl two) = grind arith
+      apart ended (inr (inl three)) = grind arith
+      apart ended (inr (inr (inl four))) = grind arith
+      apart ended (inr (inr (inr five))) = grind arith
 
   pub sink_stopped : status ≡ 8 → HasStopped old new
   sink_stopped is = stops end.printed end.printed.put answers old end.between new _ end.lines end.message (eight _ how _ _ (sym end.ends ∙ is))

@@ -1,5 +1,5 @@
 -- From a device as it was opened to the device that was handed in.
-use Rattle.std.proofs.Common.{◌≡◌, ℕ, ◌+◌, List, Option, Some, None, ◌∙◌, subst}
+use Rattle.std.proofs.Common.{◌≡◌, ℕ, ◌+◌, List, Option, Some, None, ◌∙◌}
 use Rattle.std.specs.Prelude.{reverse}
 use Rattle.bc_model.specs.Sector.{Image}
 use Rattle.bc_disk.specs.Disk.{DiskFacts, IfTold, BothTold}
@@ -12,14 +12,18 @@ use Rattle.bc_script.specs.Served.{Served}
 use Rattle.bc_script.specs.Expected.{AllAnswered, answers_of}
 use Rattle.bc_script.proofs.Outcomes.{outcome_from, answers_same}
 use Rattle.bc_core.specs.declared.pass.Pass.{Pass}
+use Rattle.bc_super.specs.Reading.{ReadsSuper}
+use Rattle.bc_super.specs.declared.backing.BackingSuper.{BackingSuper}
 use Rattle.bc_top.specs.Run.{Survives}
 use Rattle.bc_top.specs.Opened.{SameImage}
 
-pub told_before : (old new : Option Image) (P : Image → Type 0) → BothTold SameImage old new → IfTold new P → IfTold old (λ held. (image : Image) × SameImage held image × P image)
-told_before None None P both h = tt
-told_before None (Some image) P both h = absurd both
-told_before (Some held) None P both h = absurd both
-told_before (Some held) (Some image) P both h = (image, both, h)
+-- what holds of the image that it held then, from where its superblock says that the data begins
+pub told_before : (d : DiskFacts) (old new : Option Image) (s : BackingSuper) (P : ℕ → Image → Type 0) → BothTold SameImage old new → ReadsSuper d s → IfTold new (P s.data_offset)
+    → IfTold old (λ held. (s : BackingSuper) × ReadsSuper d s × ((image : Image) × SameImage held image × P s.data_offset image))
+told_before d None None s P both reads h = tt
+told_before d None (Some image) s P both reads h = absurd both
+told_before d (Some held) None s P both reads h = absurd both
+told_before d (Some held) (Some image) s P both reads h = (s, reads, (image, both, h))
 
 -- what the lines are answered by what the device held
 pub expected : (old new : Option Image) (offset size : ℕ) (lines : List Line) (answers : List Answer) (history : List Entry) → BothTold SameImage old new → IfTold new (λ image. IsLegal (λ s. image (offset + s)) (reverse history))
@@ -31,6 +35,6 @@ expected (Some held) (Some image) offset size lines answers history both legal s
     outcome_from size 1 lines answers history (λ s. image (offset + s)) served ((legal_agrees (λ s. image (offset + s)) history).1 legal) all
     ∙ answers_same size lines (λ s. image (offset + s)) (λ s. held (offset + s)) (λ s. both (offset + s))
 
-pub legal_of : (o : Option Image) (from offset : ℕ) → from ≡ offset → (pass : Pass) (after : DiskFacts) → IfTold o (λ image. Survives from image pass after) → IfTold o (λ image. IsLegal (λ s. image (offset + s)) (reverse pass.entries.items))
-legal_of None from offset is pass after h = tt
-legal_of (Some image) from offset is pass after h = subst (λ n. IsLegal (λ s. image (n + s)) (reverse pass.entries.items)) is h.0
+pub legal_of : (o : Option Image) (offset : ℕ) (pass : Pass) (after : DiskFacts) → IfTold o (λ image. Survives offset image pass after) → IfTold o (λ image. IsLegal (λ s. image (offset + s)) (reverse pass.entries.items))
+legal_of None offset pass after h = tt
+legal_of (Some image) offset pass after h = h.0

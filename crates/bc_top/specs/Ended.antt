@@ -98,8 +98,9 @@ pub record IsDone (size : ℕ) (lines : List Line) (answers : List Answer) (old 
   pub taken : Takes text old new
 
 -- Over a device that tells what it holds, answers that refuse nothing but a range are a function of the lines and of that.
-abbrev pub AreExpected : ℕ → List Line → List Answer → DiskFacts → Type 0
-AreExpected size lines answers d = AllAnswered size lines answers → IfTold d.holds (λ held. answers ≡ answers_of size lines (λ s. held (16 + s)))
+-- The data has so many sectors from this one on.
+abbrev pub AreExpected : ℕ → ℕ → List Line → List Answer → DiskFacts → Type 0
+AreExpected offset size lines answers d = AllAnswered size lines answers → IfTold d.holds (λ held. answers ≡ answers_of size lines (λ s. held (offset + s)))
 
 -- the sink failed, or took nothing of a piece that isn't empty
 abbrev pub HasStopped : StreamFacts → StreamFacts → Type 0

@@ -4,4 +4,6 @@ pub mod Closed
 pub mod Causes
 pub mod Ended
 pub mod Opened
+pub mod Stops
+pub mod Pairs
 pub mod Top

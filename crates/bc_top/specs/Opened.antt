@@ -1,12 +1,15 @@
--- What the opening of the backing device leaves of it, and why it is refused.
+-- What the opening of a pair leaves of its devices, and why it isn't served.
 use Rattle.std.specs.Prelude.{◌≡◌, ◌≢◌, ◌⊎◌, ℕ, Option, Some, None}
 use Rattle.bc_model.specs.Sector.{Image}
 use Rattle.bc_disk.specs.Device.{HasRisen}
 use Rattle.bc_disk.specs.Disk.{DiskFacts, BothTold}
+use Rattle.bc_disk.specs.declared.disk.Device.{Device}
 use Rattle.bc_disk.specs.declared.disk.Device.TheVariants as device
-use Rattle.bc_super.specs.Super.{IsBackingSuper, number_of}
-use Rattle.bc_super.specs.Reading.{ReadsSuper, IsCause}
+use Rattle.bc_super.specs.Cache.{IsInitialised}
+use Rattle.bc_super.specs.Super.{Unless, IsMode, IsState, mode_number, state_number, number_of}
+use Rattle.bc_super.specs.Reading.{ReadsSuper, ReadsCache, IsCause, IsCacheCause}
 use Rattle.bc_super.specs.declared.backing.BackingSuper.{BackingSuper}
+use Rattle.bc_super.specs.declared.cache.CacheSuper.{CacheSuper}
 use Rattle.bc_super.specs.declared.error.SuperError.{SuperError}
 use Rattle.bc_super.specs.declared.error.SuperError.TheVariants as fault
 use Rattle.bc_super.specs.declared.mode.Mode.TheVariants as mode
@@ -17,16 +20,27 @@ use Rattle.bc_top.specs.declared.opening.OpenError.TheVariants as errors
 abbrev pub SameImage : Image → Image → Type 0
 SameImage old new = (s : ℕ) → new s ≡ old s
 
--- it holds what it held, and its superblock asks for no cache
-pub record IsOpened (old new : DiskFacts) : Type 0 where
+-- ---- the superblocks
+
+abbrev pub HasNoState : BackingSuper → Type 0
+HasNoState s = IsState (state_number s.flags) state.None
+
+-- the backing device asks for no cache: requests go to it alone
+abbrev pub IsPassThrough : BackingSuper → Type 0
+IsPassThrough s = IsMode (mode_number s.flags) mode.None × HasNoState s
+
+-- the device tells what it holds, and that its superblock asks for no cache
+abbrev pub AsksForNone : DiskFacts → Type 0
+AsksForNone d = (held : Image) × (d.holds ≡ Some held) × ((s : BackingSuper) × ReadsSuper d s × IsPassThrough s)
+
+-- ---- what the opening leaves
+
+-- it holds what it held, no call of it failed, and its superblock is this one
+pub record IsOpened (s : BackingSuper) (old new : DiskFacts) : Type 0 where
   pub sectors : new.sectors ≡ old.sectors
   pub holds : BothTold SameImage old.holds new.holds
   pub faults : new.faults ≡ old.faults
-  pub asks_for_none : (s : BackingSuper) × ReadsSuper new s × (s.mode ≡ mode.None) × (s.state ≡ state.None)
-
--- the device tells what it holds, and that its superblock is one that asks for no cache
-abbrev pub AsksForNone : DiskFacts → Type 0
-AsksForNone d = (held : Image) × (d.holds ≡ Some held) × ((s : BackingSuper) × IsBackingSuper (held 8) d.sectors s × (s.mode ≡ mode.None) × (s.state ≡ state.None))
+  pub reads : ReadsSuper new s
 
 -- a crash leaves what it might have left before, or what the device holds
 abbrev pub LeavesLess : Option Image → (Image → Type 0) → (Image → Type 0) → Type 0
@@ -39,8 +53,34 @@ pub record IsSameDevice (old new : DiskFacts) : Type 0 where
   pub holds : BothTold SameImage old.holds new.holds
   pub leaves : LeavesLess new.holds old.may_leave new.may_leave
 
--- the superblock that was read is refused by this number of the backing device, or asks for a cache
-abbrev pub IsOpenCause : OpenError → DiskFacts → DiskFacts → Type 0
-IsOpenCause errors.Fault old new = HasRisen old.faults new.faults
-IsOpenCause (errors.Superblock device.Backing number) old new = (e : SuperError) × (number ≡ number_of e) × (e ≢ fault.Fault) × IsCause new e
-IsOpenCause (errors.Superblock device.Cache number) old new = (number ≡ 15) × ((s : BackingSuper) × ReadsSuper new s × (((s.mode ≡ mode.None) × (s.state ≡ state.None)) → ⊥))
+-- ---- why a pair isn't served
+
+-- a superblock's fault as the reason why a pair isn't served
+abbrev pub IsToldAs : Device → SuperError → OpenError → Type 0
+IsToldAs d e error = ((e ≡ fault.Fault) × (error ≡ errors.Fault d)) ⊎ ((e ≢ fault.Fault) × (error ≡ errors.Superblock d (number_of e)))
+
+-- a call of the backing device failed, or its superblock has this number's fault, the first in order
+abbrev pub IsBackingCause : OpenError → DiskFacts → DiskFacts → Type 0
+IsBackingCause (errors.Fault device.Backing) old new = HasRisen old.faults new.faults
+IsBackingCause (errors.Superblock device.Backing number) old new = (e : SuperError) × (number ≡ number_of e) × (e ≢ fault.Fault) × IsCause new e
+IsBackingCause error old new = ⊥
+
+-- what a pair with these superblocks is answered, of which that of the backing device asks for a cache: it has to have a state,
+-- the cache has to have been set up, they have to be of one set, and then no journal entry is found
+abbrev pub IsJudged : OpenError → BackingSuper → CacheSuper → Type 0
+IsJudged error s c =
+    Unless ((HasNoState s → ⊥) × IsInitialised c) (error ≡ errors.Superblock device.Cache (number_of fault.NotInitialised))
+    (Unless (s.set_uuid ≡ c.set_uuid) (error ≡ errors.Superblock device.Backing (number_of fault.OtherSet))
+    (error ≡ errors.Image 2))
+
+-- The backing device has this superblock, which asks for a cache. A call of the cache device failed; or its superblock has this
+-- number's fault, the first in order; or both were read.
+abbrev pub IsPairCause : OpenError → BackingSuper → DiskFacts → DiskFacts → Type 0
+IsPairCause error s old new = ((error ≡ errors.Fault device.Cache) × HasRisen old.faults new.faults)
+    ⊎ ((e : SuperError) × (error ≡ errors.Superblock device.Cache (number_of e)) × (e ≢ fault.Fault) × IsCacheCause new e)
+    ⊎ ((c : CacheSuper) × ReadsCache new c × IsJudged error s c)
+
+-- The first of these: a cause of the backing device, with which the cache device isn't called, or one of the pair.
+abbrev pub IsOpenCause : OpenError → DiskFacts → DiskFacts → DiskFacts → DiskFacts → Type 0
+IsOpenCause error cache cache' backing backing' = IsBackingCause error backing backing'
+    ⊎ ((s : BackingSuper) × IsOpened s backing backing' × (IsPassThrough s → ⊥) × IsPairCause error s cache cache')

@@ -1,5 +1,5 @@
--- The words of a command, and why no run began.
-use Rattle.std.specs.Prelude.{◌≡◌, ◌⊎◌, ◌-◌, ◌^◌, ℕ, List, [], ◌∷◌, Some, map, min, codes, string_bytes, String}
+-- The words of a command, and why a trace isn't served.
+use Rattle.std.specs.Prelude.{◌≡◌, ◌⊎◌, ℕ, List, [], ◌∷◌, Some, map, codes, string_bytes, String}
 use Rattle.std.specs.declared.alloc.Global.{Global}
 use Rattle.bc_disk.specs.Device.{HasRisen}
 use Rattle.bc_disk.specs.Disk.{DiskFacts}
@@ -7,57 +7,51 @@ use Rattle.bc_disk.specs.Stream.{StreamFacts}
 use Rattle.bc_script.specs.Trace.{IsCause, IsTrace, SpellAll, lines_of}
 use Rattle.bc_script.specs.declared.line.Line.{Line}
 use Rattle.bc_script.specs.declared.script.TraceError.TheVariants as trace
-use Rattle.bc_disk.specs.declared.disk.Device.TheVariants.{Backing}
-use Rattle.bc_output.specs.declared.message.Message.{Message}
-use Rattle.bc_output.specs.declared.message.Message.TheVariants as message
-use Rattle.bc_output.specs.declared.message.Origin.TheVariants as origin
-use Rattle.bc_top.specs.Opened.{IsOpenCause}
+use Rattle.bc_pair.specs.declared.pair.NewPair.{NewPair}
+use Rattle.bc_words.specs.Words.{IsInRange, Spells}
+use Rattle.bc_words.specs.declared.command.Command.{Command}
+use Rattle.bc_words.specs.declared.command.Command.TheVariants as command
+use Rattle.bc_top.specs.Opened.{IsOpenCause, IsSameDevice}
+use Rattle.bc_top.specs.Pairs.{HasAdopted, HasFormatted, HasShown}
 use Rattle.bc_top.specs.declared.opening.OpenError.TheVariants as errors
-use Rattle.bc_top.specs.declared.top.Stop.{Stop}
-use Rattle.bc_top.specs.declared.top.Stop.TheVariants as stop
+use Rattle.bc_top.specs.declared.stop.Stop.{Stop}
+use Rattle.bc_top.specs.declared.stop.Stop.TheVariants as stop
+
+-- the words spell this command
+abbrev pub Says : List (String Global) → Command → Type 0
+Says words command = IsInRange command × Spells (map string_bytes words) command
 
 -- the one word `serve`
 abbrev pub IsServe : List (String Global) → Type 0
 IsServe words = map string_bytes words ≡ codes "serve" ∷ []
 
--- the status with which a call ends
-abbrev pub status_of : Stop → ℕ
-status_of stop.Usage = 2
-status_of (stop.Trace e) = 3
-status_of (stop.Superblock device number) = 4
-status_of stop.Fault = 6
-status_of stop.Source = 7
-status_of stop.Memory = 9
-
--- the message of it
-abbrev pub message_of : Stop → Message
-message_of stop.Usage = message.Usage
-message_of (stop.Trace e) = message.Trace e.line e.why
-message_of (stop.Superblock device number) = message.Superblock device number
-message_of stop.Fault = message.Fault (origin.Disk Backing)
-message_of stop.Source = message.Fault origin.Source
-message_of stop.Memory = message.Memory
-
--- those with which no run began since the words, the trace or a superblock were refused, and all that there are
-abbrev pub IsRefusal : ℕ → Type 0
-IsRefusal status = (status ≡ 2) ⊎ (status ≡ 3) ⊎ (status ≡ 4)
-
-abbrev pub IsStatus : ℕ → Type 0
-IsStatus status = (status ≡ 0) ⊎ (status ≡ 2) ⊎ (status ≡ 3) ⊎ (status ≡ 4) ⊎ (status ≡ 6) ⊎ (status ≡ 7) ⊎ (status ≡ 8) ⊎ (status ≡ 9)
-
--- how many data sectors a backing device has, from sector 16 on
-abbrev pub data_sectors : DiskFacts → ℕ
-data_sectors d = min (d.sectors - 16) (2 ^ 40)
+-- What a command but `serve` does. The words of `format` are the new pair, field by field.
+abbrev pub Does : {C B : Type 0} → (C → DiskFacts) → (B → DiskFacts) → Command → ℕ → C → C → B → B → StreamFacts → StreamFacts → Type 0
+Does cache_facts backing_facts (command.Format set cuuid buuid block bucket) status cache cache' backing backing' old new = (p : NewPair)
+    × (p.set_uuid ≡ set) × (p.cache_uuid ≡ cuuid) × (p.backing_uuid ≡ buuid) × (p.block ≡ block) × (p.bucket ≡ bucket)
+    × HasFormatted cache_facts backing_facts status cache cache' backing backing' old new p
+Does cache_facts backing_facts command.Adopt status cache cache' backing backing' old new = HasAdopted cache_facts backing_facts status cache cache' backing backing' old new
+Does cache_facts backing_facts command.Show status cache cache' backing backing' old new = HasShown cache_facts backing_facts status cache cache' backing backing' old new
+Does cache_facts backing_facts command.Serve status cache cache' backing backing' old new = Unit {0}
 
 -- the source tells a text that spells a trace
 abbrev pub SpellsTrace : StreamFacts → Type 0
 SpellsTrace source = (text : List ℕ) × (source.text ≡ Some text) × ((lines : List Line) × SpellAll (lines_of text) lines × IsTrace lines)
 
--- why no run began; want of memory alone is free
-abbrev pub IsStopCause : Stop → List (String Global) → StreamFacts → StreamFacts → DiskFacts → DiskFacts → Type 0
-IsStopCause stop.Usage words source left old new = IsServe words → ⊥
-IsStopCause (stop.Trace e) words source left old new = IsServe words × IsCause source left (trace.Script e)
-IsStopCause stop.Source words source left old new = IsServe words × HasRisen source.faults left.faults
-IsStopCause stop.Fault words source left old new = IsServe words × IsOpenCause errors.Fault old new
-IsStopCause (stop.Superblock device number) words source left old new = IsServe words × IsOpenCause (errors.Superblock device number) old new
-IsStopCause stop.Memory words source left old new = IsServe words
+-- no sector of either device was written
+abbrev pub AreSame : DiskFacts → DiskFacts → DiskFacts → DiskFacts → Type 0
+AreSame cache cache' backing backing' = IsSameDevice cache cache' × IsSameDevice backing backing'
+
+-- why a trace isn't served; want of memory alone is free
+abbrev pub IsServeCause : Stop → StreamFacts → StreamFacts → DiskFacts → DiskFacts → DiskFacts → DiskFacts → Type 0
+IsServeCause stop.Usage source left cache cache' backing backing' = ⊥
+IsServeCause (stop.Trace e) source left cache cache' backing backing' = IsCause source left (trace.Script e)
+IsServeCause stop.Source source left cache cache' backing backing' = HasRisen source.faults left.faults
+IsServeCause (stop.Fault device) source left cache cache' backing backing' = IsOpenCause (errors.Fault device) cache cache' backing backing'
+IsServeCause (stop.Superblock device number) source left cache cache' backing backing' = IsOpenCause (errors.Superblock device number) cache cache' backing backing'
+IsServeCause (stop.Image why) source left cache cache' backing backing' = IsOpenCause (errors.Image why) cache cache' backing backing'
+IsServeCause stop.Memory source left cache cache' backing backing' = Unit {0}
+
+-- where a call ends so, the count of a device's faults rose
+abbrev pub OneHasRisen : DiskFacts → DiskFacts → DiskFacts → DiskFacts → Type 0
+OneHasRisen cache cache' backing backing' = HasRisen cache.faults cache'.faults ⊎ HasRisen backing.faults backing'.faults

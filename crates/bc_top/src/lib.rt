@@ -4,6 +4,10 @@
 pub mod closing;
 mod ending;
 pub mod opening;
+mod pairs;
+pub mod ran;
 pub mod running;
+mod serve;
 mod serving;
+pub mod stop;
 pub mod top;

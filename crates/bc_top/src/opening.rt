@@ -1,53 +1,97 @@
-//! How the backing device is opened.
-ghost use Rattle.std.specs.Prelude.{◌≡◌, ◌<◌, IfOk, IfErr};
+//! How a pair is opened.
+ghost use Rattle.std.specs.Prelude.{◌↔◌, IsTrue, IfOk, IfErr};
 ghost use Rattle.bc_disk.specs.Disk.{StandsFor};
 ghost use Rattle.bc_disk.specs.Stands.{settled_model};
-ghost use Rattle.bc_top.specs.Opened.{IsOpened, IsSameDevice, IsOpenCause};
+ghost use Rattle.bc_top.specs.Opened.{IsBackingCause, IsJudged, IsOpened, IsPairCause, IsPassThrough, IsSameDevice, IsToldAs};
 
 use bc_disk::disk::{Device, Disk};
 use bc_super::backing::{BackingSuper, read_backing};
+use bc_super::cache::{CacheSuper, initialised, read_cache};
 use bc_super::error::SuperError;
 use bc_super::mode::Mode;
 use bc_super::state::BackingState;
 
-/// Why the backing device isn't served.
+/// Why a pair isn't served.
 #[derive(Clone, Copy, Debug, PartialEq, Eq, Drop)]
 pub enum OpenError {
-    /// A call of it failed.
-    Fault,
+    /// A call of this device failed.
+    Fault(Device),
     /// The superblock of this device has the fault of this number.
     Superblock { device: Device, number: u8 },
+    /// What the cache device holds is refused for this reason.
+    Image(u8),
 }
 
-/// Makes what the backing device holds all that a crash may leave, and reads its superblock. `Ok` has
-/// the sector at which its data begins. A device that asks for a cache is refused as a cache device
-/// that wasn't set up, since runs with a cache don't exist yet.
-pub fn open_backing<B: Disk>(backing: &mut B) -> Result<u64, OpenError>
-    ensures ok { IfOk result (λ offset. (offset ≡ 16) × (16 < (B.facts backing.new).sectors) × IsOpened (B.facts backing.old) (B.facts backing.new)) }
+/// That a cache device has no journal entry.
+const NO_JOURNAL: u8 = 2;
+
+// That a call which read the superblock of this device failed, or found this fault.
+fn refused(device: Device, error: SuperError) -> OpenError
+    ensures { IsToldAs device error result }
+{
+    match error {
+        SuperError::Fault => OpenError::Fault(device),
+        error => OpenError::Superblock {
+            device,
+            number: error.number(),
+        },
+    }
+}
+
+/// Makes what the backing device holds all that a crash may leave, and reads its superblock.
+pub fn open_backing<B: Disk>(backing: &mut B) -> Result<BackingSuper, OpenError>
+    ensures ok { IfOk result (λ s. IsOpened s (B.facts backing.old) (B.facts backing.new)) }
     ensures settled { IfOk result (λ _. StandsFor (B.facts backing.new) (settled_model (B.facts backing.new))) }
-    ensures cause { IfErr result (λ error. IsOpenCause error (B.facts backing.old) (B.facts backing.new)) }
+    ensures cause { IfErr result (λ error. IsBackingCause error (B.facts backing.old) (B.facts backing.new)) }
     ensures same { IsSameDevice (B.facts backing.old) (B.facts backing.new) }
 {
-    if backing.barrier().is_err() {
-        return Err(OpenError::Fault);
-    }
+    let Ok(()) = backing.barrier() else {
+        return Err(OpenError::Fault(Device::Backing));
+    };
     match read_backing(backing) {
-        Ok(
-            BackingSuper {
-                data_offset,
-                mode: Mode::None,
-                state: BackingState::None,
-                version: _,
-            },
-        ) => Ok(data_offset),
-        Ok(_) => Err(OpenError::Superblock {
+        Ok(s) => Ok(s),
+        Err(error) => Err(refused(Device::Backing, error)),
+    }
+}
+
+/// Whether a backing device asks for no cache.
+pub fn is_pass_through(s: &BackingSuper) -> bool
+    ensures { IsTrue result ↔ IsPassThrough s.now }
+{
+    s.mode() == Mode::None && s.state() == BackingState::None
+}
+
+// What a pair with these superblocks is answered.
+fn judge(s: &BackingSuper, c: &CacheSuper) -> OpenError
+    ensures { IsJudged result s.now c.now }
+{
+    if s.state() == BackingState::None || !initialised(c) {
+        OpenError::Superblock {
             device: Device::Cache,
             number: SuperError::NotInitialised.number(),
-        }),
-        Err(SuperError::Fault) => Err(OpenError::Fault),
-        Err(error) => Err(OpenError::Superblock {
+        }
+    } else if s.set_uuid != c.set_uuid {
+        OpenError::Superblock {
             device: Device::Backing,
-            number: error.number(),
-        }),
+            number: SuperError::OtherSet.number(),
+        }
+    } else {
+        OpenError::Image(NO_JOURNAL)
+    }
+}
+
+/// Why a backing device with this superblock, which asks for a cache, isn't served: runs with a cache
+/// don't exist yet. Makes what the cache device holds all that a crash may leave, and reads its
+/// superblock.
+pub fn refuse_cache<C: Disk>(cache: &mut C, s: &BackingSuper) -> OpenError
+    ensures cause { IsPairCause result s.now (C.facts cache.old) (C.facts cache.new) }
+    ensures same { IsSameDevice (C.facts cache.old) (C.facts cache.new) }
+{
+    let Ok(()) = cache.barrier() else {
+        return OpenError::Fault(Device::Cache);
+    };
+    match read_cache(cache) {
+        Ok(c) => judge(s, &c),
+        Err(error) => refused(Device::Cache, error),
     }
 }

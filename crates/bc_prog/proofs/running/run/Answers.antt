@@ -1,7 +1,9 @@
-use Rattle.std.proofs.Common.{subst, ap, ◌∙◌, inl}
+use Rattle.std.proofs.Common.{sym, subst, ap, ◌∙◌, inl}
 use Rattle.std.specs.Prelude.{Err}
 use Rattle.bc_output.proofs.Taken.{to_end}
-use Rattle.bc_top.specs.Top.{IsServe}
+use Rattle.std.specs.Prelude.{List, String}
+use Rattle.std.specs.declared.alloc.Global.{Global}
+use Rattle.bc_top.specs.Top.{IsServe, Says}
 use Rattle.bc_prog.proofs.Ended.{began, refused}
 use Rattle.bc_prog.proofs.running.run.Goals as goal
 
@@ -9,10 +11,10 @@ pub returns-in-Err-clause-unknown : goal.returns-in-Err-clause-unknown
 returns-in-Err-clause-unknown g c = λ _. refused _ _ (λ is. c.open_disks.ensures.memory (c.in-Err.is ∙ ap Err is)) c.refuse.ensures.ended
 
 pub returns-in-Ok-clause-unknown : goal.returns-in-Ok-clause-unknown
-returns-in-Ok-clause-unknown g c = λ other. inl (c.bcache.ensures.usage.1 (λ serves. other (subst IsServe (to_end 2 c.args.words.now) serves)))
+returns-in-Ok-clause-unknown g c = λ other. inl (c.bcache.ensures.usage.1 (λ command says. other command (subst (λ (words : List (String Global)). Says words command) (to_end 2 c.args.words.now) says)))
 
 pub returns-in-Ok-clause-done : goal.returns-in-Ok-clause-done
-returns-in-Ok-clause-done g c = λ zero.
-    let run = (began _ _ (λ none. let it = c.bcache.ensures.stopped none in (it.0, it.1)) c.bcache.ensures.run zero).1 in
-    let done = run.10 zero in
-    record { lines = run.1; trace = run.6; whole = run.7; size = _; answers = run.2; history = _; served = run.8.served; text = done.text; printed = done.are_lines; taken = done.taken }
+returns-in-Ok-clause-done g c = λ serves zero.
+    let run = (began _ _ (λ none. let it = c.bcache.ensures.stopped (subst IsServe (sym (to_end 2 c.args.words.now)) serves) none in (it.0, it.1)) c.bcache.ensures.run zero).1 in
+    let done = run.12 zero in
+    record { lines = run.2; trace = run.8; whole = run.9; size = _; answers = run.3; history = _; served = run.10.served; text = done.text; printed = done.are_lines; taken = done.taken }

@@ -1,0 +1,5 @@
+pub mod Runs
+pub mod Steps
+pub mod Cache
+pub mod Refusals
+pub mod Makings

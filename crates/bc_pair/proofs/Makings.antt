@@ -1,0 +1,171 @@
+-- What is made of a pair.
+use Rattle.std.proofs.Common.{◌≡◌, ◌≢◌, inl, inr, ℕ, ◌+◌, ◌*◌, ◌/◌, ◌%◌, ◌^◌, ◌<◌, ◌≤◌, refl, sym, ◌∙◌, subst, arith}
+use Rattle.std.proofs.Math.Nat.{div-eq_of_lt, mul-le-mul_left}
+use Rattle.std.specs.Prelude.{replicate, Result, Ok, Err, IsErrAnd, IfErr, bit_or}
+use Rattle.std.proofs.lemmas.Nat.{or_disjoint}
+use Rattle.std.proofs.lemmas.Nat.Bits.{and_pow}
+use Rattle.bc_disk.specs.Device.{HasRisen}
+use Rattle.bc_disk.specs.Disk.{DiskFacts, IsCounted}
+use Rattle.bc_disk.specs.declared.disk.Device.{Device}
+use Rattle.bc_disk.specs.declared.disk.Device.TheVariants as device
+use Rattle.bc_super.specs.Cache.{IsBlock, IsBucket, IsUsableCache, most_buckets}
+use Rattle.bc_super.specs.Layout.{IsLaidOut, buckets_of}
+use Rattle.bc_super.specs.Reading.{ReadsCache, ReadsSuper}
+use Rattle.bc_super.specs.Super.{IsUsable, state_number}
+use Rattle.bc_super.specs.declared.backing.BackingSuper.{BackingSuper}
+use Rattle.bc_super.specs.declared.cache.CacheSuper.{CacheSuper}
+use Rattle.bc_super.specs.declared.error.SuperError.TheVariants as super
+use Rattle.bc_super.specs.declared.geometry.Layout.{Layout}
+use Rattle.bc_super.proofs.Buckets.{quotient, wide}
+use Rattle.bc_pair.specs.Causes.{Adopts, AreKept, FaultRose, IsFormatRefused, IsWritingOf, good}
+use Rattle.bc_pair.specs.Found.{FindsAdopted, FindsNew, IsPair}
+use Rattle.bc_pair.specs.Made.{IsUnused, PairWritten, adopted_backing, adopted_cache, new_backing, new_cache}
+use Rattle.bc_pair.specs.Steps.{HasRoom}
+use Rattle.bc_pair.specs.declared.error.PairError.{PairError}
+use Rattle.bc_pair.specs.declared.error.PairError.TheVariants as errors
+use Rattle.bc_pair.specs.declared.pair.NewPair.{NewPair}
+
+-- ---- flags
+
+pub with_sync : (flags : ℕ) → flags % 2 ≡ 0 → bit_or flags 1 ≡ flags + 1
+with_sync flags none = or_disjoint flags 1 (and_pow flags 0 ∙ omega arith)
+
+pub with_state : (flags : ℕ) → state_number flags ≡ 0 → bit_or flags 2305843009213693952 ≡ flags + 2 ^ 61
+with_state flags none = or_disjoint flags 2305843009213693952 (and_pow flags 61 ∙ omega arith)
+
+pub state_of : (flags : ℕ) → state_number flags ≡ 0 → state_number (flags + 2 ^ 61) ≢ 3
+state_of flags none = λ stale. absurd (omega arith)
+
+-- ---- what may be written
+
+module _ (sectors : ℕ) (l : Layout) (laid : IsLaidOut sectors l) where
+  pub room_of : l.geometry.bucket * l.geometry.nbuckets ≤ sectors
+  room_of =
+      let size = l.geometry.bucket in
+      let many : 64 ≤ size = wide size laid.bucket in
+      let whole = quotient sectors size (omega arith) in
+      let up : size * l.geometry.nbuckets ≤ size * (sectors / size) = mul-le-mul_left size (omega (arith, laid.nbuckets)) in
+      omega (arith, whole.0)
+
+  pub first_bucket_of : (16 ≤ l.geometry.first_bucket * l.geometry.bucket) × (l.geometry.first_bucket < l.geometry.nbuckets)
+  first_bucket_of =
+      let size = l.geometry.bucket in
+      let many : 64 ≤ size = wide size laid.bucket in
+      let below : 23 < size = omega arith in
+      let none : 23 / size ≡ 0 = div-eq_of_lt below in
+      let one : l.geometry.first_bucket ≡ 1 = omega (arith, laid.first_bucket) in
+      (subst (λ n. 16 ≤ n * size) (sym one) (omega arith), omega (arith, laid.enough))
+
+  pub journal_of : (8 ≤ l.geometry.journal) × (l.geometry.journal ≤ 256)
+  journal_of = (omega (arith, laid.journal), omega (arith, laid.journal))
+
+  pub new_usable : (p : NewPair) → (l.geometry.block ≡ p.block) × (l.geometry.bucket ≡ p.bucket) → p.set_uuid ≢ replicate 16 0 → IsUsableCache sectors (new_cache p l)
+  new_usable p sizes named = record {
+    version = inr refl;
+    block = subst (λ n. IsBlock n) sizes.0 laid.block;
+    bucket = subst (λ n. IsBucket n) sizes.1 laid.bucket;
+    fewest = laid.enough;
+    most = subst (λ n. l.geometry.nbuckets ≤ most_buckets n) sizes.1 l.geometry.buckets_to;
+    room = subst (λ n. n * l.geometry.nbuckets ≤ sectors) sizes.1 room_of;
+    set_uuid = named;
+    first_bucket = (subst (λ n. 16 ≤ l.geometry.first_bucket * n) sizes.1 first_bucket_of.0, first_bucket_of.1);
+    few = journal_of.1;
+    count = λ sync. inr journal_of.0;
+    within = l.geometry.journal_within;
+  }
+
+-- a table of zeros is refused as the uuid of a set
+pub zero_refused : (p : NewPair) (cache backing : ℕ) (l : Layout) → IsLaidOut cache l → (l.geometry.block ≡ p.block) × (l.geometry.bucket ≡ p.bucket) → p.set_uuid ≡ replicate 16 0
+    → IsFormatRefused p cache backing device.Cache super.ZeroUuid
+zero_refused p cache backing l laid sizes zero =
+    inr (subst (λ n. IsBlock n) sizes.0 laid.block, inr (subst (λ n. IsBucket n) sizes.1 laid.bucket, inr (subst (λ n. 128 ≤ buckets_of cache n) sizes.1 (subst (λ n. 128 ≤ n) laid.nbuckets laid.enough), inl ((λ named. named zero), (refl, refl)))))
+
+pub adopted_usable : (sectors : ℕ) (c : CacheSuper) (l : Layout) → IsUsableCache sectors c → IsLaidOut (c.bucket * c.nbuckets) l → l.geometry.bucket ≡ c.bucket → l.geometry.nbuckets ≡ c.nbuckets → IsUsableCache sectors (adopted_cache c l)
+adopted_usable sectors c l usable laid size many =
+    let first = first_bucket_of (c.bucket * c.nbuckets) l laid in
+    let journal = journal_of (c.bucket * c.nbuckets) l laid in
+    record {
+      version = inr refl;
+      block = usable.block;
+      bucket = usable.bucket;
+      fewest = usable.fewest;
+      most = usable.most;
+      room = usable.room;
+      set_uuid = usable.set_uuid;
+      first_bucket = (subst (λ n. 16 ≤ l.geometry.first_bucket * n) size first.0, subst (λ n. l.geometry.first_bucket < n) many first.1);
+      few = journal.1;
+      count = λ sync. inr journal.0;
+      within = subst (λ n. l.geometry.first_bucket + l.geometry.journal ≤ n) many l.geometry.journal_within;
+    }
+
+pub adopted_backing_usable : (sectors : ℕ) (c : CacheSuper) (b : BackingSuper) → IsUsable sectors b → state_number b.flags ≡ 0 → IsUsable sectors (adopted_backing c b)
+adopted_backing_usable sectors c b usable none = record { version = usable.version; fixed = usable.fixed; data_offset = usable.data_offset; state = state_of b.flags none }
+
+-- ---- what is answered
+
+-- a failed call is the fault of its device
+pub writing_failed : (r : Result (Unit {0}) PairError) (d : Device) (P : Result (Unit {0}) Device → Type 0) → IsErrAnd r (λ e. e ≡ errors.Fault d) → P (Err d) → IsWritingOf r P
+writing_failed (Ok u) d P is how = elim is [ ]
+writing_failed (Err e) d P is how = subst (λ (e : PairError). IsWritingOf (Err e) P) (sym is) how
+
+pub fails_so : (r : Result (Unit {0}) PairError) (d : Device) (P : PairError → Type 0) → IsErrAnd r (λ e. e ≡ errors.Fault d) → P (errors.Fault d) → IfErr r P
+fails_so (Ok u) d P is how = elim is [ ]
+fails_so (Err e) d P is how = subst P (sym is) how
+
+-- a fault behind good calls
+pub rose_behind : (d : Device) (cache mid cache' backing read backing' : DiskFacts) → mid.faults ≡ cache.faults → read.faults ≡ backing.faults → FaultRose (errors.Fault d) mid cache' read backing' → FaultRose (errors.Fault d) cache cache' backing backing'
+rose_behind device.Cache cache mid cache' backing read backing' one two rose = (subst (λ n. HasRisen n cache'.faults) one rose.0, rose.1 ∙ two)
+rose_behind device.Backing cache mid cache' backing read backing' one two rose = (rose.0 ∙ one, subst (λ n. HasRisen n backing'.faults) two rose.1)
+
+pair_as : (l : Layout) (c c' : CacheSuper) (b b' : BackingSuper) (cache backing : DiskFacts) → c ≡ c' → b ≡ b' → IsPair l c b cache backing → IsPair l c' b' cache backing
+pair_as l c c' b b' cache backing is is' found = subst (λ (b : BackingSuper). IsPair l c' b cache backing) is' (subst (λ (c : CacheSuper). IsPair l c b cache backing) is found)
+
+pub finds_new : (p : NewPair) (l : Layout) (sectors many : ℕ) (c : CacheSuper) (b : BackingSuper) (cache backing : DiskFacts) → sectors ≡ many → IsLaidOut sectors l → (l.geometry.block ≡ p.block) × (l.geometry.bucket ≡ p.bucket)
+    → c ≡ new_cache p l → b ≡ new_backing p → IsPair l c b cache backing → FindsNew p many cache backing
+finds_new p l sectors many c b cache backing same laid sizes is is' found =
+    (l, subst (λ n. IsLaidOut n l) same laid, sizes.0, sizes.1, pair_as l c (new_cache p l) b (new_backing p) cache backing is is' found)
+
+pub finds_adopted : (c c' : CacheSuper) (b b' : BackingSuper) (l : Layout) (cache cache' backing backing' : DiskFacts) → ReadsCache cache c → ReadsSuper backing b → IsLaidOut (c.bucket * c.nbuckets) l
+    → (l.geometry.block ≡ c.block) × (l.geometry.bucket ≡ c.bucket) → c' ≡ adopted_cache c l → b' ≡ adopted_backing c b → IsPair l c' b' cache' backing' → FindsAdopted cache cache' backing backing'
+finds_adopted c c' b b' l cache cache' backing backing' reads says laid sizes is is' found =
+    (c, reads, (b, says, (l, laid, sizes.0, sizes.1, pair_as l c' (adopted_cache c l) b' (adopted_backing c b) cache' backing' is is' found)))
+
+module _ {C B : Type 0} (cache_facts : C → DiskFacts) (backing_facts : B → DiskFacts) where
+  -- the same pair under other names
+  written_as : (l : Layout) (c c' : CacheSuper) (b b' : BackingSuper) (how : Result (Unit {0}) Device) (cache cache' : C) (backing backing' : B) → c ≡ c' → b ≡ b'
+      → PairWritten cache_facts backing_facts l c b how cache cache' backing backing' → PairWritten cache_facts backing_facts l c' b' how cache cache' backing backing'
+  written_as l c c' b b' how cache cache' backing backing' is is' written =
+      subst (λ (b : BackingSuper). PairWritten cache_facts backing_facts l c' b how cache cache' backing backing') is'
+      (subst (λ (c : CacheSuper). PairWritten cache_facts backing_facts l c b how cache cache' backing backing') is written)
+
+  pub formats : (p : NewPair) (l : Layout) (sectors : ℕ) (c : CacheSuper) (b : BackingSuper) (how : Result (Unit {0}) Device) (cache cache' : C) (backing backing' : B) → sectors ≡ (cache_facts cache).sectors → IsLaidOut sectors l
+      → (l.geometry.block ≡ p.block) × (l.geometry.bucket ≡ p.bucket) → c ≡ new_cache p l → b ≡ new_backing p → PairWritten cache_facts backing_facts l c b how cache cache' backing backing'
+      → (l : Layout) × IsLaidOut (cache_facts cache).sectors l × (l.geometry.block ≡ p.block) × (l.geometry.bucket ≡ p.bucket)
+      × PairWritten cache_facts backing_facts l (new_cache p l) (new_backing p) how cache cache' backing backing'
+  formats p l sectors c b how cache cache' backing backing' many laid sizes is is' written =
+      (l, subst (λ n. IsLaidOut n l) many laid, sizes.0, sizes.1, written_as l c (new_cache p l) b (new_backing p) how cache cache' backing backing' is is' written)
+
+  pub adopts : (c c' : CacheSuper) (b b' : BackingSuper) (l : Layout) (how : Result (Unit {0}) Device) (cache mid cache' : C) (backing read backing' : B) → AreKept (cache_facts cache) (cache_facts mid) (backing_facts backing) (backing_facts read)
+      → IsCounted good (cache_facts cache) (cache_facts mid) × IsCounted good (backing_facts backing) (backing_facts read) → ReadsCache (cache_facts cache) c → ReadsSuper (backing_facts backing) b → IsUnused c b
+      → IsLaidOut (c.bucket * c.nbuckets) l → (l.geometry.block ≡ c.block) × (l.geometry.bucket ≡ c.bucket) → c' ≡ adopted_cache c l → b' ≡ adopted_backing c b
+      → PairWritten cache_facts backing_facts l c' b' how mid cache' read backing' → Adopts cache_facts backing_facts how cache cache' backing backing'
+  adopts c c' b b' l how cache mid cache' backing read backing' kept counted reads says unused laid sizes is is' written = record {
+    cache_read = mid;
+    backing_read = read;
+    cache_kept = (kept.0, counted.0);
+    backing_kept = (kept.1, counted.1);
+    b = b;
+    reads_backing = says;
+    c = c;
+    reads_cache = reads;
+    unused = unused;
+    l = l;
+    laid_out = laid;
+    sizes = sizes;
+    written = written_as l c' (adopted_cache c l) b' (adopted_backing c b) how mid cache' read backing' is is' written;
+  }
+
+-- ---- where the parts stand
+
+pub has_room : (sectors : ℕ) (l : Layout) → IsLaidOut sectors l → HasRoom l sectors
+has_room sectors l laid = record { room = room_of sectors l laid; behind = omega (arith, laid.uuid, laid.prio); within = omega (arith, laid.within, laid.leaf, laid.root) }

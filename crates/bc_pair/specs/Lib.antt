@@ -1,0 +1,4 @@
+pub mod Made
+pub mod Causes
+pub mod Found
+pub mod Steps

@@ -1,0 +1,105 @@
+//! A pair that another tool formatted.
+ghost use Rattle.std.specs.Prelude.{◌≡◌, ◌↔◌, ◌*◌, ◌%◌, ◌≤◌, Ok, IfErr, OnOk, IsTrue};
+ghost use Rattle.bc_super.specs.Cache.{IsBlock, IsBucket, most_buckets};
+ghost use Rattle.bc_super.specs.Layout.{IsLaidOut};
+ghost use Rattle.bc_super.specs.Super.{state_number};
+ghost use Rattle.bc_pair.specs.Causes.{AdoptLeaves, Adopts, FaultRose, IsAdoptCause, KeepsOthers};
+ghost use Rattle.bc_pair.specs.Found.{FindsAdopted};
+ghost use Rattle.bc_pair.specs.Made.{IsUnused, adopted_backing, adopted_cache};
+
+use crate::error::PairError;
+use crate::flags::{CLEAN, SET_UP};
+use crate::read::read_pair;
+use crate::write::write_pair;
+use bc_disk::disk::{Device, Disk};
+use bc_super::backing::BackingSuper;
+use bc_super::cache::CacheSuper;
+use bc_super::error::SuperError;
+use bc_super::geometry::Layout;
+use bc_super::layout::layout;
+use bc_super::state::BackingState;
+use bc_uuid::Uuids;
+use std::alloc::Global;
+
+/// The version that the superblock of a cache device is given.
+const CACHE_VERSION: u64 = 3;
+
+// Whether no cache was set up for the pair.
+fn is_unused(c: &CacheSuper, b: &BackingSuper) -> bool
+    ensures { IsTrue result ↔ IsUnused c.now b.now }
+{
+    c.flags & SET_UP == 0 && c.journal == 0 && b.state() == BackingState::None
+}
+
+// How a cache device is divided that has such a superblock. That passed the tests of `layout` when it
+// was read.
+fn layout_of(c: &CacheSuper) -> Layout
+    requires block { IsBlock c.now.block }
+    requires bucket { IsBucket c.now.bucket }
+    requires fewest { 128 ≤ c.now.nbuckets }
+    requires most { c.now.nbuckets ≤ most_buckets c.now.bucket }
+    ensures laid_out { IsLaidOut (c.now.bucket * c.now.nbuckets) result }
+    ensures sizes { (result.geometry.block ≡ c.now.block) × (result.geometry.bucket ≡ c.now.bucket) }
+    ensures nbuckets { result.geometry.nbuckets ≡ c.now.nbuckets }
+{
+    let sectors = u64::from(c.bucket) * u64::from(c.nbuckets);
+    layout(sectors, c.block, c.bucket).unwrap()
+}
+
+fn adopted_cache(c: &CacheSuper, l: &Layout) -> CacheSuper
+    requires { c.now.flags % 2 ≡ 0 }
+    ensures { result ≡ adopted_cache c.now l.now }
+{
+    CacheSuper {
+        version: CACHE_VERSION,
+        flags: c.flags | SET_UP,
+        first_bucket: l.geometry.first_bucket,
+        journal: l.geometry.journal,
+        ..*c
+    }
+}
+
+fn adopted_backing(c: &CacheSuper, b: &BackingSuper) -> BackingSuper
+    requires { state_number b.now.flags ≡ 0 }
+    ensures { result ≡ adopted_backing c.now b.now }
+{
+    BackingSuper {
+        set_uuid: c.set_uuid,
+        flags: b.flags | CLEAN,
+        ..*b
+    }
+}
+
+/// Sets up a cache for a pair that another tool formatted and that isn't in use: both superblocks
+/// stay as they are but for what says that they are a set, where the journal lies and that the
+/// backing device is clean. Its data stays where it is.
+///
+/// The superblock of the backing device is read first, then that of the cache device.
+/// `Superblock` says the first fault of these; then, of the cache device, `Initialised`, where the
+/// cache was set up, or has a journal, or the backing device has a state. Then nothing is written,
+/// nor where there is no memory for a bucket. After `Fault` what was written stands.
+pub fn adopt<C: Disk, B: Disk>(
+    alloc: Global,
+    cache: &mut C,
+    backing: &mut B,
+) -> Result<(), PairError>
+    ensures written { OnOk result (Adopts C.facts B.facts (Ok tt) cache.old cache.new backing.old backing.new) }
+    ensures found { OnOk result (FindsAdopted (C.facts cache.old) (C.facts cache.new) (B.facts backing.old) (B.facts backing.new)) }
+    ensures cause { IfErr result (λ e. IsAdoptCause e (C.facts cache.old) (B.facts backing.old)) }
+    ensures leaves { IfErr result (λ e. AdoptLeaves C.facts B.facts e cache.old cache.new backing.old backing.new) }
+    ensures data { KeepsOthers (B.facts backing.old) (B.facts backing.new) }
+    ensures faults { IfErr result (λ e. FaultRose e (C.facts cache.old) (C.facts cache.new) (B.facts backing.old) (B.facts backing.new)) }
+{
+    let (c, b) = read_pair(cache, backing)?;
+    if !is_unused(&c, &b) {
+        return Err(PairError::Superblock {
+            device: Device::Cache,
+            why: SuperError::Initialised,
+        });
+    }
+    let l = layout_of(&c);
+    let mut buffer = vec![in alloc; 0u8; 512 * l.geometry.bucket as usize]?;
+    let table = Uuids::new(alloc, &l.geometry, &b.uuid, &b.label)?;
+    let (c, b) = (adopted_cache(&c, &l), adopted_backing(&c, &b));
+    Ok(write_pair(cache, backing, &l, &c, &b, &table, &mut buffer)?)
+}

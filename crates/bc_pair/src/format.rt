@@ -1,0 +1,121 @@
+//! A new pair.
+ghost use Rattle.std.specs.Prelude.{◌≡◌, ◌≢◌, ◌<◌, IfOk, IfErr, OnOk, Err, replicate};
+ghost use Rattle.bc_super.specs.Layout.{IsLaidOut};
+ghost use Rattle.bc_pair.specs.Causes.{FaultRose, Formats, IsFormatCause, KeepsOthers, UnlessFault};
+ghost use Rattle.bc_pair.specs.Found.{FindsNew};
+ghost use Rattle.bc_pair.specs.Made.{new_backing, new_cache};
+ghost use Rattle.bc_pair.specs.Steps.{RefusesFormat};
+ghost use Rattle.bc_pair.specs.declared.error.PairError.TheVariants as errors;
+
+use crate::error::PairError;
+use crate::flags::{CLEAN, SET_UP};
+pub use crate::pair::NewPair;
+use crate::write::write_pair;
+use bc_disk::disk::{Device, Disk};
+use bc_super::backing::BackingSuper;
+use bc_super::cache::CacheSuper;
+use bc_super::error::SuperError;
+use bc_super::geometry::Layout;
+use bc_super::layout::layout;
+use bc_uuid::Uuids;
+use std::alloc::Global;
+
+/// The sector at which the data of a new backing device begins.
+const DATA_OFFSET: u64 = 16;
+
+// Why no pair is made, and nothing was written.
+fn refused(device: Device, why: SuperError) -> Result<Layout, PairError>
+    ensures { result ≡ Err (errors.Superblock device why) }
+{
+    Err(PairError::Superblock { device, why })
+}
+
+// How the cache device is to be divided, where the devices have so many sectors.
+fn check(cache: u64, backing: u64, pair: &NewPair) -> Result<Layout, PairError>
+    ensures laid_out { IfOk result (λ l. IsLaidOut cache l) }
+    ensures sizes { IfOk result (λ l. (l.geometry.block ≡ pair.now.block) × (l.geometry.bucket ≡ pair.now.bucket)) }
+    ensures fits { OnOk result ((pair.now.set_uuid ≢ replicate 16 0) × (16 < backing)) }
+    ensures refused { IfErr result (λ e. RefusesFormat pair.now e cache backing) }
+{
+    let l = match layout(cache, pair.block, pair.bucket) {
+        Ok(l) => l,
+        Err(why) => return refused(Device::Cache, why),
+    };
+    if pair.set_uuid == [0; 16] {
+        return refused(Device::Cache, SuperError::ZeroUuid);
+    }
+    if backing < DATA_OFFSET {
+        return refused(Device::Backing, SuperError::DeviceSmall);
+    }
+    if backing == DATA_OFFSET {
+        return refused(Device::Backing, SuperError::DataOffset);
+    }
+    Ok(l)
+}
+
+// The superblock of a cache device that is divided so. Its victim is the bucket that was used
+// longest ago.
+fn new_cache(pair: &NewPair, l: &Layout) -> CacheSuper
+    ensures { result ≡ new_cache pair.now l.now }
+{
+    CacheSuper {
+        version: 3,
+        uuid: pair.cache_uuid,
+        set_uuid: pair.set_uuid,
+        label: [0; 32],
+        flags: SET_UP,
+        seq: 0,
+        nbuckets: l.geometry.nbuckets,
+        block: pair.block,
+        bucket: pair.bucket,
+        last_mount: 0,
+        first_bucket: l.geometry.first_bucket,
+        journal: l.geometry.journal,
+    }
+}
+
+// The superblock of a backing device in mode writethrough.
+fn new_backing(pair: &NewPair) -> BackingSuper
+    ensures { result ≡ new_backing pair.now }
+{
+    BackingSuper {
+        version: 1,
+        uuid: pair.backing_uuid,
+        set_uuid: pair.set_uuid,
+        label: [0; 32],
+        flags: CLEAN,
+        seq: 0,
+        block: pair.block,
+        last_mount: 0,
+        data_offset: DATA_OFFSET,
+    }
+}
+
+/// Makes a pair of these two devices: the cache device is divided as `layout` says and its journal is
+/// empty; the backing device keeps its data, which begins at sector 16, in mode writethrough and
+/// state clean. The journal buckets and the uuid table are written first, then the superblock of the
+/// cache device, and last that of the backing device.
+///
+/// `Superblock` comes before anything is written, for the first of these that holds: of the cache
+/// device `Block`, `Bucket`, `FewBuckets` (fewer than 128) and `ZeroUuid`; of the backing device
+/// `DeviceSmall` (fewer than 16 sectors) and `DataOffset` (no sector behind those). Nothing is
+/// written either where there is no memory for a bucket. After `Fault` what was written stands.
+pub fn format<C: Disk, B: Disk>(
+    alloc: Global,
+    cache: &mut C,
+    backing: &mut B,
+    pair: &NewPair,
+) -> Result<(), PairError>
+    ensures written { Formats C.facts B.facts pair.now result cache.old cache.new backing.old backing.new }
+    ensures found { OnOk result (FindsNew pair.now (C.facts cache.old).sectors (C.facts cache.new) (B.facts backing.new)) }
+    ensures cause { IfErr result (λ e. IsFormatCause pair.now e (C.facts cache.old).sectors (B.facts backing.old).sectors) }
+    ensures untouched { IfErr result (λ e. UnlessFault e ((cache.new ≡ cache.old) × (backing.new ≡ backing.old))) }
+    ensures data { KeepsOthers (B.facts backing.old) (B.facts backing.new) }
+    ensures faults { IfErr result (λ e. FaultRose e (C.facts cache.old) (C.facts cache.new) (B.facts backing.old) (B.facts backing.new)) }
+{
+    let l = check(cache.sectors(), backing.sectors(), pair)?;
+    let mut buffer = vec![in alloc; 0u8; 512 * l.geometry.bucket as usize]?;
+    let table = Uuids::new(alloc, &l.geometry, &pair.backing_uuid, &[0; 32])?;
+    let (c, b) = (new_cache(pair, &l), new_backing(pair));
+    Ok(write_pair(cache, backing, &l, &c, &b, &table, &mut buffer)?)
+}

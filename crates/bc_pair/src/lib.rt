@@ -1,0 +1,14 @@
+//! Pairs of a cache device and a backing device: how one is made, adopted and shown.
+#![tactic(auto)]
+
+pub mod adopt;
+pub mod error;
+mod flags;
+pub mod format;
+pub mod laws;
+pub mod pair;
+mod read;
+pub mod show;
+#[cfg(test)]
+mod tests;
+mod write;

@@ -1,0 +1,71 @@
+-- What the status of a command on a pair tells.
+use Rattle.std.proofs.Common.{◌≡◌, ◌≢◌, ◌⊎◌, inl, inr, ℕ, List, Option, Some, None, refl, sym, ap, ◌∙◌, subst, arith}
+use Rattle.std.specs.Prelude.{Result, Ok, Err, IfErr, OnOk, String}
+use Rattle.std.specs.declared.alloc.Global.{Global}
+use Rattle.bc_model.specs.Sector.{Image}
+use Rattle.bc_disk.specs.Disk.{BothTold, DiskFacts, IfTold, IsKept}
+use Rattle.bc_disk.specs.Stream.{StreamFacts}
+use Rattle.bc_disk.specs.Device.{HasRisen, next_count}
+use Rattle.bc_output.specs.Put.{IsWriteFault}
+use Rattle.bc_output.specs.declared.put.WriteFault.{WriteFault}
+use Rattle.bc_output.specs.declared.put.WriteFault.TheVariants.{Failed, TookNothing}
+use Rattle.bc_pair.specs.Causes.{AdoptLeaves, AreKept, KeepsOthers}
+use Rattle.bc_pair.specs.declared.error.PairError.{PairError}
+use Rattle.bc_pair.specs.declared.error.PairError.TheVariants as errors
+use Rattle.bc_top.specs.Ended.{HasStopped}
+use Rattle.bc_top.specs.Pairs.{EndsPrinting, EndsSilently}
+use Rattle.bc_top.specs.Stops.{IsRefusal}
+use Rattle.bc_top.specs.Top.{AreSame}
+use Rattle.bc_top.proofs.Raising.{next_rises}
+use Rattle.bc_top.proofs.Settled.{same_kept}
+
+-- a device of which nothing was written
+pub keeps_kept : (a b : DiskFacts) → IsKept a b → KeepsOthers a b
+keeps_kept a b kept = record { sectors = kept.sectors; holds = by a.holds b.holds kept.holds; leaves = less b.holds }
+  where
+    by : (x y : Option Image) → BothTold (λ (a z : Image). (s : ℕ) → z s ≡ a s) x y → BothTold (λ (a z : Image). (s : ℕ) → s ≢ 8 → z s ≡ a s) x y
+    by None None both = tt
+    by None (Some y) both = both
+    by (Some x) None both = both
+    by (Some x) (Some y) both = λ s other. both s
+
+    less : (y : Option Image) → IfTold y (λ _. (image : Image) → b.may_leave image → (before : Image) × a.may_leave before × ((s : ℕ) → s ≢ 8 → image s ≡ before s))
+    less None = tt
+    less (Some y) = λ image can. (image, (kept.leaves image).0 can, λ s other. refl)
+
+pub same_both : (cache cache' backing backing' : DiskFacts) → AreKept cache cache' backing backing' → AreSame cache cache' backing backing'
+same_both cache cache' backing backing' kept = (same_kept cache cache' kept.0, same_kept backing backing' kept.1)
+
+-- a refusal to adopt a pair wrote nothing
+pub adopt_unwritten : {C B : Type 0} (cache_facts : C → DiskFacts) (backing_facts : B → DiskFacts) (cache cache' : C) (backing backing' : B) (answer : Result (Unit {0}) PairError) (status : ℕ) (old new : StreamFacts)
+    → IfErr answer (λ e. AdoptLeaves cache_facts backing_facts e cache cache' backing backing') → EndsSilently answer status old new → IsRefusal status → AreSame (cache_facts cache) (cache_facts cache') (backing_facts backing) (backing_facts backing')
+adopt_unwritten cache_facts backing_facts cache cache' backing backing' (Ok u) status old new leaves ends refused = let zero = ends.0 in absurd (never refused)
+  where
+    never : IsRefusal status → ⊥
+    never (inl two) = let zero = ends.0 in omega arith
+    never (inr (inl three)) = let zero = ends.0 in omega arith
+    never (inr (inr (inl four))) = let zero = ends.0 in omega arith
+    never (inr (inr (inr five))) = let zero = ends.0 in omega arith
+adopt_unwritten cache_facts backing_facts cache cache' backing backing' (Err (errors.Superblock d why)) status old new leaves ends refused = same_both _ _ _ _ leaves
+adopt_unwritten cache_facts backing_facts cache cache' backing backing' (Err errors.Memory) status old new leaves ends refused = same_both _ _ _ _ leaves
+adopt_unwritten cache_facts backing_facts cache cache' backing backing' (Err (errors.Fault d)) status old new leaves ends refused = absurd (never refused)
+  where
+    never : IsRefusal status → ⊥
+    never (inl two) = let six = ends.0 in omega arith
+    never (inr (inl three)) = let six = ends.0 in omega arith
+    never (inr (inr (inl four))) = let six = ends.0 in omega arith
+    never (inr (inr (inr five))) = let six = ends.0 in omega arith
+
+-- a sink that failed to take a text
+fault_stops : (cause : WriteFault) (text : List ℕ) (old new : StreamFacts) → IsWriteFault cause text old new → HasStopped old new
+fault_stops Failed text old new fault =
+    let last = fault.last in
+    inl (subst (HasRisen old.faults) (ap (λ n. next_count n) (sym last.1.faults) ∙ sym last.2.1.1) (next_rises old.faults))
+fault_stops TookNothing text old new fault = inr (text, old, fault)
+
+pub printing_stops : (answer : Result (String Global) PairError) (status : ℕ) (old new : StreamFacts) → EndsPrinting answer status old new → status ≡ 8 → HasStopped old new
+printing_stops (Ok text) status old new (inl done) is = absurd (let zero = done.0 in omega arith)
+printing_stops (Ok text) status old new (inr cut) is = fault_stops cut.1.0 _ old new cut.1.1
+printing_stops (Err (errors.Superblock d why)) status old new ends is = absurd (let four = ends.0 in omega arith)
+printing_stops (Err (errors.Fault d)) status old new ends is = absurd (let six = ends.0 in omega arith)
+printing_stops (Err errors.Memory) status old new ends is = absurd (let nine = ends.0 in omega arith)

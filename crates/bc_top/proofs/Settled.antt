@@ -1,0 +1,125 @@
+-- What a barrier and a read behind it leave of a device, and what a fault of its superblock says.
+use Rattle.std.proofs.Common.{◌≡◌, inl, inr, ℕ, ◌<◌, ◌≤◌, Option, Some, None, refl, sym, ap, ◌∙◌, subst}
+use Rattle.std.specs.Prelude.{Ok, Err, option_map}
+use Rattle.bc_model.specs.Sector.{Image}
+use Rattle.bc_disk.specs.Device.{HasRisen, next_count, quiet}
+use Rattle.bc_disk.specs.Stands.{settled_model}
+use Rattle.bc_disk.specs.Disk.{Allows, DiskFacts, BothTold, IfTold, IsCounted, IsKept, IsSettled, StandsFor}
+use Rattle.bc_disk.specs.declared.disk.Device.TheVariants as device
+use Rattle.bc_disk.specs.declared.disk.Failed.{Failed}
+use Rattle.bc_super.specs.Reading.{IsCacheCause, IsCause, ReadsCache, ReadsSuper, call_of}
+use Rattle.bc_super.specs.declared.backing.BackingSuper.{BackingSuper}
+use Rattle.bc_super.specs.declared.cache.CacheSuper.{CacheSuper}
+use Rattle.bc_super.specs.declared.error.SuperError.{SuperError}
+use Rattle.bc_super.specs.declared.error.SuperError.TheVariants as fault
+use Rattle.bc_super.proofs.Told.{cache_cause_after, cause_after, reads_after, reads_cache_after}
+use Rattle.std.proofs.lemmas.Bool.{cases_lt}
+use Rattle.bc_top.specs.Opened.{IsBackingCause, IsJudged, IsOpenCause, IsOpened, IsPairCause, IsSameDevice, IsToldAs, LeavesLess, SameImage}
+use Rattle.bc_disk.specs.Stream.{StreamFacts}
+use Rattle.bc_top.specs.Stops.{stop_of}
+use Rattle.bc_top.specs.Top.{IsServeCause}
+use Rattle.bc_top.specs.declared.opening.OpenError.{OpenError}
+use Rattle.bc_top.specs.declared.opening.OpenError.TheVariants as errors
+use Rattle.bc_top.specs.declared.stop.Stop.{Stop}
+use Rattle.bc_top.proofs.Raising.{next_rises}
+
+pub both_same : (a b c : Option Image) → BothTold SameImage a b → BothTold SameImage b c → BothTold SameImage a c
+both_same None None None first second = tt
+both_same None None (Some z) first second = second
+both_same None (Some y) c first second = absurd first
+both_same (Some x) None c first second = absurd first
+both_same (Some x) (Some y) None first second = second
+both_same (Some x) (Some y) (Some z) first second = λ s. second s ∙ first s
+
+module _ (a b c : DiskFacts) where
+  -- after a barrier and a call that changed nothing
+  pub same_settled : IsSettled a b → IsKept b c → IsSameDevice a c
+  same_settled settled kept = record {
+    sectors = kept.sectors ∙ settled.sectors;
+    holds = both_same a.holds b.holds c.holds settled.holds kept.holds;
+    leaves = by b.holds c.holds settled.leaves kept.holds;
+  }
+    where
+      by : (y z : Option Image) → IfTold y (λ held. (image : Image) → b.may_leave image → (s : ℕ) → image s ≡ held s) → BothTold SameImage y z → LeavesLess z a.may_leave c.may_leave
+      by y None leaves both = tt
+      by None (Some held) leaves both = absurd both
+      by (Some before) (Some held) leaves both = λ image can. inr (λ s. leaves image ((kept.leaves image).0 can) s ∙ sym (both s))
+
+  -- and the device stands for the model of what it holds
+  pub stands : IsSettled a b → IsKept b c → StandsFor c (settled_model c)
+  stands settled kept = record { sectors = refl; content = by b.holds c.holds settled.leaves kept.holds; calls = refl; faults = refl }
+    where
+      by : (y z : Option Image) → IfTold y (λ held. (image : Image) → b.may_leave image → (s : ℕ) → image s ≡ held s) → BothTold SameImage y z → Allows (option_map quiet z) z c.may_leave
+      by y None leaves both = tt
+      by None (Some held) leaves both = absurd both
+      by (Some before) (Some held) leaves both = ((λ s. inl refl), (λ image can s. inl (leaves image ((kept.leaves image).0 can) s ∙ sym (both s))))
+
+  pub judged : (s : BackingSuper) (t : CacheSuper) (error : OpenError) → IsKept b c → ReadsCache b t → IsJudged error s t → IsPairCause error s a c
+  judged s t error kept reads is = inr (inr (t, reads_cache_after b c kept.sectors kept.holds t reads, is))
+
+  -- where a read failed behind a barrier, the count rose
+  pub rose : (b.faults ≡ a.faults) → (c.faults ≡ next_count b.faults) → HasRisen a.faults c.faults
+  rose quiet next = subst (HasRisen a.faults) (ap (λ n. next_count n) (sym quiet) ∙ sym next) (next_rises a.faults)
+
+  pub backing_told : (e : SuperError) (error : OpenError) → IsToldAs device.Backing e error → IsCause c e → (e ≡ fault.Fault → HasRisen a.faults c.faults) → IsBackingCause error a c
+  backing_told e error (inl is) cause rises = subst (λ (x : OpenError). IsBackingCause x a c) (sym is.1) (rises is.0)
+  backing_told e error (inr is) cause rises = subst (λ (x : OpenError). IsBackingCause x a c) (sym is.1) (e, refl, is.0, cause)
+
+  pub cache_told : (s : BackingSuper) (e : SuperError) (error : OpenError) → IsToldAs device.Cache e error → IsCacheCause c e → (e ≡ fault.Fault → HasRisen a.faults c.faults) → IsPairCause error s a c
+  cache_told s e error (inl is) cause rises = inl (is.1, rises is.0)
+  cache_told s e error (inr is) cause rises = inr (inl (e, is.1, is.0, cause))
+
+  -- what the counts say of a fault that was answered
+  pub fault_rises : (T : Type 0) (e : SuperError) → IsCounted {E = Failed} (Ok tt) a b → IsCounted (call_of {T = T} (Err e)) b c → e ≡ fault.Fault → HasRisen a.faults c.faults
+  fault_rises T e good counted is = rose good.1 (subst (λ (x : SuperError). IsCounted (call_of {T = T} (Err x)) b c) is counted).1
+
+  -- the device was made stable and its superblock read
+  pub opened : (s : BackingSuper) → IsSettled a b → IsCounted {E = Failed} (Ok tt) a b → IsKept b c → (16 ≤ b.sectors → IsCounted (call_of {T = BackingSuper} (Ok s)) b c) → (b.sectors < 16 → ⊥) → ReadsSuper b s → IsOpened s a c
+  opened s settled good kept counted large reads = record {
+    sectors = kept.sectors ∙ settled.sectors;
+    holds = both_same a.holds b.holds c.holds settled.holds kept.holds;
+    faults = (counted (at_least large)).1 ∙ good.1;
+    reads = reads_after b c kept.sectors kept.holds s reads;
+  }
+    where
+      at_least : (b.sectors < 16 → ⊥) → 16 ≤ b.sectors
+      at_least never = elim (cases_lt b.sectors 16) [ inl few ↦ absurd (never few) | inr many ↦ many ]
+
+  -- or it was read and refused
+  pub open_failed : (e : SuperError) (error : OpenError) → IsToldAs device.Backing e error → IsCounted {E = Failed} (Ok tt) a b → IsKept b c → (16 ≤ b.sectors → IsCounted (call_of {T = BackingSuper} (Err e)) b c) → IsCause b e → IsBackingCause error a c
+  open_failed e error told good kept counted cause = backing_told e error told (cause_after b c kept.sectors kept.holds e cause)
+      (λ is. fault_rises BackingSuper e good (counted (subst (λ (x : SuperError). IsCause b x) is cause)) is)
+
+  pub cache_failed : (s : BackingSuper) (e : SuperError) (error : OpenError) → IsToldAs device.Cache e error → IsCounted {E = Failed} (Ok tt) a b → IsKept b c → (16 ≤ b.sectors → IsCounted (call_of {T = CacheSuper} (Err e)) b c) → IsCacheCause b e → IsPairCause error s a c
+  cache_failed s e error told good kept counted cause = cache_told s e error told (cache_cause_after b c kept.sectors kept.holds e cause)
+      (λ is. fault_rises CacheSuper e good (counted (subst (λ (x : SuperError). IsCacheCause b x) is cause)) is)
+
+-- after a call that changed nothing
+pub same_kept : (a b : DiskFacts) → IsKept a b → IsSameDevice a b
+same_kept a b kept = record {
+  sectors = kept.sectors;
+  holds = kept.holds;
+  leaves = by b.holds;
+}
+  where
+    by : (z : Option Image) → LeavesLess z a.may_leave b.may_leave
+    by None = tt
+    by (Some held) = λ image can. inl ((kept.leaves image).0 can)
+
+-- a device that wasn't called
+pub same_self : (d : DiskFacts) → IsSameDevice d d
+same_self d = record { sectors = refl; holds = by d.holds; leaves = less d.holds }
+  where
+    by : (z : Option Image) → BothTold SameImage z z
+    by None = tt
+    by (Some held) = λ s. refl
+
+    less : (z : Option Image) → LeavesLess z d.may_leave d.may_leave
+    less None = tt
+    less (Some held) = λ image can. inl can
+
+-- why a pair isn't opened is why its trace isn't served
+pub open_cause : (error : OpenError) (why : Stop) (source left : StreamFacts) (cache cache' backing backing' : DiskFacts) → why ≡ stop_of error → IsOpenCause error cache cache' backing backing' → IsServeCause why source left cache cache' backing backing'
+open_cause (errors.Fault d) why source left cache cache' backing backing' is cause = subst (λ (x : Stop). IsServeCause x source left cache cache' backing backing') (sym is) cause
+open_cause (errors.Superblock d number) why source left cache cache' backing backing' is cause = subst (λ (x : Stop). IsServeCause x source left cache cache' backing backing') (sym is) cause
+open_cause (errors.Image number) why source left cache cache' backing backing' is cause = subst (λ (x : Stop). IsServeCause x source left cache cache' backing backing') (sym is) cause

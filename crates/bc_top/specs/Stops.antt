@@ -1,0 +1,42 @@
+-- With which status and message a call ends that did nothing.
+use Rattle.std.specs.Prelude.{◌≡◌, ◌⊎◌, ℕ}
+use Rattle.bc_output.specs.declared.message.Message.{Message}
+use Rattle.bc_output.specs.declared.message.Message.TheVariants as message
+use Rattle.bc_output.specs.declared.message.Origin.TheVariants as origin
+use Rattle.bc_top.specs.declared.opening.OpenError.{OpenError}
+use Rattle.bc_top.specs.declared.opening.OpenError.TheVariants as errors
+use Rattle.bc_top.specs.declared.stop.Stop.{Stop}
+use Rattle.bc_top.specs.declared.stop.Stop.TheVariants as stop
+
+-- the status
+abbrev pub status_of : Stop → ℕ
+status_of stop.Usage = 2
+status_of (stop.Trace e) = 3
+status_of (stop.Superblock device number) = 4
+status_of (stop.Image why) = 5
+status_of (stop.Fault device) = 6
+status_of stop.Source = 7
+status_of stop.Memory = 9
+
+-- the message
+abbrev pub message_of : Stop → Message
+message_of stop.Usage = message.Usage
+message_of (stop.Trace e) = message.Trace e.line e.why
+message_of (stop.Superblock device number) = message.Superblock device number
+message_of (stop.Image why) = message.Image why
+message_of (stop.Fault device) = message.Fault (origin.Disk device)
+message_of stop.Source = message.Fault origin.Source
+message_of stop.Memory = message.Memory
+
+-- the statuses with which the words, the trace, a superblock or the cache's content were refused, and all that there are
+abbrev pub IsRefusal : ℕ → Type 0
+IsRefusal status = (status ≡ 2) ⊎ (status ≡ 3) ⊎ (status ≡ 4) ⊎ (status ≡ 5)
+
+abbrev pub IsStatus : ℕ → Type 0
+IsStatus status = (status ≡ 0) ⊎ IsRefusal status ⊎ (status ≡ 6) ⊎ (status ≡ 7) ⊎ (status ≡ 8) ⊎ (status ≡ 9)
+
+-- why a call ends whose pair isn't served
+abbrev pub stop_of : OpenError → Stop
+stop_of (errors.Fault device) = stop.Fault device
+stop_of (errors.Superblock device number) = stop.Superblock device number
+stop_of (errors.Image why) = stop.Image why

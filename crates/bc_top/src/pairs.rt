@@ -1,0 +1,113 @@
+//! The commands that make and show a pair.
+ghost use Rattle.std.specs.Prelude.{◌≡◌, IsNone, string_bytes};
+ghost use Rattle.bc_top.specs.Pairs.{EndsPrinting, EndsSilently, HasAdopted, HasFormatted, HasShown, stop_of};
+
+use crate::ran::Ran;
+use crate::stop::{Stop, tell};
+use bc_disk::disk::Disk;
+use bc_disk::stream::Sink;
+use bc_output::put::put_all;
+use bc_pair::adopt::adopt;
+use bc_pair::error::PairError;
+use bc_pair::format::format;
+use bc_pair::pair::NewPair;
+use bc_pair::show::show_pair;
+use std::alloc::Global;
+
+// Why a call ends whose pair isn't made or shown.
+fn stop_of(error: PairError) -> Stop
+    ensures { result ≡ stop_of error }
+{
+    match error {
+        PairError::Superblock { device, why } => Stop::Superblock {
+            device,
+            number: why.number(),
+        },
+        PairError::Fault(device) => Stop::Fault(device),
+        PairError::Memory => Stop::Memory,
+    }
+}
+
+// The status of a command that prints nothing of its own.
+fn end_silently<K: Sink>(answer: Result<(), PairError>, out: &mut K) -> u8
+    ensures { EndsSilently answer result (K.facts out.old) (K.facts out.new) }
+{
+    match answer {
+        Ok(()) => 0,
+        Err(error) => tell(&stop_of(error), out),
+    }
+}
+
+// Prints what a command answers, which has the status.
+fn end_printing<K: Sink>(answer: &Result<String, PairError>, out: &mut K) -> u8
+    ensures { EndsPrinting answer.now result (K.facts out.old) (K.facts out.new) }
+{
+    match answer {
+        Ok(text) => match put_all(out, text.as_bytes()) {
+            Ok(()) => 0,
+            Err(_) => 8,
+        },
+        Err(error) => tell(&stop_of(*error), out),
+    }
+}
+
+/// Makes a new pair of these devices.
+pub fn format_pair<C: Disk, B: Disk, K: Sink>(
+    alloc: Global,
+    pair: &NewPair,
+    cache: C,
+    backing: B,
+    out: &mut K,
+) -> Ran<C, B>
+    ensures formatted { HasFormatted C.facts B.facts result.status cache result.cache backing result.backing (K.facts out.old) (K.facts out.new) pair.now }
+    ensures none { IsNone result.pass }
+{
+    let (mut cache, mut backing) = (cache, backing);
+    let answer = format(alloc, &mut cache, &mut backing, pair);
+    Ran {
+        status: end_silently(answer, out),
+        cache,
+        backing,
+        pass: None,
+    }
+}
+
+/// Sets up a cache for a pair that another tool formatted.
+pub fn adopt_pair<C: Disk, B: Disk, K: Sink>(
+    alloc: Global,
+    cache: C,
+    backing: B,
+    out: &mut K,
+) -> Ran<C, B>
+    ensures adopted { HasAdopted C.facts B.facts result.status cache result.cache backing result.backing (K.facts out.old) (K.facts out.new) }
+    ensures none { IsNone result.pass }
+{
+    let (mut cache, mut backing) = (cache, backing);
+    let answer = adopt(alloc, &mut cache, &mut backing);
+    Ran {
+        status: end_silently(answer, out),
+        cache,
+        backing,
+        pass: None,
+    }
+}
+
+/// Prints what the superblocks of a pair say.
+pub fn print_pair<C: Disk, B: Disk, K: Sink>(
+    alloc: Global,
+    cache: C,
+    backing: B,
+    out: &mut K,
+) -> Ran<C, B>
+    ensures shown { HasShown C.facts B.facts result.status cache result.cache backing result.backing (K.facts out.old) (K.facts out.new) }
+    ensures none { IsNone result.pass }
+{
+    let (mut cache, mut backing) = (cache, backing);
+    let answer = show_pair(alloc, &mut cache, &mut backing);
+    Ran {
+        status: end_printing(&answer, out),
+        cache,
+        backing,
+        pass: None,
+    }
+}

@@ -1,0 +1,188 @@
+//! The command that serves a trace.
+ghost use Rattle.std.specs.Prelude.{◌≡◌, ◌⊎◌, ◌<◌, List, IfOk, IfErr, IfSome, IsNone};
+ghost use Rattle.bc_core.specs.declared.event.Event.{Event};
+ghost use Rattle.bc_disk.specs.Device.{HasRisen};
+ghost use Rattle.bc_disk.specs.Disk.{IfTold, StandsFor};
+ghost use Rattle.bc_disk.specs.Stands.{settled_model};
+ghost use Rattle.bc_model.specs.Sector.{Image};
+ghost use Rattle.bc_output.specs.Message.{message_text};
+ghost use Rattle.bc_script.specs.Trace.{IsTrace, IsWhole};
+ghost use Rattle.bc_script.specs.declared.line.Line.{Line};
+ghost use Rattle.bc_script.specs.declared.answer.Answer.{Answer};
+ghost use Rattle.bc_super.specs.Reading.{ReadsSuper};
+ghost use Rattle.bc_super.specs.Super.{data_sectors};
+ghost use Rattle.bc_super.specs.declared.backing.BackingSuper.{BackingSuper};
+ghost use Rattle.bc_top.specs.Ended.{IsEnd, IsDone, AreExpected, IsPutOf, HasStopped};
+ghost use Rattle.bc_top.specs.Opened.{IsOpenCause, IsOpened, IsPassThrough, SameImage, AsksForNone};
+ghost use Rattle.bc_top.specs.Run.{HasRun, Survives, IsStable, setup_on};
+ghost use Rattle.bc_top.specs.Stops.{IsRefusal, IsStatus, message_of, status_of, stop_of};
+ghost use Rattle.bc_top.specs.declared.opening.OpenError.{OpenError};
+ghost use Rattle.bc_top.specs.Top.{AreSame, IsServeCause, OneHasRisen, SpellsTrace};
+ghost use Rattle.bc_top.specs.declared.closing.Closing.{Closing};
+ghost use Rattle.bc_top.specs.declared.stop.Stop.{Stop};
+
+use crate::ending::report;
+use crate::opening::{OpenError, is_pass_through, open_backing, refuse_cache};
+use crate::ran::Ran;
+use crate::running::run_trace;
+use crate::stop::{Stop, tell};
+use bc_disk::disk::Disk;
+use bc_disk::stream::{Sink, Source};
+use bc_script::line::Line;
+use bc_script::script::TraceError;
+use bc_script::trace::read_trace;
+use bc_step::part::Backing;
+use bc_super::backing::BackingSuper;
+use bc_worker::gate::NoGate;
+use std::alloc::Global;
+use std::sync::Wait;
+
+// What a run is made of.
+#[derive(Drop)]
+struct Prepared {
+    lines: Vec<Line>,
+    superblock: BackingSuper,
+}
+
+// Why a call ends whose pair isn't served.
+fn stop_of(error: OpenError) -> Stop
+    ensures { result ≡ stop_of error }
+{
+    match error {
+        OpenError::Fault(device) => Stop::Fault(device),
+        OpenError::Superblock { device, number } => Stop::Superblock { device, number },
+        OpenError::Image(why) => Stop::Image(why),
+    }
+}
+
+// Opens the pair for a run over the backing device alone.
+fn open<C: Disk, B: Disk>(cache: &mut C, backing: &mut B) -> Result<BackingSuper, Stop>
+    ensures opened { IfOk result (λ s. IsPassThrough s × IsOpened s (B.facts backing.old) (B.facts backing.new)) }
+    ensures cache { IfOk result (λ _. cache.new ≡ cache.old) }
+    ensures settled { IfOk result (λ _. StandsFor (B.facts backing.new) (settled_model (B.facts backing.new))) }
+    ensures cause { IfErr result (λ stop. (error : OpenError) × (stop ≡ stop_of error) × IsOpenCause error (C.facts cache.old) (C.facts cache.new) (B.facts backing.old) (B.facts backing.new)) }
+    ensures same { AreSame (C.facts cache.old) (C.facts cache.new) (B.facts backing.old) (B.facts backing.new) }
+{
+    match open_backing(backing) {
+        Ok(s) if is_pass_through(&s) => Ok(s),
+        Ok(s) => Err(stop_of(refuse_cache(cache, &s))),
+        Err(error) => Err(stop_of(error)),
+    }
+}
+
+// Reads the whole trace, then the superblocks.
+fn prepare<C: Disk, B: Disk, S: Source>(
+    alloc: Global,
+    trace: &mut S,
+    cache: &mut C,
+    backing: &mut B,
+) -> Result<Prepared, Stop>
+    ensures lines { IfOk result (λ p. IsTrace p.lines.items × IsWhole (S.facts trace.old) (S.facts trace.new) p.lines.items) }
+    ensures opened { IfOk result (λ p. IsPassThrough p.superblock × IsOpened p.superblock (B.facts backing.old) (B.facts backing.new)) }
+    ensures cache { IfOk result (λ _. cache.new ≡ cache.old) }
+    ensures settled { IfOk result (λ _. StandsFor (B.facts backing.new) (settled_model (B.facts backing.new))) }
+    ensures cause { IfErr result (λ stop. IsServeCause stop (S.facts trace.old) (S.facts trace.new) (C.facts cache.old) (C.facts cache.new) (B.facts backing.old) (B.facts backing.new)) }
+    ensures same { AreSame (C.facts cache.old) (C.facts cache.new) (B.facts backing.old) (B.facts backing.new) }
+{
+    let script = match read_trace(alloc, trace) {
+        Ok(script) => script,
+        Err(TraceError::Script(error)) => return Err(Stop::Trace(error)),
+        Err(TraceError::Fault) => return Err(Stop::Source),
+        Err(TraceError::Memory) => return Err(Stop::Memory),
+    };
+    match open(cache, backing) {
+        Ok(superblock) => Ok(Prepared {
+            lines: script.into_lines(),
+            superblock,
+        }),
+        Err(stop) => Err(stop),
+    }
+}
+
+/// Serves a trace over a backing device alone. Its superblock has to ask for no cache, and then the
+/// cache device isn't touched.
+///
+/// The whole trace is read first, then the superblock of the backing device and, where it asks for a
+/// cache, that of the cache device; the first of these that is refused ends the call with a message,
+/// and no sector is written. Then each line is served in order, a last barrier is made, and the
+/// answers are put in order.
+pub fn serve<R: Wait, C: Disk + Drop, B: Disk + Drop, S: Source, K: Sink>(
+    rt: &R,
+    alloc: Global,
+    trace: &mut S,
+    cache: C,
+    backing: B,
+    out: &mut K,
+) -> Ran<C, B>
+    ensures cache { IfSome result.pass (λ _. result.cache ≡ cache) }
+
+    // Where no run began the status has its cause, the message was put, and no sector was written.
+    ensures stopped { IsNone result.pass → (stop : Stop) × (result.status ≡ status_of stop)
+        × IsServeCause stop (S.facts trace.old) (S.facts trace.new) (C.facts cache) (C.facts result.cache) (B.facts backing) (B.facts result.backing)
+        × IsPutOf (message_text (message_of stop)) (K.facts out.old) (K.facts out.new)
+        × AreSame (C.facts cache) (C.facts result.cache) (B.facts backing) (B.facts result.backing) }
+    ensures unwritten { IsRefusal result.status → AreSame (C.facts cache) (C.facts result.cache) (B.facts backing) (B.facts result.backing) }
+
+    // The pass is that of a run over the device as it was opened, whose answers serve the trace. What
+    // they say, the closing and the sink give the status, and the lines and the message that were put.
+    ensures run { IfSome result.pass (λ pass. (opened : B) × (s : BackingSuper) × (lines : List Line) × (answers : List Answer) × (how : Closing) × (events : List Event)
+        × IsPassThrough s × IsOpened s (B.facts backing) (B.facts opened) × IsTrace lines × IsWhole (S.facts trace.old) (S.facts trace.new) lines
+        × HasRun (setup_on (B.facts opened) s.data_offset (data_sectors (B.facts opened).sectors s)) lines answers how events pass (B.facts result.backing)
+        × IsEnd result.status answers how (K.facts out.old) (K.facts out.new)
+        × (result.status ≡ 0 → IsDone (data_sectors (B.facts opened).sectors s) lines answers (K.facts out.old) (K.facts out.new))
+        × AreExpected s.data_offset (data_sectors (B.facts opened).sectors s) lines answers (B.facts backing)) }
+
+    // No other status than these, and 9 alone without a cause in the devices, the source and the sink.
+    ensures known { IsStatus result.status }
+    ensures used { (result.status ≡ 2) → ⊥ }
+    ensures device { result.status ≡ 6 → OneHasRisen (C.facts cache) (C.facts result.cache) (B.facts backing) (B.facts result.backing) }
+    ensures source { result.status ≡ 7 → HasRisen (S.facts trace.old).faults (S.facts trace.new).faults }
+    ensures sink { result.status ≡ 8 → HasStopped (K.facts out.old) (K.facts out.new) }
+    ensures complete { SpellsTrace (S.facts trace.old) → AsksForNone (B.facts backing)
+        → (HasRisen (S.facts trace.old).faults (S.facts trace.new).faults → ⊥)
+        → (HasRisen (B.facts backing).faults (B.facts result.backing).faults → ⊥)
+        → (HasStopped (K.facts out.old) (K.facts out.new) → ⊥)
+        → (result.status ≡ 0) ⊎ (result.status ≡ 9) }
+
+    // Over a device that tells what it holds the history is legal, and whatever a crash leaves shows
+    // for each sector a value no older than the last acknowledged flush; at status 0, its last write.
+    ensures survives { IfSome result.pass (λ pass. IfTold (B.facts backing).holds
+        (λ held. (s : BackingSuper) × ReadsSuper (B.facts backing) s × ((image : Image) × SameImage held image × Survives s.data_offset image pass (B.facts result.backing)))) }
+    ensures stable { result.status ≡ 0 → IfSome result.pass (λ pass. IfTold (B.facts backing).holds
+        (λ held. (s : BackingSuper) × ReadsSuper (B.facts backing) s × ((image : Image) × SameImage held image × IsStable s.data_offset image pass (B.facts result.backing)))) }
+{
+    let mut cache = cache;
+    let mut backing = backing;
+    let prepared = match prepare(alloc, trace, &mut cache, &mut backing) {
+        Ok(prepared) => prepared,
+        Err(stop) => {
+            return Ran {
+                status: tell(&stop, out),
+                cache,
+                backing,
+                pass: None,
+            };
+        }
+    };
+    let offset = prepared.superblock.data_offset;
+    let size = (backing.sectors() - offset).min(1 << 40);
+    let backing = Backing {
+        disk: backing,
+        offset,
+        size,
+    };
+    match run_trace::<C, B, R, NoGate>(rt, alloc, backing, &prepared.lines, &NoGate) {
+        Ok(outcome) => Ran {
+            status: report(alloc, &outcome.answers, outcome.closing, out),
+            cache,
+            backing: outcome.backing.disk,
+            pass: Some(outcome.pass),
+        },
+        Err(backing) => Ran {
+            status: tell(&Stop::Memory, out),
+            cache,
+            backing: backing.disk,
+            pass: None,
+        },
+    }
+}

@@ -1,0 +1,77 @@
+//! Why a call did nothing.
+ghost use Rattle.std.specs.Prelude.{◌≡◌};
+ghost use Rattle.bc_output.specs.Message.{message_text};
+ghost use Rattle.bc_top.specs.Ended.{IsPutOf};
+ghost use Rattle.bc_top.specs.Stops.{message_of, status_of};
+
+use bc_disk::disk::Device;
+use bc_disk::stream::Sink;
+use bc_output::message::{Message, Origin, print_message};
+use bc_output::put::put_all;
+use bc_script::script::ScriptError;
+
+/// Why no run began.
+#[derive(Clone, Copy, Debug, PartialEq, Eq, Drop)]
+pub enum Stop {
+    /// The words aren't those of a command.
+    Usage,
+    /// A line of the trace was refused.
+    Trace(ScriptError),
+    /// The source of the trace failed.
+    Source,
+    /// A call of this device failed.
+    Fault(Device),
+    /// The superblock of this device has the fault of this number.
+    Superblock { device: Device, number: u8 },
+    /// What the cache device holds is refused for this reason.
+    Image(u8),
+    /// There was no memory.
+    Memory,
+}
+
+impl Stop {
+    // The status with which a call ends.
+    fn status(&self) -> u8
+        ensures { result ≡ status_of self.now }
+    {
+        match self {
+            Stop::Usage => 2,
+            Stop::Trace(_) => 3,
+            Stop::Superblock { .. } => 4,
+            Stop::Image(_) => 5,
+            Stop::Fault(_) => 6,
+            Stop::Source => 7,
+            Stop::Memory => 9,
+        }
+    }
+
+    // The line that says so.
+    fn message(&self) -> Message
+        ensures { result ≡ message_of self.now }
+    {
+        match self {
+            Stop::Usage => Message::Usage,
+            Stop::Trace(error) => Message::Trace {
+                line: error.line,
+                why: error.why,
+            },
+            Stop::Superblock { device, number } => Message::Superblock {
+                device: *device,
+                number: *number,
+            },
+            Stop::Image(why) => Message::Image(*why),
+            Stop::Fault(device) => Message::Fault(Origin::Disk(*device)),
+            Stop::Source => Message::Fault(Origin::Source),
+            Stop::Memory => Message::Memory,
+        }
+    }
+}
+
+/// Puts the line that says why no run began, and answers the status.
+pub fn tell<K: Sink>(stop: &Stop, out: &mut K) -> u8
+    ensures status { result ≡ status_of stop.now }
+    ensures put { IsPutOf (message_text (message_of stop.now)) (K.facts out.old) (K.facts out.new) }
+{
+    let _put = put_all(out, print_message(stop.message()).as_bytes());
+    stop.status()
+}

@@ -1,0 +1,5 @@
+mod Numbers
+mod Powers
+mod Uuids
+mod Lines
+mod Commands

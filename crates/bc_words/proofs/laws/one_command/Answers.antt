@@ -1,0 +1,5 @@
+use Rattle.bc_words.proofs.Commands.{one_command}
+use Rattle.bc_words.proofs.laws.one_command.Goals as goal
+
+pub returns : goal.returns
+returns c = one_command
