@@ -1,4 +1,4 @@
--- The entries of a cache device, as an image of it has them in its journal buckets.
+-- The entries of a cache device, as an image of it has them in its journal buckets, and as the kernel's `journal.c` reads them.
 use Rattle.std.specs.Prelude.{◌≡◌, ℕ, zero, suc, ◌+◌, ◌*◌, ◌<◌, ◌≤◌, ◌==◌, List, [], ◌∷◌, ◌++◌, length, slice_index_or, All, Option, Some}
 use Rattle.std.specs.List.{find}
 use Rattle.bc_model.specs.Sector.{Image}

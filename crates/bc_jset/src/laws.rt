@@ -1,5 +1,5 @@
 //! What the definitions come to: each law is the contract of a function.
-ghost use Rattle.std.specs.Prelude.{◌≡◌, ◌↔◌, ◌+◌, ◌*◌, ◌<◌, ◌≤◌, ℕ, List, [], ◌∷◌, length, drop, slice_range, All};
+ghost use Rattle.std.specs.Prelude.{◌≡◌, ◌↔◌, ◌+◌, ◌*◌, ◌<◌, ◌≤◌, ℕ, List, [], ◌∷◌, ◌++◌, length, drop, slice_range, All};
 ghost use Rattle.bc_bytes.specs.Fields.{number_at};
 ghost use Rattle.bc_jset.specs.declared.entry.JEntry.{JEntry};
 ghost use Rattle.bc_jset.specs.declared.error.JsetError.{JsetError};
@@ -10,7 +10,8 @@ ghost use Rattle.bc_model.specs.Pattern.{zeros};
 ghost use Rattle.bc_disk.specs.Bytes.{image_of};
 ghost use Rattle.bc_disk.specs.declared.geometry.Geometry.{Geometry};
 ghost use Rattle.bc_record.specs.Sectors.{Has, AgreeOn};
-ghost use Rattle.bc_jset.specs.Records.{entry_sectors, EntryFound};
+ghost use Rattle.bc_record.specs.Kind.{AreFound, behind};
+ghost use Rattle.bc_jset.specs.Records.{entry_kind, entry_sectors, EntryFound};
 ghost use Rattle.bc_jset.specs.ExampleEntries.{example_geometry, example_image, gapped_image};
 ghost use Rattle.bc_jset.specs.Entries.{AreEntries, CountUp, StandsInJournal, bucket_start};
 
@@ -64,6 +65,17 @@ pub fn entries_in_sectors()
         → Has image place (values_of bytes) → place + n ≤ end → EntryFound g image end place e }
     ensures zeros { (g : Geometry) (image : Image) (end place : ℕ) (e : JEntry)
         → image place ≡ zeros → EntryFound g image end place e → ⊥ }
+{}
+
+/// Entries that stand from a place on stay where their sectors do, and what is found behind them
+/// follows them, also where that was written over.
+pub fn entries_go_on()
+    ensures { (g : Geometry) (a b : Image) (end place : ℕ) (es more rest : List JEntry)
+        → AreFound (entry_kind g) a end place (es ++ more)
+        → AgreeOn a b place (behind (entry_kind g) place es)
+        → behind (entry_kind g) place es ≤ end
+        → AreFound (entry_kind g) b end (behind (entry_kind g) place es) rest
+        → AreFound (entry_kind g) b end place (es ++ rest) }
 {}
 
 /// In the image of bytes an entry is found exactly where it stands in the bytes and ends before the

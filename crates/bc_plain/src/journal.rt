@@ -23,7 +23,7 @@ fn sectors_of(block: u16, bytes: usize) -> usize
     block * ((bytes + (512 * block - 1)) / (512 * block))
 }
 
-/// Says whether there was no memory to read an entry.
+/// Nothing where bytes were refused as no entry; want of memory stays an error.
 fn refused(error: JsetError) -> Result<(), AllocError>
     ensures { IfOk result (λ _. error ≢ JsetError.Memory) }
 {
@@ -43,8 +43,10 @@ fn entry_at(
 ) -> Result<Option<(JEntry, usize)>, AllocError>
     requires order { place ≤ end }
     requires within { 512 * end ≤ length image.now }
-    ensures { IfOk result (λ o. MatchOption o (NoneFound (entry_kind g.now) (image_of image.now) end place)
-        (λ r. EntryFound g.now (image_of image.now) end place r.0 × (r.1 ≡ entry_sectors g.now r.0))) }
+    ensures { IfOk result (λ o. MatchOption o
+        (NoneFound (entry_kind g.now) (image_of image.now) end place)
+        (λ r. EntryFound g.now (image_of image.now) end place r.0
+        × (r.1 ≡ entry_sectors g.now r.0))) }
 {
     let part = &image[512 * place..512 * end];
     match read_entry(alloc, part, g.set_magic) {
@@ -71,7 +73,8 @@ fn add_bucket(
     requires bucket { i < g.now.journal }
     requires within { 512 * (g.now.bucket * g.now.nbuckets) ≤ length image.now }
     ensures { IfOk result (λ _. (here : List JEntry)
-        × AreFound (entry_kind g.now) (image_of image.now) (bucket_end g.now i) (bucket_start g.now i) here
+        × AreFound (entry_kind g.now) (image_of image.now)
+        (bucket_end g.now i) (bucket_start g.now i) here
         × (all.new.items ≡ all.old.items ++ here)) }
 {
     let bucket = g.bucket as usize;
@@ -97,7 +100,7 @@ fn all_entries(alloc: Global, image: &[u8], g: &Geometry) -> Result<Vec<JEntry>,
     Ok(all)
 }
 
-/// The least number that is no entry's number or below it.
+/// The greatest number that one of the entries has; 0 where there are none.
 fn greatest(all: &[JEntry]) -> u64
     ensures above { All (λ e. e.seq ≤ result) all.now }
     ensures least { (n : ℕ) → All (λ e. e.seq ≤ n) all.now → result ≤ n }

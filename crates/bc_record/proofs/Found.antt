@@ -1,5 +1,5 @@
 -- What is found of a kind whose records rest on their own bytes alone.
-use Rattle.std.proofs.Common.{◌≡◌, ◌↔◌, ℕ, ◌+◌, ◌-◌, ◌*◌, ◌<◌, ◌≤◌, List, [], ◌∷◌, length, take, drop, refl, sym, subst, ap, ◌∙◌, arith}
+use Rattle.std.proofs.Common.{◌≡◌, ◌↔◌, ℕ, ◌+◌, ◌-◌, ◌*◌, ◌<◌, ◌≤◌, List, [], ◌∷◌, ◌++◌, length, take, drop, refl, sym, subst, ap, ◌∙◌, arith}
 use Rattle.std.specs.Prelude.{All, ◌/◌}
 use Rattle.std.proofs.Math.Nat.{mul-add, lt_of_mul-lt-mul_left}
 use Rattle.std.proofs.lemmas.List.{take-take}
@@ -7,7 +7,7 @@ use Rattle.std.proofs.lemmas.List.Elements.{All-nil, All-cons}
 use Rattle.bc_model.specs.Sector.{Image, values_of}
 use Rattle.bc_disk.specs.Bytes.{image_of}
 use Rattle.bc_record.specs.Sectors.{bytes_to, Has, AgreeOn}
-use Rattle.bc_record.specs.Kind.{Kind, sectors_of, IsFound, AreFound}
+use Rattle.bc_record.specs.Kind.{Kind, sectors_of, IsFound, AreFound, behind}
 use Rattle.bc_record.proofs.Blocks.{blocks_hold, blocks_within, some_blocks}
 use Rattle.bc_record.proofs.Parts.{length-bytes_in, bytes_in-agree, bytes_in-front, bytes_in-has, bytes_to-agree, bytes_to-image_of}
 
@@ -64,9 +64,10 @@ module _ {A : Type 0} (kind : Kind A) (codec : IsCodec kind) where
       let rest = drop (512 * place) bytes in
       let n = kind.bytes e in
       let cut : n ≤ 512 * (end - place) → take n part ≡ take n rest =
-      λ within. ap (take n) (bytes_to-image_of bytes end place low room) ∙ take-take n (512 * (end - place)) rest within in
-      ((λ found. (let within = found_bytes (image_of bytes) end place e found in (codec.stays part rest e found (sym (cut within)), omega (arith, within)))),
-       (λ stands. codec.stays rest part e stands.0 (cut (omega (arith, stands.1)))))
+      λ within. ap (take n) (bytes_to-image_of bytes end place low room) ∙ take-take n (512 * (end - place)) rest within in (
+        (λ found. (let within = found_bytes (image_of bytes) end place e found in (codec.stays part rest e found (sym (cut within)), omega (arith, within)))),
+        (λ stands. codec.stays rest part e stands.0 (cut (omega (arith, stands.1)))),
+      )
 
   pub one_run : (image : Image) (end place : ℕ) (ds es : List A) → AreFound kind image end place ds → AreFound kind image end place es → ds ≡ es
   one_run image end place [] [] p q = refl
@@ -107,3 +108,18 @@ module _ {A : Type 0} (kind : Kind A) (codec : IsCodec kind) where
   pub run_places : (image : Image) (end start n : ℕ) (es : List A) → end ≡ start + kind.block * n → AreFound kind image end start es → All (IsPlaced image end start) es
   run_places image end start n es ends p =
       run_places_from image end start n 0 start es ends (omega arith) (omega arith) p
+
+  -- records that stay, and what is found behind them
+  behind_on : (place : ℕ) (es : List A) → place ≤ behind kind place es
+  behind_on place [] = omega arith
+  behind_on place (e ∷ es) = let rest = behind_on (place + sectors_of kind e) es in omega (arith, rest)
+
+  pub run_goes_on : (a b : Image) (end place : ℕ) (es more rest : List A) → AreFound kind a end place (es ++ more) → AgreeOn a b place (behind kind place es) → behind kind place es ≤ end
+      → AreFound kind b end (behind kind place es) rest → AreFound kind b end place (es ++ rest)
+  run_goes_on a b end place [] more rest p same inside found = found
+  run_goes_on a b end place (e ∷ es) more rest p same inside found =
+      let next = place + sectors_of kind e in
+      let on = behind_on next es in (
+        found_stays a b end place e p.0 (λ s after before. same s after (omega (arith, before, on))) (omega (arith, on, inside)),
+        run_goes_on a b end next es more rest p.1 (λ s after before. same s (omega (arith, after)) before) inside found,
+      )

@@ -27,3 +27,8 @@ NoneFound {A = A} kind image end place = (e : A) → IsFound kind image end plac
 abbrev pub AreFound : {A : Type 0} → Kind A → Image → ℕ → ℕ → List A → Type 0
 AreFound kind image end place [] = NoneFound kind image end place
 AreFound kind image end place (e ∷ es) = IsFound kind image end place e × AreFound kind image end (place + sectors_of kind e) es
+
+-- the place behind records that stand one behind the other
+abbrev pub behind : {A : Type 0} → Kind A → ℕ → List A → ℕ
+behind kind place [] = place
+behind kind place (e ∷ es) = behind kind (place + sectors_of kind e) es

@@ -70,7 +70,8 @@ pub fn set_of_keys(alloc: Global) -> Result<Vec<u8>, AllocError> {
 
 /// Reads the entry so many times, and says how many keys the last one had.
 pub fn read_entries(alloc: Global, bytes: &[u8], rounds: u32) -> Result<usize, JsetError>
-    ensures { IfOk result (λ keys. 0 < rounds → (e : JEntry) × IsEntry 1 bytes.now e × (keys ≡ length e.keys)) }
+    ensures { IfOk result (λ keys. 0 < rounds → (e : JEntry)
+        × IsEntry 1 bytes.now e × (keys ≡ length e.keys)) }
 {
     let mut keys = 0;
     for _round in 0..rounds {
@@ -82,7 +83,8 @@ pub fn read_entries(alloc: Global, bytes: &[u8], rounds: u32) -> Result<usize, J
 
 /// Reads the set so many times, and says how many keys the last one had.
 pub fn read_sets(alloc: Global, bytes: &[u8], rounds: u32) -> Result<usize, SetError>
-    ensures { IfOk result (λ keys. 0 < rounds → (s : Set) × IsSet 0x80003 1 SetKind.Extents bytes.now s × (keys ≡ length s.keys)) }
+    ensures { IfOk result (λ keys. 0 < rounds → (s : Set)
+        × IsSet 0x80003 1 SetKind.Extents bytes.now s × (keys ≡ length s.keys)) }
 {
     let mut keys = 0;
     for _round in 0..rounds {

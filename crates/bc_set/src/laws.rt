@@ -1,16 +1,17 @@
 //! What the definitions come to: each law is the contract of a function.
-ghost use Rattle.std.specs.Prelude.{◌≡◌, ◌↔◌, ◌+◌, ◌*◌, ◌<◌, ◌≤◌, ℕ, List, length, drop, slice_range};
+ghost use Rattle.std.specs.Prelude.{◌≡◌, ◌↔◌, ◌+◌, ◌*◌, ◌<◌, ◌≤◌, ℕ, List, ◌++◌, length, drop, slice_range};
 ghost use Rattle.bc_bytes.specs.Fields.{number_at};
 ghost use Rattle.bc_model.specs.Sector.{Image, values_of};
 ghost use Rattle.bc_model.specs.Pattern.{zeros};
 ghost use Rattle.bc_disk.specs.Bytes.{image_of};
 ghost use Rattle.bc_disk.specs.declared.geometry.Geometry.{Geometry};
 ghost use Rattle.bc_record.specs.Sectors.{Has, AgreeOn};
+ghost use Rattle.bc_record.specs.Kind.{AreFound, behind};
 ghost use Rattle.bc_set.specs.declared.error.SetError.{SetError};
 ghost use Rattle.bc_set.specs.declared.set.Set.{Set};
 ghost use Rattle.bc_set.specs.declared.set.SetKind.{SetKind};
 ghost use Rattle.bc_set.specs.SetBytes.{IsSet, IsRefused, StandsAt, bytes_of};
-ghost use Rattle.bc_set.specs.Records.{set_sectors, SetFound};
+ghost use Rattle.bc_set.specs.Records.{set_kind, set_sectors, SetFound};
 ghost use Rattle.bc_set.specs.Example.{example_bytes};
 
 /// Bytes begin with one set at most, or they are refused for one reason at most, and never both.
@@ -68,6 +69,17 @@ pub fn sets_in_sectors()
     ensures zeros { (g : Geometry) (start : ℕ) (kind : SetKind) (image : Image)
         (end place : ℕ) (s : Set) → image place ≡ zeros
         → SetFound g start kind image end place s → ⊥ }
+{}
+
+/// Sets that stand from a place on stay where their sectors do, and what is found behind them follows
+/// them, also where that was written over.
+pub fn sets_go_on()
+    ensures { (g : Geometry) (start : ℕ) (kind : SetKind) (a b : Image) (end place : ℕ)
+        (es more rest : List Set) → AreFound (set_kind g start kind) a end place (es ++ more)
+        → AgreeOn a b place (behind (set_kind g start kind) place es)
+        → behind (set_kind g start kind) place es ≤ end
+        → AreFound (set_kind g start kind) b end (behind (set_kind g start kind) place es) rest
+        → AreFound (set_kind g start kind) b end place (es ++ rest) }
 {}
 
 /// In the image of bytes a set is found exactly where it stands in the bytes and ends before the end.
