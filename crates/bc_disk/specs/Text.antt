@@ -13,9 +13,11 @@ pub record Taken : Type 0 where
   pub taken : List ℕ
   pub room : ℕ
   pub calls : Tally
+  -- how often it took nothing of a piece that isn't empty
+  pub stops : ℕ
 
 abbrev pub facts_of_left : Left → StreamFacts
-facts_of_left s = record { text = Some s.left; faults = s.calls.faults }
+facts_of_left s = record { text = Some s.left; faults = s.calls.faults; stops = 0 }
 
 abbrev pub facts_of_taken : Taken → StreamFacts
-facts_of_taken s = record { text = Some s.taken; faults = s.calls.faults }
+facts_of_taken s = record { text = Some s.taken; faults = s.calls.faults; stops = s.stops }

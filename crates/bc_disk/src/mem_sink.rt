@@ -13,6 +13,7 @@ pub struct MemSink {
     bytes: Vec<u8>,
     room: usize,
     calls: Calls,
+    stops: u64,
 }
 
 impl Model for MemSink {
@@ -21,7 +22,12 @@ impl Model for MemSink {
 
     ghost Value = { Taken };
 
-    ghost view = { λ a. record { taken = a.bytes.items; room = a.room; calls = a.calls } };
+    ghost view = { λ a. record {
+      taken = a.bytes.items;
+      room = a.room;
+      calls = a.calls;
+      stops = a.stops;
+    } };
 
     ghost invariant = { λ a.
         (length a.bytes.items ≤ a.room) × (a.room ≤ vec_capacity a.bytes) × (a.calls.stop ≡ None) };
@@ -32,12 +38,14 @@ impl MemSink {
 
     /// A sink that takes up to `room` bytes, for which it takes the memory here.
     pub fn new(alloc: Global, room: usize) -> Result<MemSink, AllocError>
-        ensures { IfOk result (λ s. s ≡ record { taken = []; room = room; calls = none_made }) }
+        ensures { IfOk result
+            (λ s. s ≡ record { taken = []; room = room; calls = none_made; stops = 0 }) }
     {
         Ok(MemSink {
             bytes: Vec::with_capacity(alloc, room)?,
             room,
             calls: Calls::new(alloc),
+            stops: 0,
         })
     }
 
@@ -72,6 +80,13 @@ impl MemSink {
         self.calls.made()
     }
 
+    /// How many calls took nothing of a piece that isn't empty.
+    pub fn stops(&self) -> u64
+        ensures { result ≡ self.now.stops }
+    {
+        self.stops
+    }
+
     /// How many calls failed.
     pub fn faults(&self) -> u64
         ensures { result ≡ self.now.calls.faults }
@@ -104,6 +119,9 @@ impl Sink for MemSink {
         let many = bytes.len().min(self.room - self.bytes.len());
         self.bytes.extend_from_slice(&bytes[..many]).unwrap();
         self.calls.succeed();
+        if many == 0 && !bytes.is_empty() {
+            self.stops = self.stops.saturating_add(1);
+        }
         Ok(many)
     }
 }

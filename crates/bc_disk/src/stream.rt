@@ -16,7 +16,8 @@ pub trait Source {
 
 /// A sink of bytes. A failed call leaves what it has taken as it was.
 pub trait Sink {
-    /// What was taken, where it is told, and the count of faults.
+    /// What was taken, where it is told, the count of faults, and that of puts which took nothing of a
+    /// piece that isn't empty.
     ghost facts: { Self → StreamFacts };
 
     /// Takes bytes from the front of the piece, and answers how many.

@@ -15,14 +15,16 @@ use std::marker::Model;
 pub struct FileOut<W> {
     writer: W,
     counts: Counts,
+    // How often nothing was taken of a piece that isn't empty.
+    stops: u64,
 }
 
 impl<W> Model for FileOut<W> {
-    ghost use Rattle.bc_file.specs.declared.counts.Counts.{Counts};
+    ghost use Rattle.bc_file.specs.Stream.{SinkCounts};
 
-    ghost Value = { Counts };
+    ghost Value = { SinkCounts };
 
-    ghost view = { λ s. s.counts };
+    ghost view = { λ s. record { counts = s.counts; stops = s.stops } };
 }
 
 // One write, tried again where a signal interrupts it.
@@ -52,17 +54,18 @@ impl<W: Write> FileOut<W> {
 
     /// A sink that gives to this writer.
     pub fn new(writer: W) -> FileOut<W>
-        ensures { result ≡ none_made }
+        ensures { result ≡ record { counts = none_made; stops = 0 } }
     {
         FileOut {
             writer,
             counts: Counts::none(),
+            stops: 0,
         }
     }
 
     /// How many calls were made, and how many of them failed.
     pub fn counts(&self) -> Counts
-        ensures { result ≡ self.now }
+        ensures { result ≡ self.now.counts }
     {
         self.counts
     }
@@ -71,17 +74,21 @@ impl<W: Write> FileOut<W> {
 impl<W: Write> Sink for FileOut<W> {
     ghost use Rattle.bc_disk.specs.Stream.{IsPut};
     ghost use Rattle.bc_file.specs.Counts.{counted};
-    ghost use Rattle.bc_file.specs.Stream.{untold};
+    ghost use Rattle.bc_file.specs.Stream.{untold_sink};
 
-    ghost facts = { untold };
+    ghost facts = { untold_sink };
 
     /// Writes once and flushes, so it may take fewer bytes than there are. Fails where the writer
     /// does; after a flush that failed it may have taken bytes of the piece.
     fn put(&mut self, bytes: &[u8]) -> Result<usize, Failed>
-        ensures put { IsPut result bytes.now (untold self.old) (untold self.new) }
-        ensures counts { self.new ≡ counted result self.old }
+        ensures put { IsPut result bytes.now (untold_sink self.old) (untold_sink self.new) }
+        ensures counts { self.new.counts ≡ counted result self.old.counts }
     {
         let outcome = write_out(&mut self.writer, bytes);
-        self.counts.count(outcome)
+        let taken = self.counts.count(outcome);
+        if matches!(taken, Ok(0)) && !bytes.is_empty() {
+            self.stops = self.stops.saturating_add(1);
+        }
+        taken
     }
 }

@@ -5,10 +5,11 @@ use Rattle.bc_disk.specs.declared.disk.Failed.{Failed as Failure}
 use Rattle.bc_output.specs.declared.put.WriteFault.{WriteFault}
 use Rattle.bc_output.specs.declared.put.WriteFault.TheVariants.{Failed, TookNothing}
 
--- these bytes were taken, behind what was taken before, and no put failed
+-- these bytes were taken, behind what was taken before, and no put failed or took nothing
 pub record Takes (bytes : List ℕ) (old new : StreamFacts) : Type 0 where
   pub text : BothToldText (λ (a b : List ℕ). b ≡ a ++ bytes) old.text new.text
   pub faults : new.faults ≡ old.faults
+  pub stops : new.stops ≡ old.stops
 
 -- a put of this piece that ends the putting: it failed, or it took nothing
 abbrev pub IsLastPut : WriteFault → List ℕ → StreamFacts → StreamFacts → Type 0

@@ -8,7 +8,6 @@ use Rattle.bc_disk.specs.Stream.{StreamFacts}
 use Rattle.bc_disk.specs.Device.{HasRisen, next_count}
 use Rattle.bc_output.specs.Put.{IsWriteFault}
 use Rattle.bc_output.specs.declared.put.WriteFault.{WriteFault}
-use Rattle.bc_output.specs.declared.put.WriteFault.TheVariants.{Failed, TookNothing}
 use Rattle.bc_disk.specs.declared.disk.Device.TheVariants as device
 use Rattle.bc_pair.specs.Causes.{AdoptLeaves, AreKept, FaultRose, KeepsOthers}
 use Rattle.bc_pair.specs.declared.error.PairError.{PairError}
@@ -17,7 +16,7 @@ use Rattle.bc_top.specs.Ended.{HasStopped}
 use Rattle.bc_top.specs.Pairs.{EndsPrinting, EndsSilently, IsStopped}
 use Rattle.bc_top.specs.Stops.{IsRefusal}
 use Rattle.bc_top.specs.Top.{AreSame, OneHasRisen}
-use Rattle.bc_top.proofs.Raising.{next_rises}
+use Rattle.bc_top.proofs.Statuses.{fault_stops}
 use Rattle.bc_top.proofs.Settled.{same_kept}
 
 -- a device of which nothing was written
@@ -56,13 +55,6 @@ adopt_unwritten cache_facts backing_facts cache cache' backing backing' (Err (er
     never (inr (inl three)) = let six = ends.0 in omega arith
     never (inr (inr (inl four))) = let six = ends.0 in omega arith
     never (inr (inr (inr five))) = let six = ends.0 in omega arith
-
--- a sink that failed to take a text
-fault_stops : (cause : WriteFault) (text : List ℕ) (old new : StreamFacts) → IsWriteFault cause text old new → HasStopped old new
-fault_stops Failed text old new fault =
-    let last = fault.last in
-    inl (subst (HasRisen old.faults) (ap (λ n. next_count n) (sym last.1.faults) ∙ sym last.2.1.1) (next_rises old.faults))
-fault_stops TookNothing text old new fault = inr (text, old, fault)
 
 pub printing_stops : (answer : Result (String Global) PairError) (status : ℕ) (old new : StreamFacts) → EndsPrinting answer status old new → status ≡ 8 → HasStopped old new
 printing_stops (Ok text) status old new (inl done) is = absurd (let zero = done.0 in omega arith)

@@ -23,7 +23,8 @@ use Rattle.bc_output.specs.declared.put.WriteFault.{WriteFault}
 use Rattle.bc_output.specs.declared.put.WriteFault.TheVariants.{Failed, TookNothing}
 use Rattle.bc_output.specs.Lines.{AreLines, StandForAll, IsCut}
 use Rattle.bc_output.specs.declared.message.Message.{Message}
-use Rattle.bc_output.specs.Put.{Takes}
+use Rattle.bc_output.specs.Put.{Takes, IsWriteFault}
+use Rattle.bc_output.proofs.Taken.{took_nothing}
 use Rattle.bc_output.proofs.Standing.{all_whole}
 use Rattle.bc_top.specs.Ended.{says_fault, says_memory, has_failed, status_of_end, message_of_end, ArePut, IsPutBehind, IsEnd, IsDone, HasStopped}
 use Rattle.bc_top.specs.Run.{HasRun}
@@ -111,13 +112,23 @@ none_behind : (put : Result (Unit {0}) WriteFault) (old new : StreamFacts) → I
 none_behind (Ok u) old new h = h
 none_behind (Err cause) old new h = h
 
+-- a sink that failed to take a text
+pub fault_stops : (cause : WriteFault) (text : List ℕ) (old new : StreamFacts) → IsWriteFault cause text old new → HasStopped old new
+fault_stops Failed text old new fault =
+    let last = fault.last in
+    inl (subst (HasRisen old.faults) (ap (λ n. next_count n) (sym last.1.faults) ∙ sym last.2.1.1) (next_rises old.faults))
+fault_stops TookNothing text old new fault =
+    let last = fault.last in
+    inr (subst (HasRisen old.stops) (ap (λ n. next_count n) (sym last.1.stops) ∙ sym (took_nothing fault.rest last.0.stops fault.unfinished) ∙ sym last.2.3) (next_rises old.stops))
+
+-- and so one that took some text before
+later_stops : (text : List ℕ) (old between new : StreamFacts) → Takes text old between → HasStopped between new → HasStopped old new
+later_stops text old between new taken (inl rose) = inl (subst (λ n. HasRisen n new.faults) taken.faults rose)
+later_stops text old between new taken (inr rose) = inr (subst (λ n. HasRisen n new.stops) taken.stops rose)
+
 -- what a sink that cut the lines short did
 cut_stops : (missed : Bool) (cause : WriteFault) (answers : List Answer) (old new : StreamFacts) → IsCut missed cause answers old new → HasStopped old new
-cut_stops missed Failed answers old new cut =
-    let last = cut.fault.last in
-    let same : last.0.faults ≡ old.faults = last.1.faults ∙ cut.taken.faults in
-    inl (subst (HasRisen old.faults) (ap (λ n. next_count n) (sym same) ∙ sym last.2.1.1) (next_rises old.faults))
-cut_stops missed TookNothing answers old new cut = inr (cut.line, cut.between, cut.fault)
+cut_stops missed cause answers old new cut = later_stops cut.text old cut.between new cut.taken (fault_stops cause cut.line cut.between new cut.fault)
 
 stops : (printed : Printed) (put : Result (Unit {0}) WriteFault) (answers : List Answer) (old between new : StreamFacts) (m : Option Message)
     → MatchResult put (λ _. (text : List ℕ) × StandForAll printed.memory_missed answers text × Takes text old between) (λ cause. IsCut printed.memory_missed cause answers old between)

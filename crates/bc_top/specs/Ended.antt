@@ -15,7 +15,6 @@ use Rattle.bc_output.specs.declared.message.Message.{Message}
 use Rattle.bc_output.specs.declared.message.Message.TheVariants as message
 use Rattle.bc_output.specs.declared.message.Origin.TheVariants as origin
 use Rattle.bc_output.specs.declared.put.WriteFault.{WriteFault}
-use Rattle.bc_output.specs.declared.put.WriteFault.TheVariants.{TookNothing}
 use Rattle.bc_output.specs.Lines.{AreLines, StandForAll, IsCut}
 use Rattle.bc_output.specs.Message.{message_text}
 use Rattle.bc_output.specs.Put.{Takes, IsWriteFault}
@@ -102,6 +101,6 @@ pub record IsDone (size : ℕ) (lines : List Line) (answers : List Answer) (old 
 abbrev pub AreExpected : ℕ → ℕ → List Line → List Answer → DiskFacts → Type 0
 AreExpected offset size lines answers d = AllAnswered size lines answers → IfTold d.holds (λ held. answers ≡ answers_of size lines (λ s. held (offset + s)))
 
--- the sink failed, or took nothing of a piece that isn't empty
+-- the sink failed in this call, or took nothing of a piece that isn't empty: that count rose
 abbrev pub HasStopped : StreamFacts → StreamFacts → Type 0
-HasStopped old new = HasRisen old.faults new.faults ⊎ ((text : List ℕ) × (before : StreamFacts) × IsWriteFault TookNothing text before new)
+HasStopped old new = HasRisen old.faults new.faults ⊎ HasRisen old.stops new.stops
