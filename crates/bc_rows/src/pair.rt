@@ -1,12 +1,14 @@
 //! Commands over pairs of devices in memory.
-ghost use Rattle.std.specs.Prelude.{◌≡◌, ◌*◌, ◌<◌, ◌≤◌, length, IfOk};
+ghost use Rattle.std.specs.Prelude.{◌+◌, ◌*◌, ◌<◌, ◌≤◌, length};
 
+use crate::serving::test_end;
 use bc_disk::mem_disk::MemDisk;
 use bc_disk::mem_sink::MemSink;
 use bc_disk::mem_source::MemSource;
 use bc_top::ran::Ran;
 use bc_top::top::bcache;
 use std::alloc::Global;
+use std::process::Abort;
 use std::sync::Wait;
 use std::test::Fail;
 
@@ -54,9 +56,9 @@ pub const MADE_BACKING: [u8; 208] = [
     0x01, 0x00, 0x00, 0x04, 0x00, 0x00, 0x00, 0x00, 0x00, 0x00, 0x00, 0x00, 0x00, 0x00, 0x00, 0x00,
 ];
 
-/// A device of so many sectors, each byte of which is the same but for what stands at the superblock's
-/// place.
-pub fn device(alloc: Global, sectors: usize, byte: u8, superblock: &[u8]) -> Result<MemDisk, Fail>
+// A device of so many sectors, each byte of which is the same but for what stands at the superblock's
+// place.
+fn device(alloc: Global, sectors: usize, byte: u8, superblock: &[u8]) -> Result<MemDisk, Fail>
     requires { (sectors < 20000) × (4096 + length superblock.now ≤ 512 * sectors) }
 {
     let mut bytes = vec![in alloc; byte; 512 * sectors]?;
@@ -64,21 +66,70 @@ pub fn device(alloc: Global, sectors: usize, byte: u8, superblock: &[u8]) -> Res
     Ok(MemDisk::new(alloc, bytes, sectors)?)
 }
 
-/// Runs the command of these words, which have one space between two, over the pair. What is printed
-/// goes to the sink.
-pub fn run<R: Wait>(
-    rt: &R,
-    alloc: Global,
-    words: &str,
-    trace: &str,
-    cache: MemDisk,
-    backing: MemDisk,
-    out: &mut MemSink,
-) -> Result<Ran<MemDisk, MemDisk>, Fail> {
-    let mut source = MemSource::new(alloc, Vec::from_slice(alloc, trace.as_bytes())?);
+/// Two devices, or what a command left of them.
+pub type Pair = Ran<MemDisk, MemDisk>;
+
+/// Devices of so many sectors that have no superblock.
+pub fn blank(alloc: Global, cache: usize, backing: usize) -> Result<Pair, Fail>
+    requires { (8 ≤ cache) × (cache < 20000) × (8 ≤ backing) × (backing < 20000) }
+{
+    let cache = device(alloc, cache, 0xca, &[])?;
+    Ok(Ran {
+        status: 0,
+        cache,
+        backing: device(alloc, backing, 0xba, &[])?,
+        pass: None,
+    })
+}
+
+/// The pair that make-bcache wrote, but for the size of the backing device.
+pub fn made(alloc: Global, backing: usize) -> Result<Pair, Fail>
+    requires { (16 ≤ backing) × (backing < 20000) }
+{
+    let cache = device(alloc, CACHE_SECTORS, 0, &MADE_CACHE)?;
+    Ok(Ran {
+        status: 0,
+        cache,
+        backing: device(alloc, backing, 0, &MADE_BACKING)?,
+        pass: None,
+    })
+}
+
+// The words, which have one space between two, as the program takes them.
+fn list(alloc: Global, words: &str) -> Result<Vec<String>, Fail> {
     let mut list = Vec::new(alloc);
     for word in words.split(' ') {
         list.push(String::from_str(alloc, word)?)?;
     }
-    Ok(bcache(rt, alloc, &list, &mut source, cache, backing, out))
+    Ok(list)
+}
+
+/// Runs the command of these words over the pair, before a trace of one read. What is printed goes to
+/// the sink.
+pub fn run<R: Wait>(
+    rt: &R,
+    alloc: Global,
+    words: &str,
+    pair: Pair,
+    out: &mut MemSink,
+) -> Result<Pair, Fail> {
+    let list = list(alloc, words)?;
+    let trace = Vec::from_slice(alloc, b"1 r 0 1\n")?;
+    let mut source = MemSource::new(alloc, trace);
+    Ok(bcache(rt, alloc, &list, &mut source, pair.cache, pair.backing, out))
+}
+
+/// Runs the command over the pair: what is printed, and the status.
+pub fn test_run<R: Abort + Wait>(
+    rt: &R,
+    alloc: Global,
+    pair: Pair,
+    words: &str,
+    text: &str,
+    status: u8,
+) -> Result<Pair, Fail> {
+    let mut out = MemSink::new(alloc, 1000)?;
+    let ran = run(rt, alloc, words, pair, &mut out)?;
+    test_end(rt, &ran, out.bytes(), text.as_bytes(), status);
+    Ok(ran)
 }

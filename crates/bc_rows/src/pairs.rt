@@ -1,6 +1,8 @@
 //! The rows of the commands that make and show a pair.
-use crate::pair::{BACKING_SECTORS, CACHE_SECTORS, FORMAT, MADE_BACKING, MADE_CACHE, device, run};
-use crate::serving::seal;
+ghost use Rattle.std.specs.Prelude.{◌<◌, ◌≤◌};
+
+use crate::pair::{BACKING_SECTORS, CACHE_SECTORS, FORMAT, Pair, blank, made, run, test_run};
+use crate::serving::{seal, test_calls, test_end};
 use bc_disk::crash::Pick;
 use bc_disk::mem_disk::MemDisk;
 use bc_disk::mem_sink::MemSink;
@@ -32,166 +34,216 @@ backing version 1 offset 16 size 4096 mode writethrough state clean
 backing uuid 7815eacc9bce473cbeedbc10d9428558 set a99a46baf47a42e192749f9deb920ff0
 ";
 
-// Runs commands over the pair, one after another: the words, what is printed, and the status. Tests
-// that no data sector of the backing device changes.
-fn test_commands<R: Abort + Wait>(
+// Whether the two images have the same bytes in each sector but the superblock's.
+fn same_data(left: &[u8], before: &[u8]) -> bool {
+    left.len() == before.len()
+        && 4608 <= left.len()
+        && left.get(..4096) == before.get(..4096)
+        && left.get(4608..) == before.get(4608..)
+}
+
+// Runs a command over the pair that the last one left: the words, what is printed, and the status.
+// Tests that no data sector of the backing device changes.
+fn test_command<R: Abort + Wait>(
     rt: &R,
     alloc: Global,
-    cache: MemDisk,
-    backing: MemDisk,
-    commands: &[(&str, &str, u8)],
-) -> Result<(), Fail> {
-    let opening = Vec::from_slice(alloc, backing.bytes())?;
-    let (mut cache, mut backing) = (cache, backing);
-    for (words, text, status) in commands {
-        let mut out = MemSink::new(alloc, 1000)?;
-        let ran = run(rt, alloc, words, "1 r 0 1\n", cache, backing, &mut out)?;
-        assert_eq!(rt; ran.status, *status);
-        assert_eq!(rt; out.bytes(), text.as_bytes());
-        assert!(rt; ran.pass.is_none());
-        cache = ran.cache;
-        backing = ran.backing;
-        let (left, before) = (backing.bytes(), opening.as_slice());
-        assert!(rt; left.len() == before.len() && 4608 <= left.len());
-        assert!(rt; left[..4096] == before[..4096] && left[4608..] == before[4608..]);
-    }
-    Ok(())
+    pair: Pair,
+    words: &str,
+    text: &str,
+    status: u8,
+) -> Result<Pair, Fail> {
+    let opening = Vec::from_slice(alloc, pair.backing.bytes())?;
+    let ran = test_run(rt, alloc, pair, words, text, status)?;
+    assert!(rt; ran.pass.is_none());
+    assert!(rt; same_data(ran.backing.bytes(), &opening));
+    Ok(ran)
 }
 
 #[test]
 fn a_pair_is_formatted(rt: HostRuntime) -> Result<(), Fail> {
     let alloc = rt.alloc();
-    test_commands(
-        &rt,
-        alloc,
-        device(alloc, CACHE_SECTORS, 0xca, &[])?,
-        device(alloc, BACKING_SECTORS, 0xba, &[])?,
-        &[
-            ("show", "superblock backing 1\n", 4),
-            ("adopt", "superblock backing 1\n", 4),
-            (FORMAT, "", 0),
-            ("show", SHOWN, 0),
-            ("adopt", "superblock cache 18\n", 4),
-            ("serve", "image 2\n", 5),
-            (FORMAT, "", 0),
-            ("format", "usage\n", 2),
-        ],
-    )
+    let no_backing = "superblock backing 1\n";
+    let ran = blank(alloc, CACHE_SECTORS, BACKING_SECTORS)?;
+    let ran = test_command(&rt, alloc, ran, "show", no_backing, 4)?;
+    let ran = test_command(&rt, alloc, ran, "adopt", no_backing, 4)?;
+    let ran = test_command(&rt, alloc, ran, FORMAT, "", 0)?;
+    let ran = test_command(&rt, alloc, ran, "show", SHOWN, 0)?;
+    let ran = test_command(&rt, alloc, ran, "adopt", "superblock cache 18\n", 4)?;
+    let ran = test_command(&rt, alloc, ran, "serve", "image 2\n", 5)?;
+    let ran = test_command(&rt, alloc, ran, FORMAT, "", 0)?;
+    test_command(&rt, alloc, ran, "format", "usage\n", 2)?;
+    Ok(())
 }
 
 #[test]
 fn a_pair_is_adopted(rt: HostRuntime) -> Result<(), Fail> {
     let alloc = rt.alloc();
-    test_commands(
-        &rt,
-        alloc,
-        device(alloc, CACHE_SECTORS, 0, &MADE_CACHE)?,
-        device(alloc, BACKING_SECTORS, 0, &MADE_BACKING)?,
-        &[
-            ("show", SHOWN_MADE, 0),
-            ("serve", "superblock cache 15\n", 4),
-            ("adopt", "", 0),
-            ("show", SHOWN_ADOPTED, 0),
-            ("adopt", "superblock cache 18\n", 4),
-            ("serve", "image 2\n", 5),
-        ],
-    )
+    let ran = made(alloc, BACKING_SECTORS)?;
+    let ran = test_command(&rt, alloc, ran, "show", SHOWN_MADE, 0)?;
+    let ran = test_command(&rt, alloc, ran, "serve", "superblock cache 15\n", 4)?;
+    let ran = test_command(&rt, alloc, ran, "adopt", "", 0)?;
+    let ran = test_command(&rt, alloc, ran, "show", SHOWN_ADOPTED, 0)?;
+    let ran = test_command(&rt, alloc, ran, "adopt", "superblock cache 18\n", 4)?;
+    test_command(&rt, alloc, ran, "serve", "image 2\n", 5)?;
+    Ok(())
+}
+
+// Formats devices of so many sectors, of which one is too small. Tests that no call is made.
+fn test_too_small<R: Abort + Wait>(
+    rt: &R,
+    alloc: Global,
+    cache: usize,
+    backing: usize,
+    text: &str,
+) -> Result<(), Fail>
+    requires { (8 ≤ cache) × (cache < 20000) × (8 ≤ backing) × (backing < 20000) }
+{
+    let pair = blank(alloc, cache, backing)?;
+    let ran = test_run(rt, alloc, pair, FORMAT, text, 4)?;
+    test_calls(rt, &ran, 0, 0);
+    Ok(())
 }
 
 #[test]
 fn devices_are_too_small(rt: HostRuntime) -> Result<(), Fail> {
     let alloc = rt.alloc();
-    for (cache, backing, text) in [
-        (8191usize, 4112usize, "superblock cache 7\n"),
-        (8191, 15, "superblock cache 7\n"),
-        (8192, 15, "superblock backing 9\n"),
-        (8192, 16, "superblock backing 14\n"),
-    ] {
-        let cache = device(alloc, cache, 0xca, &[])?;
-        let backing = device(alloc, backing, 0xba, &[])?;
-        let mut out = MemSink::new(alloc, 100)?;
-        let ran = run(&rt, alloc, FORMAT, "", cache, backing, &mut out)?;
-        assert_eq!(rt; ran.status, 4);
-        assert_eq!(rt; out.bytes(), text.as_bytes());
-        assert_eq!(rt; ran.cache.calls(), 0);
-        assert_eq!(rt; ran.backing.calls(), 0);
+    test_too_small(&rt, alloc, 8191, 4112, "superblock cache 7\n")?;
+    test_too_small(&rt, alloc, 8191, 15, "superblock cache 7\n")?;
+    test_too_small(&rt, alloc, 8192, 15, "superblock backing 9\n")?;
+    test_too_small(&rt, alloc, 8192, 16, "superblock backing 14\n")
+}
+
+// The device with one bit changed of the superblock's byte at this place. Among the bytes of the set's
+// uuid, the checksum is made right again.
+fn flip<R: Abort>(rt: &R, alloc: Global, device: &MemDisk, place: usize) -> Result<MemDisk, Fail>
+    requires { place < 512 }
+{
+    let mut bytes = Vec::from_slice(alloc, device.bytes())?;
+    assert!(rt; 4608 <= bytes.len());
+    bytes[4096 + place] ^= 4;
+    if place == 60 {
+        seal(&mut bytes);
     }
+    assert!(rt; bytes.len() % 512 == 0 && bytes.len() < 20000 * 512);
+    Ok(MemDisk::new(alloc, bytes, 0)?)
+}
+
+// A pair that was formatted, before a sink with no room.
+fn formatted<R: Abort + Wait>(rt: &R, alloc: Global) -> Result<Pair, Fail> {
+    let pair = blank(alloc, CACHE_SECTORS, BACKING_SECTORS)?;
+    let mut out = MemSink::new(alloc, 0)?;
+    let ran = run(rt, alloc, FORMAT, pair, &mut out)?;
+    test_end(rt, &ran, out.bytes(), &[], 0);
+    Ok(ran)
+}
+
+// Runs a command over a formatted pair with one bit changed of the cache device's superblock, which is
+// refused.
+fn test_cache<R: Abort + Wait>(
+    rt: &R,
+    alloc: Global,
+    place: usize,
+    words: &str,
+    text: &str,
+) -> Result<(), Fail>
+    requires { place < 512 }
+{
+    let mut pair = formatted(rt, alloc)?;
+    pair.cache = flip(rt, alloc, &pair.cache, place)?;
+    test_run(rt, alloc, pair, words, text, 4)?;
+    Ok(())
+}
+
+// The same of the backing device's.
+fn test_backing<R: Abort + Wait>(
+    rt: &R,
+    alloc: Global,
+    place: usize,
+    words: &str,
+    text: &str,
+) -> Result<(), Fail>
+    requires { place < 512 }
+{
+    let mut pair = formatted(rt, alloc)?;
+    pair.backing = flip(rt, alloc, &pair.backing, place)?;
+    test_run(rt, alloc, pair, words, text, 4)?;
     Ok(())
 }
 
 #[test]
 fn superblocks_with_a_fault(rt: HostRuntime) -> Result<(), Fail> {
     let alloc = rt.alloc();
-    // The byte that is changed, whether it is the cache's, and what `serve` and `show` print then. The
-    // bytes of the set's uuid get a checksum that is right again.
-    for (place, of_cache, served, shown) in [
-        (
-            24usize,
-            true,
-            "superblock cache 1\n",
-            "superblock cache 1\n",
-        ),
-        (
-            24,
-            false,
-            "superblock backing 1\n",
-            "superblock backing 1\n",
-        ),
-        (192, true, "superblock cache 2\n", "superblock cache 2\n"),
-        (
-            104,
-            false,
-            "superblock backing 2\n",
-            "superblock backing 2\n",
-        ),
-        (60, false, "superblock backing 17\n", ""),
-    ] {
-        let cache = device(alloc, CACHE_SECTORS, 0, &[])?;
-        let backing = device(alloc, BACKING_SECTORS, 0, &[])?;
-        let mut out = MemSink::new(alloc, 0)?;
-        let ran = run(&rt, alloc, FORMAT, "", cache, backing, &mut out)?;
-        assert_eq!(rt; ran.status, 0);
-        let mut cache = Vec::from_slice(alloc, ran.cache.bytes())?;
-        let mut backing = Vec::from_slice(alloc, ran.backing.bytes())?;
-        let changed = if of_cache { &mut cache } else { &mut backing };
-        assert!(rt; 4608 <= changed.len());
-        changed[4096 + place] ^= 4;
-        if place == 60 {
-            seal(changed);
-        }
-        for (words, text) in [("serve", served), ("show", shown)] {
-            if text.is_empty() {
-                continue;
-            }
-            let cache = MemDisk::new(alloc, Vec::from_slice(alloc, &cache)?, 0)?;
-            let backing = MemDisk::new(alloc, Vec::from_slice(alloc, &backing)?, 0)?;
-            let mut out = MemSink::new(alloc, 100)?;
-            let ran = run(&rt, alloc, words, "", cache, backing, &mut out)?;
-            assert_eq!(rt; ran.status, 4);
-            assert_eq!(rt; out.bytes(), text.as_bytes());
-        }
+    for words in ["serve", "show"] {
+        test_cache(&rt, alloc, 24, words, "superblock cache 1\n")?;
+        test_backing(&rt, alloc, 24, words, "superblock backing 1\n")?;
+        test_cache(&rt, alloc, 192, words, "superblock cache 2\n")?;
+        test_backing(&rt, alloc, 104, words, "superblock backing 2\n")?;
     }
+    test_backing(&rt, alloc, 60, "serve", "superblock backing 17\n")
+}
+
+// Tests that this crash leaves each sector but the superblock's as it was.
+fn test_crash<R: Abort>(rt: &R, backing: &MemDisk, opening: &[u8], pick: Pick) -> Result<(), Fail> {
+    let left = backing.crash(pick)?;
+    assert!(rt; same_data(left.bytes(), opening));
     Ok(())
 }
 
-// Whether a crash, whichever it is, leaves each sector but the superblock's as it was.
-fn keeps_data(backing: &MemDisk, opening: &[u8]) -> Result<bool, Fail> {
-    let mut keeps = true;
-    for pick in [
-        Pick::Stable,
-        Pick::Newest,
-        Pick::Mixed(1),
-        Pick::Mixed(2),
-        Pick::Mixed(3),
-    ] {
-        let left = backing.crash(pick)?;
-        let left = left.bytes();
-        if left.len() != opening.len() || left.len() < 4608 {
-            return Ok(false);
-        }
-        keeps = keeps && left[..4096] == opening[..4096] && left[4608..] == opening[4608..];
+// The same of each crash.
+fn test_crashes<R: Abort>(rt: &R, backing: &MemDisk, opening: &[u8]) -> Result<(), Fail> {
+    test_crash(rt, backing, opening, Pick::Stable)?;
+    test_crash(rt, backing, opening, Pick::Newest)?;
+    test_crash(rt, backing, opening, Pick::Mixed(1))?;
+    test_crash(rt, backing, opening, Pick::Mixed(2))?;
+    test_crash(rt, backing, opening, Pick::Mixed(3))
+}
+
+// The pair that make-bcache wrote, where these calls of the two devices fail, or none where the number
+// is 0.
+fn failing(alloc: Global, calls: (u64, u64)) -> Result<Pair, Fail> {
+    let mut pair = made(alloc, 32)?;
+    pair.cache.fail(calls.0)?;
+    pair.backing.fail(calls.1)?;
+    Ok(pair)
+}
+
+// Runs the command over such a pair. The backing device is written last.
+fn test_call<R: Abort + Wait>(
+    rt: &R,
+    alloc: Global,
+    words: &str,
+    calls: (u64, u64),
+    text: &str,
+    status: u8,
+) -> Result<Pair, Fail> {
+    let pair = failing(alloc, calls)?;
+    let opening = Vec::from_slice(alloc, pair.backing.bytes())?;
+    let ran = test_run(rt, alloc, pair, words, text, status)?;
+    test_crashes(rt, &ran.backing, &opening)?;
+    assert!(rt; calls.0 == 0 || ran.backing.bytes() == opening.as_slice());
+    Ok(ran)
+}
+
+// Runs the command that makes so many calls of each device, where each call fails in turn, and where
+// none does.
+fn test_faults<R: Abort + Wait>(
+    rt: &R,
+    alloc: Global,
+    words: &str,
+    cache_calls: u64,
+    backing_calls: u64,
+) -> Result<(), Fail>
+    requires { (cache_calls < 100) × (backing_calls < 100) }
+{
+    for call in 1..cache_calls + 1 {
+        test_call(rt, alloc, words, (call, 0), "fault cache\n", 6)?;
     }
-    Ok(keeps)
+    for call in 1..backing_calls + 1 {
+        test_call(rt, alloc, words, (0, call), "fault backing\n", 6)?;
+    }
+    let ran = test_call(rt, alloc, words, (0, 0), "", 0)?;
+    test_calls(rt, &ran, cache_calls, backing_calls);
+    Ok(())
 }
 
 #[test]
@@ -199,53 +251,26 @@ fn each_call_fails(rt: HostRuntime) -> Result<(), Fail> {
     let alloc = rt.alloc();
     // Formatting makes 8 calls for the journal, one for the table, a barrier and four for the
     // superblock of the cache device, and two of the backing device. Adopting reads both first.
-    for (words, cache_calls, backing_calls) in [(FORMAT, 14u64, 2u64), ("adopt", 15, 3)] {
-        for call in 1..cache_calls + backing_calls + 2 {
-            let of_cache = call <= cache_calls;
-            let mut cache = device(alloc, CACHE_SECTORS, 0, &MADE_CACHE)?;
-            let mut backing = device(alloc, 32, 0, &MADE_BACKING)?;
-            let opening = Vec::from_slice(alloc, backing.bytes())?;
-            if of_cache {
-                cache.fail(call)?;
-            } else {
-                backing.fail(call - cache_calls)?;
-            }
-            let done = call > cache_calls + backing_calls;
-            let text = if done {
-                ""
-            } else if of_cache {
-                "fault cache\n"
-            } else {
-                "fault backing\n"
-            };
-            let mut out = MemSink::new(alloc, 100)?;
-            let ran = run(&rt, alloc, words, "", cache, backing, &mut out)?;
-            assert_eq!(rt; ran.status, if done { 0 } else { 6 });
-            assert_eq!(rt; out.bytes(), text.as_bytes());
-            assert!(rt; keeps_data(&ran.backing, &opening)?);
-            // The backing device is written last.
-            assert!(rt; !of_cache || ran.backing.bytes() == opening.as_slice());
-            if done {
-                assert_eq!(rt; ran.cache.calls(), cache_calls);
-                assert_eq!(rt; ran.backing.calls(), backing_calls);
-            }
-        }
-    }
+    test_faults(&rt, alloc, FORMAT, 14, 2)?;
+    test_faults(&rt, alloc, "adopt", 15, 3)
+}
+
+// Shows the pair that make-bcache wrote to a sink with so much room.
+fn test_room<R: Abort + Wait>(rt: &R, alloc: Global, room: usize, status: u8) -> Result<(), Fail> {
+    let pair = made(alloc, BACKING_SECTORS)?;
+    let mut out = MemSink::new(alloc, room)?;
+    let ran = run(rt, alloc, "show", pair, &mut out)?;
+    let text = SHOWN_MADE.as_bytes();
+    assert!(rt; room <= text.len());
+    test_end(rt, &ran, out.bytes(), &text[..room], status);
+    test_calls(rt, &ran, 1, 1);
     Ok(())
 }
 
 #[test]
 fn shown_to_a_sink_that_is_full(rt: HostRuntime) -> Result<(), Fail> {
     let alloc = rt.alloc();
-    for (room, status) in [(0, 8), (100, 8), (SHOWN_MADE.len(), 0)] {
-        let cache = device(alloc, CACHE_SECTORS, 0, &MADE_CACHE)?;
-        let backing = device(alloc, BACKING_SECTORS, 0, &MADE_BACKING)?;
-        let mut out = MemSink::new(alloc, room)?;
-        let ran = run(&rt, alloc, "show", "", cache, backing, &mut out)?;
-        assert_eq!(rt; ran.status, status);
-        assert_eq!(rt; out.bytes(), &SHOWN_MADE.as_bytes()[..room]);
-        assert_eq!(rt; ran.cache.calls(), 1);
-        assert_eq!(rt; ran.backing.calls(), 1);
-    }
-    Ok(())
+    test_room(&rt, alloc, 0, 8)?;
+    test_room(&rt, alloc, 100, 8)?;
+    test_room(&rt, alloc, SHOWN_MADE.len(), 0)
 }

@@ -1,149 +1,141 @@
 //! The worked rows: what is printed, and the status.
-use crate::serving::{NO_CACHE, image, seal, serve};
+ghost use Rattle.std.specs.Prelude.{◌≡◌, ◌*◌, ◌<◌, length};
+
+use crate::serving::{image, seal, test_calls, test_serve};
 use bc_bytes::put_u64;
 use bc_disk::mem_disk::MemDisk;
-use bc_disk::mem_sink::MemSink;
-use bc_disk::mem_source::MemSource;
-use std::alloc::{AllocError, Global};
+use std::alloc::Global;
+use std::process::Abort;
+use std::sync::Wait;
 use std::test::Fail;
 
-// The trace as a source.
-fn source(alloc: Global, trace: &str) -> Result<MemSource, AllocError> {
-    Ok(MemSource::new(alloc, Vec::from_slice(alloc, trace.as_bytes())?))
+// Serves the trace over this image, by this word: what is printed, and the status.
+fn test_image<R: Abort + Wait>(
+    rt: &R,
+    alloc: Global,
+    bytes: Vec<u8>,
+    words: (&str, &str),
+    text: &str,
+    status: u8,
+) -> Result<(), Fail>
+    requires { length bytes.items ≡ 512 * 80 }
+{
+    let backing = MemDisk::new(alloc, bytes, 80)?;
+    test_serve(rt, alloc, words, backing, text, status)?;
+    Ok(())
+}
+
+// The same over a device of 64 data sectors of zeros that asks for no cache.
+fn test_row<R: Abort + Wait>(
+    rt: &R,
+    alloc: Global,
+    word: &str,
+    trace: &str,
+    text: &str,
+    status: u8,
+) -> Result<(), Fail> {
+    let bytes = image(alloc, 80, false)?;
+    test_image(rt, alloc, bytes, (word, trace), text, status)
 }
 
 #[test]
 fn printed(rt: HostRuntime) -> Result<(), Fail> {
     let alloc = rt.alloc();
-    let rows: [(u64, &str, &str, &str, u8); 9] = [
-        (
-            3,
-            "serve",
-            "1 w 0 8 7\n1 r 0 10\n1 f\n",
-            "done\n7x8 zerox2\ndone\n",
-            0,
-        ),
-        (1, "serve", "1 r 0 1\n", "superblock cache 9\n", 4),
-        (3, "serve", "1 w 0 8 7\n1 r 0 8", "done\n7x8\n", 0),
-        (3, "serve", "", "", 0),
-        (
-            3,
-            "serve",
-            "1 r 63 1\n1 r 64 1\n1 r 63 2\n",
-            "zerox1\nout-of-range\nout-of-range\n",
-            0,
-        ),
-        (
-            3,
-            "serve",
-            "1 w 1 2 7\n1 r 0 4\n",
-            "done\nzerox1 7x2 zerox1\n",
-            0,
-        ),
-        (
-            3,
-            "serve",
-            "1 w 0 4 7\n1 w 2 1 8\n1 r 0 5\n",
-            "done\ndone\n7x2 8x1 7x1 zerox1\n",
-            0,
-        ),
-        (3, "fly", "1 r 0 1\n", "usage\n", 2),
-        (3, "serve", "1 f\n1 x\n", "trace 2 2\n", 3),
-    ];
-    for (mode, word, trace, text, status) in rows {
-        let backing = MemDisk::new(alloc, image(alloc, 80, mode)?, 80)?;
-        let mut out = MemSink::new(alloc, 100)?;
-        let ran = serve(&rt, alloc, word, source(alloc, trace)?, backing, &mut out)?;
-        assert_eq!(rt; ran.status, status);
-        assert_eq!(rt; out.bytes(), text.as_bytes());
-    }
-    Ok(())
+    let trace = "1 w 0 8 7\n1 r 0 10\n1 f\n";
+    let text = "done\n7x8 zerox2\ndone\n";
+    test_row(&rt, alloc, "serve", trace, text, 0)?;
+    let bytes = image(alloc, 80, true)?;
+    let text = "superblock cache 9\n";
+    test_image(&rt, alloc, bytes, ("serve", "1 r 0 1\n"), text, 4)?;
+    let trace = "1 w 0 8 7\n1 r 0 8";
+    test_row(&rt, alloc, "serve", trace, "done\n7x8\n", 0)?;
+    test_row(&rt, alloc, "serve", "", "", 0)?;
+    let trace = "1 r 63 1\n1 r 64 1\n1 r 63 2\n";
+    let text = "zerox1\nout-of-range\nout-of-range\n";
+    test_row(&rt, alloc, "serve", trace, text, 0)?;
+    let trace = "1 w 1 2 7\n1 r 0 4\n";
+    let text = "done\nzerox1 7x2 zerox1\n";
+    test_row(&rt, alloc, "serve", trace, text, 0)?;
+    let trace = "1 w 0 4 7\n1 w 2 1 8\n1 r 0 5\n";
+    let text = "done\ndone\n7x2 8x1 7x1 zerox1\n";
+    test_row(&rt, alloc, "serve", trace, text, 0)?;
+    test_row(&rt, alloc, "fly", "1 r 0 1\n", "usage\n", 2)?;
+    test_row(&rt, alloc, "serve", "1 f\n1 x\n", "trace 2 2\n", 3)
+}
+
+// Serves over a superblock of version 4, at whose place of the data offset this number stands.
+fn test_offset<R: Abort + Wait>(
+    rt: &R,
+    alloc: Global,
+    offset: u64,
+    text: &str,
+    status: u8,
+) -> Result<(), Fail> {
+    let mut bytes = image(alloc, 80, false)?;
+    put_u64(&mut bytes, 4112, 4);
+    put_u64(&mut bytes, 4280, offset);
+    seal(&mut bytes);
+    let trace = "1 w 0 2 7\n1 r 0 3\n1 r 55 2\n";
+    test_image(rt, alloc, bytes, ("serve", trace), text, status)
 }
 
 #[test]
 fn data_begins_where_the_superblock_says(rt: HostRuntime) -> Result<(), Fail> {
     let alloc = rt.alloc();
-    // What stands at the place of the data offset, for version 4.
-    let rows: [(u64, &str, u8); 5] = [
-        (0, "superblock backing 14\n", 4),
-        (15, "superblock backing 14\n", 4),
-        (24, "done\n7x2 zerox1\nout-of-range\n", 0),
-        (79, "out-of-range\nout-of-range\nout-of-range\n", 0),
-        (80, "superblock backing 14\n", 4),
-    ];
-    for (offset, text, status) in rows {
-        let mut bytes = image(alloc, 80, NO_CACHE)?;
-        put_u64(&mut bytes, 4112, 4);
-        put_u64(&mut bytes, 4280, offset);
-        seal(&mut bytes);
-        let backing = MemDisk::new(alloc, bytes, 80)?;
-        let mut out = MemSink::new(alloc, 100)?;
-        let trace = source(alloc, "1 w 0 2 7\n1 r 0 3\n1 r 55 2\n")?;
-        let ran = serve(&rt, alloc, "serve", trace, backing, &mut out)?;
-        assert_eq!(rt; ran.status, status);
-        assert_eq!(rt; out.bytes(), text.as_bytes());
-    }
-    Ok(())
+    let refused = "superblock backing 14\n";
+    test_offset(&rt, alloc, 0, refused, 4)?;
+    test_offset(&rt, alloc, 15, refused, 4)?;
+    test_offset(&rt, alloc, 24, "done\n7x2 zerox1\nout-of-range\n", 0)?;
+    let outside = "out-of-range\nout-of-range\nout-of-range\n";
+    test_offset(&rt, alloc, 79, outside, 0)?;
+    test_offset(&rt, alloc, 80, refused, 4)
+}
+
+// Serves over a superblock with one bit changed of the byte at this place, and the fault of it.
+fn test_flipped<R: Abort + Wait>(
+    rt: &R,
+    alloc: Global,
+    place: usize,
+    text: &str,
+) -> Result<(), Fail>
+    requires { place < 512 }
+{
+    let mut bytes = image(alloc, 80, false)?;
+    bytes[4096 + place] ^= 2;
+    test_image(rt, alloc, bytes, ("serve", "1 f\n"), text, 4)
 }
 
 #[test]
 fn a_flipped_bit_is_refused(rt: HostRuntime) -> Result<(), Fail> {
     let alloc = rt.alloc();
-    // The byte of the superblock's sector, and the fault of it.
-    for (byte, text) in [
-        (0usize, "superblock backing 2\n"),
-        (8, "superblock backing 4\n"),
-        (16, "superblock backing 2\n"),
-        (24, "superblock backing 1\n"),
-        (39, "superblock backing 1\n"),
-        (104, "superblock backing 2\n"),
-        (207, "superblock backing 13\n"),
-    ] {
-        let mut bytes = image(alloc, 80, NO_CACHE)?;
-        bytes[4096 + byte] ^= 2;
-        let backing = MemDisk::new(alloc, bytes, 80)?;
-        let mut out = MemSink::new(alloc, 100)?;
-        let ran = serve(
-            &rt,
-            alloc,
-            "serve",
-            source(alloc, "1 f\n")?,
-            backing,
-            &mut out,
-        )?;
-        assert_eq!(rt; ran.status, 4);
-        assert_eq!(rt; out.bytes(), text.as_bytes());
-    }
-    Ok(())
+    test_flipped(&rt, alloc, 0, "superblock backing 2\n")?;
+    test_flipped(&rt, alloc, 8, "superblock backing 4\n")?;
+    test_flipped(&rt, alloc, 16, "superblock backing 2\n")?;
+    test_flipped(&rt, alloc, 24, "superblock backing 1\n")?;
+    test_flipped(&rt, alloc, 39, "superblock backing 1\n")?;
+    test_flipped(&rt, alloc, 104, "superblock backing 2\n")?;
+    test_flipped(&rt, alloc, 207, "superblock backing 13\n")
 }
 
 #[test]
 fn nine_pieces(rt: HostRuntime) -> Result<(), Fail> {
     let alloc = rt.alloc();
-    let backing = MemDisk::new(alloc, image(alloc, 2400, NO_CACHE)?, 2400)?;
-    let mut out = MemSink::new(alloc, 100)?;
-    let trace = source(alloc, "1 w 255 2048 5\n1 r 254 2048\n1 r 2302 2\n")?;
-    let ran = serve(&rt, alloc, "serve", trace, backing, &mut out)?;
-    assert_eq!(rt; ran.status, 0);
-    assert_eq!(rt; out.bytes(), "done\nzerox1 5x2047\n5x1 zerox1\n".as_bytes());
+    let backing = MemDisk::new(alloc, image(alloc, 2400, false)?, 2400)?;
+    let trace = "1 w 255 2048 5\n1 r 254 2048\n1 r 2302 2\n";
+    let text = "done\nzerox1 5x2047\n5x1 zerox1\n";
+    let ran = test_serve(&rt, alloc, ("serve", trace), backing, text, 0)?;
     // A barrier, the superblock, nine pieces twice, one, and the last barrier.
-    assert_eq!(rt; ran.backing.calls(), 22);
-    assert_eq!(rt; ran.cache.calls(), 0);
+    test_calls(&rt, &ran, 0, 22);
     Ok(())
 }
 
 #[test]
 fn a_failed_barrier_halts(rt: HostRuntime) -> Result<(), Fail> {
     let alloc = rt.alloc();
-    let mut backing = MemDisk::new(alloc, image(alloc, 80, NO_CACHE)?, 80)?;
+    let mut backing = MemDisk::new(alloc, image(alloc, 80, false)?, 80)?;
     backing.fail(4)?;
-    let mut out = MemSink::new(alloc, 100)?;
-    let trace = source(alloc, "1 w 0 1 1\n1 f\n1 r 0 1\n")?;
-    let ran = serve(&rt, alloc, "serve", trace, backing, &mut out)?;
-    assert_eq!(rt; ran.status, 6);
-    assert_eq!(rt;
-        out.bytes(),
-        "done\nfault backing\nhalted backing\n".as_bytes()
-    );
+    let trace = "1 w 0 1 1\n1 f\n1 r 0 1\n";
+    let text = "done\nfault backing\nhalted backing\n";
+    test_serve(&rt, alloc, ("serve", trace), backing, text, 6)?;
     Ok(())
 }
