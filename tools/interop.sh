@@ -25,7 +25,7 @@ expect() {
     differing=$((differing + 1))
 }
 
-# command STATUS PRINTED WORD.. runs a command over the pair.
+# command_is STATUS PRINTED WORD.. runs a command over the pair.
 command_is() {
     local status=$1 wanted=$2 ended=0
     shift 2

@@ -5,13 +5,15 @@ use Rattle.std.proofs.lemmas.Bool.{cases_lt}
 use Rattle.bc_disk.proofs.Cases.{next_count_rises}
 use Rattle.bc_disk.specs.Device.{HasRisen, next_count}
 use Rattle.bc_disk.specs.Disk.{DiskFacts, IsCounted}
+use Rattle.bc_disk.specs.declared.disk.Device.{Device}
 use Rattle.bc_disk.specs.declared.disk.Device.TheVariants as device
 use Rattle.bc_super.specs.Reading.{IsCacheCause, IsCause, ReadsSuper, call_of}
 use Rattle.bc_super.specs.declared.backing.BackingSuper.{BackingSuper}
 use Rattle.bc_super.specs.declared.error.SuperError.{SuperError}
 use Rattle.bc_super.specs.declared.error.SuperError.TheVariants as super
-use Rattle.bc_pair.specs.Causes.{FaultRose, IsShowCause}
+use Rattle.bc_pair.specs.Causes.{BackingFirst, FaultRose, IsShowCause}
 use Rattle.bc_pair.specs.Steps.{refusal}
+use Rattle.bc_pair.specs.declared.error.PairError.TheVariants as errors
 
 -- how often a call that was refused failed: once where the device failed, and else never
 abbrev pub Failures : SuperError → DiskFacts → DiskFacts → Type 0
@@ -46,3 +48,16 @@ cache_rose why old new backing backing' same failed = (failed, same)
 pub cache_cause : (why : SuperError) (cache backing : DiskFacts) (b : BackingSuper) → ReadsSuper backing b → IsCacheCause cache why → IsShowCause (refusal device.Cache why) cache backing
 cache_cause super.Fault cache backing b reads cause = tt
 cache_cause why cache backing b reads cause = ((b, reads), (λ e. cc), cause)
+
+-- the superblock of the backing device was read first
+pub backing_first : {C : Type 0} (why : SuperError) (cache : C) (backing : DiskFacts) → BackingFirst (refusal device.Backing why) cache cache backing
+backing_first super.Fault cache backing = tt
+backing_first why cache backing = refl
+
+pub cache_behind : {C : Type 0} (why : SuperError) (cache cache' : C) (backing : DiskFacts) (b : BackingSuper) → ReadsSuper backing b → BackingFirst (refusal device.Cache why) cache cache' backing
+cache_behind super.Fault cache cache' backing b reads = (b, reads)
+cache_behind why cache cache' backing b reads = tt
+
+pub writing_behind : {C : Type 0} (d : Device) (cache cache' : C) (backing : DiskFacts) (b : BackingSuper) → ReadsSuper backing b → BackingFirst (errors.Fault d) cache cache' backing
+writing_behind device.Cache cache cache' backing b reads = (b, reads)
+writing_behind device.Backing cache cache' backing b reads = tt

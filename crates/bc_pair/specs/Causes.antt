@@ -108,6 +108,15 @@ AdoptLeaves cache_facts backing_facts (errors.Fault d) cache cache' backing back
 AdoptLeaves cache_facts backing_facts (errors.Superblock d why) cache cache' backing backing' = AreKept (cache_facts cache) (cache_facts cache') (backing_facts backing) (backing_facts backing')
 AdoptLeaves cache_facts backing_facts errors.Memory cache cache' backing backing' = AreKept (cache_facts cache) (cache_facts cache') (backing_facts backing) (backing_facts backing')
 
+-- The superblock of the backing device is read first: where it is refused the cache device wasn't called, and where a call of the
+-- cache device failed it had been read.
+abbrev pub BackingFirst : {C : Type 0} → PairError → C → C → DiskFacts → Type 0
+BackingFirst (errors.Superblock device.Backing why) cache cache' backing = cache' ≡ cache
+BackingFirst (errors.Superblock device.Cache why) cache cache' backing = Unit {0}
+BackingFirst (errors.Fault device.Cache) cache cache' backing = (b : BackingSuper) × ReadsSuper backing b
+BackingFirst (errors.Fault device.Backing) cache cache' backing = Unit {0}
+BackingFirst errors.Memory cache cache' backing = Unit {0}
+
 -- ---- show
 
 -- want of memory is free

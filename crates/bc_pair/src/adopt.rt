@@ -3,7 +3,7 @@ ghost use Rattle.std.specs.Prelude.{◌≡◌, ◌↔◌, ◌*◌, ◌%◌, ◌�
 ghost use Rattle.bc_super.specs.Cache.{IsBlock, IsBucket, most_buckets};
 ghost use Rattle.bc_super.specs.Layout.{IsLaidOut};
 ghost use Rattle.bc_super.specs.Super.{state_number};
-ghost use Rattle.bc_pair.specs.Causes.{AdoptLeaves, Adopts, FaultRose, IsAdoptCause, KeepsOthers};
+ghost use Rattle.bc_pair.specs.Causes.{AdoptLeaves, Adopts, BackingFirst, FaultRose, IsAdoptCause, KeepsOthers};
 ghost use Rattle.bc_pair.specs.Found.{FindsAdopted};
 ghost use Rattle.bc_pair.specs.Made.{IsUnused, adopted_backing, adopted_cache};
 
@@ -86,6 +86,7 @@ pub fn adopt<C: Disk, B: Disk>(
     ensures written { OnOk result (Adopts C.facts B.facts (Ok tt) cache.old cache.new backing.old backing.new) }
     ensures found { OnOk result (FindsAdopted (C.facts cache.old) (C.facts cache.new) (B.facts backing.old) (B.facts backing.new)) }
     ensures cause { IfErr result (λ e. IsAdoptCause e (C.facts cache.old) (B.facts backing.old)) }
+    ensures order { IfErr result (λ e. BackingFirst e cache.old cache.new (B.facts backing.old)) }
     ensures leaves { IfErr result (λ e. AdoptLeaves C.facts B.facts e cache.old cache.new backing.old backing.new) }
     ensures data { KeepsOthers (B.facts backing.old) (B.facts backing.new) }
     ensures faults { IfErr result (λ e. FaultRose e (C.facts cache.old) (C.facts cache.new) (B.facts backing.old) (B.facts backing.new)) }

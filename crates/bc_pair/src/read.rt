@@ -2,7 +2,7 @@
 ghost use Rattle.std.specs.Prelude.{◌≡◌, IfOk, IfErr, OnOk};
 ghost use Rattle.bc_disk.specs.Disk.{IsCounted};
 ghost use Rattle.bc_super.specs.Reading.{ReadsCache, ReadsSuper};
-ghost use Rattle.bc_pair.specs.Causes.{AreKept, FaultRose, IsShowCause, good};
+ghost use Rattle.bc_pair.specs.Causes.{AreKept, BackingFirst, FaultRose, IsShowCause, good};
 ghost use Rattle.bc_pair.specs.Steps.{refusal};
 
 use crate::error::PairError;
@@ -30,6 +30,7 @@ pub(crate) fn read_pair<C: Disk, B: Disk>(
     ensures cache { IfOk result (λ both. ReadsCache (C.facts cache.old) both.0) }
     ensures backing { IfOk result (λ both. ReadsSuper (B.facts backing.old) both.1) }
     ensures cause { IfErr result (λ e. IsShowCause e (C.facts cache.old) (B.facts backing.old)) }
+    ensures order { IfErr result (λ e. BackingFirst e cache.old cache.new (B.facts backing.old)) }
     ensures kept { AreKept (C.facts cache.old) (C.facts cache.new) (B.facts backing.old) (B.facts backing.new) }
     ensures counted { OnOk result (IsCounted good (C.facts cache.old) (C.facts cache.new) × IsCounted good (B.facts backing.old) (B.facts backing.new)) }
     ensures faults { IfErr result (λ e. FaultRose e (C.facts cache.old) (C.facts cache.new) (B.facts backing.old) (B.facts backing.new)) }

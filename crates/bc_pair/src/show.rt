@@ -5,7 +5,7 @@ ghost use Rattle.bc_super.specs.Show.{IsShown};
 ghost use Rattle.bc_super.specs.Reading.{ReadsSuper, ReadsCache};
 ghost use Rattle.bc_super.specs.declared.backing.BackingSuper.{BackingSuper};
 ghost use Rattle.bc_super.specs.declared.cache.CacheSuper.{CacheSuper};
-ghost use Rattle.bc_pair.specs.Causes.{AreKept, FaultRose, IsShowCause, good};
+ghost use Rattle.bc_pair.specs.Causes.{AreKept, BackingFirst, FaultRose, IsShowCause, good};
 ghost use Rattle.bc_super.specs.Super.{data_sectors};
 
 use crate::error::PairError;
@@ -31,6 +31,7 @@ pub fn show_pair<C: Disk, B: Disk>(
     ensures shown { IfOk result (λ text. (b : BackingSuper) × ReadsSuper (B.facts backing.old) b × ((c : CacheSuper) × ReadsCache (C.facts cache.old) c
         × IsShown c b (data_sectors (B.facts backing.old).sectors b) (string_bytes text))) }
     ensures cause { IfErr result (λ e. IsShowCause e (C.facts cache.old) (B.facts backing.old)) }
+    ensures order { IfErr result (λ e. BackingFirst e cache.old cache.new (B.facts backing.old)) }
     ensures kept { AreKept (C.facts cache.old) (C.facts cache.new) (B.facts backing.old) (B.facts backing.new) }
     ensures counted { OnOk result (IsCounted good (C.facts cache.old) (C.facts cache.new) × IsCounted good (B.facts backing.old) (B.facts backing.new)) }
     ensures faults { IfErr result (λ e. FaultRose e (C.facts cache.old) (C.facts cache.new) (B.facts backing.old) (B.facts backing.new)) }

@@ -69,17 +69,17 @@ module _ (cache cache' old new : DiskFacts) (asks : AsksForNone old) (same : IsS
 
   not_opened : (error : OpenError) → (HasRisen old.faults new.faults → ⊥) → IsOpenCause error cache cache' old new → ⊥
   not_opened error still (inr cause) = asks_the_same cause.0 cause.1.reads cause.2
-  not_opened (opening.Fault device.Backing) still (inl rose) = still rose
-  not_opened (opening.Fault device.Cache) still (inl never) = never
-  not_opened (opening.Superblock device.Backing number) still (inl cause) = not_cause cause.0 cause.2 cause.3
-  not_opened (opening.Superblock device.Cache number) still (inl never) = never
-  not_opened (opening.Image why) still (inl never) = never
+  not_opened (opening.Fault device.Backing) still (inl rose) = still rose.0
+  not_opened (opening.Fault device.Cache) still (inl never) = never.0
+  not_opened (opening.Superblock device.Backing number) still (inl cause) = let why = cause.0 in not_cause why.0 why.2 why.3
+  not_opened (opening.Superblock device.Cache number) still (inl never) = never.0
+  not_opened (opening.Image why) still (inl never) = never.0
 
   -- with such a device and a source that spells a trace only want of memory is left
   pub only_memory : (source left : StreamFacts) (why : Stop) → SpellsTrace source → (HasRisen source.faults left.faults → ⊥) → (HasRisen old.faults new.faults → ⊥)
       → IsServeCause why source left cache cache' old new → status_of why ≡ 9
   only_memory source left stop.Usage spells quiet still cause = absurd cause
-  only_memory source left (stop.Trace e) spells quiet still cause = absurd (by source.text left.text spells.1 cause.0)
+  only_memory source left (stop.Trace e) spells quiet still cause = absurd (by source.text left.text spells.1 cause.0.0)
     where
       by : (a b : Option (List ℕ)) → a ≡ Some spells.0 → BothToldText (λ text left. IsFirstRefused text e × IsTaken (81 * e.line + 4095) text left) a b → ⊥
       by None b is both = absurd (cc)
@@ -87,8 +87,8 @@ module _ (cache cache' old new : DiskFacts) (asks : AsksForNone old) (same : IsS
       by (Some text) (Some rest) is both =
           let is_text : text ≡ spells.0 = cc in
           read_or_refused spells.0 spells.2.0 e spells.2.1 spells.2.2.few (subst (λ (t : List ℕ). IsFirstRefused t e) is_text both.0)
-  only_memory source left stop.Source spells quiet still cause = absurd (quiet cause)
-  only_memory source left (stop.Superblock d number) spells quiet still cause = absurd (not_opened (opening.Superblock d number) still cause)
-  only_memory source left (stop.Image why) spells quiet still cause = absurd (not_opened (opening.Image why) still cause)
-  only_memory source left (stop.Fault d) spells quiet still cause = absurd (not_opened (opening.Fault d) still cause)
+  only_memory source left stop.Source spells quiet still cause = absurd (quiet cause.0)
+  only_memory source left (stop.Superblock d number) spells quiet still cause = absurd (not_opened (opening.Superblock d number) still cause.1)
+  only_memory source left (stop.Image why) spells quiet still cause = absurd (not_opened (opening.Image why) still cause.1)
+  only_memory source left (stop.Fault d) spells quiet still cause = absurd (not_opened (opening.Fault d) still cause.1)
   only_memory source left stop.Memory spells quiet still cause = refl

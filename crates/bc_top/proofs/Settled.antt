@@ -1,5 +1,5 @@
 -- What a barrier and a read behind it leave of a device, and what a fault of its superblock says.
-use Rattle.std.proofs.Common.{◌≡◌, inl, inr, ℕ, ◌<◌, ◌≤◌, Option, Some, None, refl, sym, ap, ◌∙◌, subst}
+use Rattle.std.proofs.Common.{◌≡◌, ◌≢◌, inl, inr, ℕ, ◌<◌, ◌≤◌, Option, Some, None, refl, sym, ap, ◌∙◌, subst}
 use Rattle.std.specs.Prelude.{Ok, Err, option_map}
 use Rattle.bc_model.specs.Sector.{Image}
 use Rattle.bc_disk.specs.Device.{HasRisen, next_count, quiet}
@@ -17,11 +17,19 @@ use Rattle.std.proofs.lemmas.Bool.{cases_lt}
 use Rattle.bc_top.specs.Opened.{IsBackingCause, IsJudged, IsOpenCause, IsOpened, IsPairCause, IsSameDevice, IsToldAs, LeavesLess, SameImage}
 use Rattle.bc_disk.specs.Stream.{StreamFacts}
 use Rattle.bc_top.specs.Stops.{stop_of}
-use Rattle.bc_top.specs.Top.{IsServeCause}
+use Rattle.bc_top.specs.Top.{IsServeCause, WasRead}
 use Rattle.bc_top.specs.declared.opening.OpenError.{OpenError}
 use Rattle.bc_top.specs.declared.opening.OpenError.TheVariants as errors
 use Rattle.bc_top.specs.declared.stop.Stop.{Stop}
 use Rattle.bc_top.proofs.Raising.{next_rises}
+
+at_least : (sectors : ℕ) → (sectors < 16 → ⊥) → 16 ≤ sectors
+at_least sectors never = elim (cases_lt sectors 16) [ inl few ↦ absurd (never few) | inr many ↦ many ]
+
+-- a refusal that isn't a fault is no failed call
+quiet_call : (T : Type 0) (e : SuperError) (b c : DiskFacts) → e ≢ fault.Fault → IsCounted (call_of {T = T} (Err e)) b c → c.faults ≡ b.faults
+quiet_call T fault.Fault b c other counted = absurd (other refl)
+quiet_call T e b c other counted = counted.1
 
 pub both_same : (a b c : Option Image) → BothTold SameImage a b → BothTold SameImage b c → BothTold SameImage a c
 both_same None None None first second = tt
@@ -54,20 +62,22 @@ module _ (a b c : DiskFacts) where
       by None (Some held) leaves both = absurd both
       by (Some before) (Some held) leaves both = ((λ s. inl refl), (λ image can s. inl (leaves image ((kept.leaves image).0 can) s ∙ sym (both s))))
 
-  pub judged : (s : BackingSuper) (t : CacheSuper) (error : OpenError) → IsKept b c → ReadsCache b t → IsJudged error s t → IsPairCause error s a c
-  judged s t error kept reads is = inr (inr (t, reads_cache_after b c kept.sectors kept.holds t reads, is))
+  pub judged : (s : BackingSuper) (t : CacheSuper) (error : OpenError) → IsCounted {E = Failed} (Ok tt) a b → IsKept b c → (16 ≤ b.sectors → IsCounted (call_of {T = CacheSuper} (Ok t)) b c) → (b.sectors < 16 → ⊥) → ReadsCache b t → IsJudged error s t → IsPairCause error s a c
+  judged s t error good kept counted large reads is =
+      let count = counted (at_least b.sectors large) in
+      inr (inr (t, reads_cache_after b c kept.sectors kept.holds t reads, is, count.0 ∙ ap (λ n. next_count n) good.0, count.1 ∙ good.1))
 
   -- where a read failed behind a barrier, the count rose
   pub rose : (b.faults ≡ a.faults) → (c.faults ≡ next_count b.faults) → HasRisen a.faults c.faults
   rose quiet next = subst (HasRisen a.faults) (ap (λ n. next_count n) (sym quiet) ∙ sym next) (next_rises a.faults)
 
-  pub backing_told : (e : SuperError) (error : OpenError) → IsToldAs device.Backing e error → IsCause c e → (e ≡ fault.Fault → HasRisen a.faults c.faults) → IsBackingCause error a c
-  backing_told e error (inl is) cause rises = subst (λ (x : OpenError). IsBackingCause x a c) (sym is.1) (rises is.0)
-  backing_told e error (inr is) cause rises = subst (λ (x : OpenError). IsBackingCause x a c) (sym is.1) (e, refl, is.0, cause)
+  pub backing_told : (e : SuperError) (error : OpenError) → IsToldAs device.Backing e error → IsCause c e → (e ≡ fault.Fault → HasRisen a.faults c.faults) → (e ≢ fault.Fault → c.faults ≡ a.faults) → IsBackingCause error a c
+  backing_told e error (inl is) cause rises still = subst (λ (x : OpenError). IsBackingCause x a c) (sym is.1) (rises is.0)
+  backing_told e error (inr is) cause rises still = subst (λ (x : OpenError). IsBackingCause x a c) (sym is.1) (e, refl, is.0, cause, still is.0)
 
-  pub cache_told : (s : BackingSuper) (e : SuperError) (error : OpenError) → IsToldAs device.Cache e error → IsCacheCause c e → (e ≡ fault.Fault → HasRisen a.faults c.faults) → IsPairCause error s a c
-  cache_told s e error (inl is) cause rises = inl (is.1, rises is.0)
-  cache_told s e error (inr is) cause rises = inr (inl (e, is.1, is.0, cause))
+  pub cache_told : (s : BackingSuper) (e : SuperError) (error : OpenError) → IsToldAs device.Cache e error → IsCacheCause c e → (e ≡ fault.Fault → HasRisen a.faults c.faults) → (e ≢ fault.Fault → c.faults ≡ a.faults) → IsPairCause error s a c
+  cache_told s e error (inl is) cause rises still = inl (is.1, rises is.0)
+  cache_told s e error (inr is) cause rises still = inr (inl (e, is.1, is.0, cause, still is.0))
 
   -- what the counts say of a fault that was answered
   pub fault_rises : (T : Type 0) (e : SuperError) → IsCounted {E = Failed} (Ok tt) a b → IsCounted (call_of {T = T} (Err e)) b c → e ≡ fault.Fault → HasRisen a.faults c.faults
@@ -78,21 +88,21 @@ module _ (a b c : DiskFacts) where
   opened s settled good kept counted large reads = record {
     sectors = kept.sectors ∙ settled.sectors;
     holds = both_same a.holds b.holds c.holds settled.holds kept.holds;
-    faults = (counted (at_least large)).1 ∙ good.1;
+    calls = (counted (at_least b.sectors large)).0 ∙ ap (λ n. next_count n) good.0;
+    faults = (counted (at_least b.sectors large)).1 ∙ good.1;
     reads = reads_after b c kept.sectors kept.holds s reads;
   }
-    where
-      at_least : (b.sectors < 16 → ⊥) → 16 ≤ b.sectors
-      at_least never = elim (cases_lt b.sectors 16) [ inl few ↦ absurd (never few) | inr many ↦ many ]
 
   -- or it was read and refused
-  pub open_failed : (e : SuperError) (error : OpenError) → IsToldAs device.Backing e error → IsCounted {E = Failed} (Ok tt) a b → IsKept b c → (16 ≤ b.sectors → IsCounted (call_of {T = BackingSuper} (Err e)) b c) → IsCause b e → IsBackingCause error a c
-  open_failed e error told good kept counted cause = backing_told e error told (cause_after b c kept.sectors kept.holds e cause)
+  pub open_failed : (e : SuperError) (error : OpenError) → IsToldAs device.Backing e error → IsCounted {E = Failed} (Ok tt) a b → IsKept b c → (16 ≤ b.sectors → IsCounted (call_of {T = BackingSuper} (Err e)) b c) → (b.sectors < 16 → c.faults ≡ b.faults) → IsCause b e → IsBackingCause error a c
+  open_failed e error told good kept counted untouched cause = backing_told e error told (cause_after b c kept.sectors kept.holds e cause)
       (λ is. fault_rises BackingSuper e good (counted (subst (λ (x : SuperError). IsCause b x) is cause)) is)
+      (λ other. elim (cases_lt b.sectors 16) [ inl few ↦ untouched few | inr many ↦ quiet_call BackingSuper e b c other (counted many) ] ∙ good.1)
 
-  pub cache_failed : (s : BackingSuper) (e : SuperError) (error : OpenError) → IsToldAs device.Cache e error → IsCounted {E = Failed} (Ok tt) a b → IsKept b c → (16 ≤ b.sectors → IsCounted (call_of {T = CacheSuper} (Err e)) b c) → IsCacheCause b e → IsPairCause error s a c
-  cache_failed s e error told good kept counted cause = cache_told s e error told (cache_cause_after b c kept.sectors kept.holds e cause)
+  pub cache_failed : (s : BackingSuper) (e : SuperError) (error : OpenError) → IsToldAs device.Cache e error → IsCounted {E = Failed} (Ok tt) a b → IsKept b c → (16 ≤ b.sectors → IsCounted (call_of {T = CacheSuper} (Err e)) b c) → (b.sectors < 16 → c.faults ≡ b.faults) → IsCacheCause b e → IsPairCause error s a c
+  cache_failed s e error told good kept counted untouched cause = cache_told s e error told (cache_cause_after b c kept.sectors kept.holds e cause)
       (λ is. fault_rises CacheSuper e good (counted (subst (λ (x : SuperError). IsCacheCause b x) is cause)) is)
+      (λ other. elim (cases_lt b.sectors 16) [ inl few ↦ untouched few | inr many ↦ quiet_call CacheSuper e b c other (counted many) ] ∙ good.1)
 
 -- after a call that changed nothing
 pub same_kept : (a b : DiskFacts) → IsKept a b → IsSameDevice a b
@@ -119,7 +129,7 @@ same_self d = record { sectors = refl; holds = by d.holds; leaves = less d.holds
     less (Some held) = λ image can. inl can
 
 -- why a pair isn't opened is why its trace isn't served
-pub open_cause : (error : OpenError) (why : Stop) (source left : StreamFacts) (cache cache' backing backing' : DiskFacts) → why ≡ stop_of error → IsOpenCause error cache cache' backing backing' → IsServeCause why source left cache cache' backing backing'
-open_cause (errors.Fault d) why source left cache cache' backing backing' is cause = subst (λ (x : Stop). IsServeCause x source left cache cache' backing backing') (sym is) cause
-open_cause (errors.Superblock d number) why source left cache cache' backing backing' is cause = subst (λ (x : Stop). IsServeCause x source left cache cache' backing backing') (sym is) cause
-open_cause (errors.Image number) why source left cache cache' backing backing' is cause = subst (λ (x : Stop). IsServeCause x source left cache cache' backing backing') (sym is) cause
+pub open_cause : (error : OpenError) (why : Stop) (source left : StreamFacts) (cache cache' backing backing' : DiskFacts) → why ≡ stop_of error → WasRead source left → IsOpenCause error cache cache' backing backing' → IsServeCause why source left cache cache' backing backing'
+open_cause (errors.Fault d) why source left cache cache' backing backing' is read cause = subst (λ (x : Stop). IsServeCause x source left cache cache' backing backing') (sym is) (read, cause)
+open_cause (errors.Superblock d number) why source left cache cache' backing backing' is read cause = subst (λ (x : Stop). IsServeCause x source left cache cache' backing backing') (sym is) (read, cause)
+open_cause (errors.Image number) why source left cache cache' backing backing' is read cause = subst (λ (x : Stop). IsServeCause x source left cache cache' backing backing') (sym is) (read, cause)

@@ -1,7 +1,7 @@
 -- What the opening of a pair leaves of its devices, and why it isn't served.
 use Rattle.std.specs.Prelude.{◌≡◌, ◌≢◌, ◌⊎◌, ℕ, Option, Some, None}
 use Rattle.bc_model.specs.Sector.{Image}
-use Rattle.bc_disk.specs.Device.{HasRisen}
+use Rattle.bc_disk.specs.Device.{HasRisen, next_count}
 use Rattle.bc_disk.specs.Disk.{DiskFacts, BothTold}
 use Rattle.bc_disk.specs.declared.disk.Device.{Device}
 use Rattle.bc_disk.specs.declared.disk.Device.TheVariants as device
@@ -35,10 +35,11 @@ AsksForNone d = (held : Image) × (d.holds ≡ Some held) × ((s : BackingSuper)
 
 -- ---- what the opening leaves
 
--- it holds what it held, no call of it failed, and its superblock is this one
+-- it holds what it held, its two calls were a barrier and a read, none failed, and its superblock is this one
 pub record IsOpened (s : BackingSuper) (old new : DiskFacts) : Type 0 where
   pub sectors : new.sectors ≡ old.sectors
   pub holds : BothTold SameImage old.holds new.holds
+  pub calls : new.calls ≡ next_count (next_count old.calls)
   pub faults : new.faults ≡ old.faults
   pub reads : ReadsSuper new s
 
@@ -62,11 +63,11 @@ IsToldAs d e error = ((e ≡ fault.Fault) × (error ≡ errors.Fault d)) ⊎ ((e
 -- a call of the backing device failed, or its superblock has this number's fault, the first in order
 abbrev pub IsBackingCause : OpenError → DiskFacts → DiskFacts → Type 0
 IsBackingCause (errors.Fault device.Backing) old new = HasRisen old.faults new.faults
-IsBackingCause (errors.Superblock device.Backing number) old new = (e : SuperError) × (number ≡ number_of e) × (e ≢ fault.Fault) × IsCause new e
+IsBackingCause (errors.Superblock device.Backing number) old new = (e : SuperError) × (number ≡ number_of e) × (e ≢ fault.Fault) × IsCause new e × (new.faults ≡ old.faults)
 IsBackingCause error old new = ⊥
 
 -- what a pair with these superblocks is answered, of which that of the backing device asks for a cache: it has to have a state,
--- the cache has to have been set up, they have to be of one set, and then no journal entry is found
+-- the cache has to have been set up, they have to be of one set; journals aren't read yet, so then it is answered as one without an entry
 abbrev pub IsJudged : OpenError → BackingSuper → CacheSuper → Type 0
 IsJudged error s c =
     Unless ((HasNoState s → ⊥) × IsInitialised c) (error ≡ errors.Superblock device.Cache (number_of fault.NotInitialised))
@@ -74,13 +75,13 @@ IsJudged error s c =
     (error ≡ errors.Image 2))
 
 -- The backing device has this superblock, which asks for a cache. A call of the cache device failed; or its superblock has this
--- number's fault, the first in order; or both were read.
+-- number's fault, the first in order; or both were read. But in the first of these no call failed.
 abbrev pub IsPairCause : OpenError → BackingSuper → DiskFacts → DiskFacts → Type 0
 IsPairCause error s old new = ((error ≡ errors.Fault device.Cache) × HasRisen old.faults new.faults)
-    ⊎ ((e : SuperError) × (error ≡ errors.Superblock device.Cache (number_of e)) × (e ≢ fault.Fault) × IsCacheCause new e)
-    ⊎ ((c : CacheSuper) × ReadsCache new c × IsJudged error s c)
+    ⊎ ((e : SuperError) × (error ≡ errors.Superblock device.Cache (number_of e)) × (e ≢ fault.Fault) × IsCacheCause new e × (new.faults ≡ old.faults))
+    ⊎ ((c : CacheSuper) × ReadsCache new c × IsJudged error s c × (new.calls ≡ next_count (next_count old.calls)) × (new.faults ≡ old.faults))
 
 -- The first of these: a cause of the backing device, with which the cache device isn't called, or one of the pair.
 abbrev pub IsOpenCause : OpenError → DiskFacts → DiskFacts → DiskFacts → DiskFacts → Type 0
-IsOpenCause error cache cache' backing backing' = IsBackingCause error backing backing'
+IsOpenCause error cache cache' backing backing' = (IsBackingCause error backing backing' × (cache'.calls ≡ cache.calls))
     ⊎ ((s : BackingSuper) × IsOpened s backing backing' × (IsPassThrough s → ⊥) × IsPairCause error s cache cache')

@@ -1,12 +1,12 @@
 -- What the commands that make and show a pair leave.
 use Rattle.std.specs.Prelude.{◌≡◌, ◌⊎◌, ℕ, Result, Ok, Err, OnOk, IfOk, IfErr, String, string_bytes}
 use Rattle.std.specs.declared.alloc.Global.{Global}
-use Rattle.bc_disk.specs.Disk.{DiskFacts}
+use Rattle.bc_disk.specs.Disk.{DiskFacts, IsCounted}
 use Rattle.bc_disk.specs.Stream.{StreamFacts}
 use Rattle.bc_output.specs.Message.{message_text}
 use Rattle.bc_output.specs.Put.{Takes, IsWriteFault}
 use Rattle.bc_output.specs.declared.put.WriteFault.{WriteFault}
-use Rattle.bc_pair.specs.Causes.{AdoptLeaves, Adopts, AreKept, FaultRose, Formats, IsAdoptCause, IsFormatCause, IsShowCause, KeepsOthers, UnlessFault}
+use Rattle.bc_pair.specs.Causes.{AdoptLeaves, Adopts, AreKept, BackingFirst, FaultRose, Formats, IsAdoptCause, IsFormatCause, IsShowCause, KeepsOthers, UnlessFault, good}
 use Rattle.bc_pair.specs.Found.{FindsAdopted, FindsNew}
 use Rattle.bc_pair.specs.declared.error.PairError.{PairError}
 use Rattle.bc_pair.specs.declared.error.PairError.TheVariants as errors
@@ -64,6 +64,7 @@ module _ {C B : Type 0} (cache_facts : C → DiskFacts) (backing_facts : B → D
     pub written : OnOk answer (Adopts cache_facts backing_facts (Ok tt) cache cache' backing backing')
     pub found : OnOk answer (FindsAdopted (cache_facts cache) (cache_facts cache') (backing_facts backing) (backing_facts backing'))
     pub cause : IfErr answer (λ e. IsAdoptCause e (cache_facts cache) (backing_facts backing))
+    pub order : IfErr answer (λ e. BackingFirst e cache cache' (backing_facts backing))
     pub leaves : IfErr answer (λ e. AdoptLeaves cache_facts backing_facts e cache cache' backing backing')
     pub others : KeepsOthers (backing_facts backing) (backing_facts backing')
     pub faults : IfErr answer (λ e. FaultRose e (cache_facts cache) (cache_facts cache') (backing_facts backing) (backing_facts backing'))
@@ -75,6 +76,8 @@ module _ {C B : Type 0} (cache_facts : C → DiskFacts) (backing_facts : B → D
     pub shown : IfOk answer (λ text. (b : BackingSuper) × ReadsSuper (backing_facts backing) b × ((c : CacheSuper) × ReadsCache (cache_facts cache) c
         × IsShown c b (data_sectors (backing_facts backing).sectors b) (string_bytes text)))
     pub cause : IfErr answer (λ e. IsShowCause e (cache_facts cache) (backing_facts backing))
+    pub order : IfErr answer (λ e. BackingFirst e cache cache' (backing_facts backing))
+    pub counted : OnOk answer (IsCounted good (cache_facts cache) (cache_facts cache') × IsCounted good (backing_facts backing) (backing_facts backing'))
     pub kept : AreKept (cache_facts cache) (cache_facts cache') (backing_facts backing) (backing_facts backing')
     pub faults : IfErr answer (λ e. FaultRose e (cache_facts cache) (cache_facts cache') (backing_facts backing) (backing_facts backing'))
     pub ends : EndsPrinting answer status old new

@@ -1,4 +1,4 @@
--- With which status and message a call ends that did nothing.
+-- With which status and message a call ends before its command is done.
 use Rattle.std.specs.Prelude.{◌≡◌, ◌⊎◌, ℕ}
 use Rattle.bc_output.specs.declared.message.Message.{Message}
 use Rattle.bc_output.specs.declared.message.Message.TheVariants as message

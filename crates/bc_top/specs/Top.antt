@@ -4,7 +4,7 @@ use Rattle.std.specs.declared.alloc.Global.{Global}
 use Rattle.bc_disk.specs.Device.{HasRisen}
 use Rattle.bc_disk.specs.Disk.{DiskFacts}
 use Rattle.bc_disk.specs.Stream.{StreamFacts}
-use Rattle.bc_script.specs.Trace.{IsCause, IsTrace, SpellAll, lines_of}
+use Rattle.bc_script.specs.Trace.{IsCause, IsTrace, IsWhole, SpellAll, lines_of}
 use Rattle.bc_script.specs.declared.line.Line.{Line}
 use Rattle.bc_script.specs.declared.script.TraceError.TheVariants as trace
 use Rattle.bc_pair.specs.declared.pair.NewPair.{NewPair}
@@ -42,14 +42,22 @@ SpellsTrace source = (text : List ℕ) × (source.text ≡ Some text) × ((lines
 abbrev pub AreSame : DiskFacts → DiskFacts → DiskFacts → DiskFacts → Type 0
 AreSame cache cache' backing backing' = IsSameDevice cache cache' × IsSameDevice backing backing'
 
--- why a trace isn't served; want of memory alone is free
+-- neither device was called
+abbrev pub AreUncalled : DiskFacts → DiskFacts → DiskFacts → DiskFacts → Type 0
+AreUncalled cache cache' backing backing' = (cache'.calls ≡ cache.calls) × (backing'.calls ≡ backing.calls)
+
+-- the whole trace was read before
+abbrev pub WasRead : StreamFacts → StreamFacts → Type 0
+WasRead source left = (lines : List Line) × IsTrace lines × IsWhole source left lines
+
+-- why a trace isn't served: first the trace is read, and then the superblocks; want of memory alone is free
 abbrev pub IsServeCause : Stop → StreamFacts → StreamFacts → DiskFacts → DiskFacts → DiskFacts → DiskFacts → Type 0
 IsServeCause stop.Usage source left cache cache' backing backing' = ⊥
-IsServeCause (stop.Trace e) source left cache cache' backing backing' = IsCause source left (trace.Script e)
-IsServeCause stop.Source source left cache cache' backing backing' = HasRisen source.faults left.faults
-IsServeCause (stop.Fault device) source left cache cache' backing backing' = IsOpenCause (errors.Fault device) cache cache' backing backing'
-IsServeCause (stop.Superblock device number) source left cache cache' backing backing' = IsOpenCause (errors.Superblock device number) cache cache' backing backing'
-IsServeCause (stop.Image why) source left cache cache' backing backing' = IsOpenCause (errors.Image why) cache cache' backing backing'
+IsServeCause (stop.Trace e) source left cache cache' backing backing' = IsCause source left (trace.Script e) × AreUncalled cache cache' backing backing'
+IsServeCause stop.Source source left cache cache' backing backing' = HasRisen source.faults left.faults × AreUncalled cache cache' backing backing'
+IsServeCause (stop.Fault device) source left cache cache' backing backing' = WasRead source left × IsOpenCause (errors.Fault device) cache cache' backing backing'
+IsServeCause (stop.Superblock device number) source left cache cache' backing backing' = WasRead source left × IsOpenCause (errors.Superblock device number) cache cache' backing backing'
+IsServeCause (stop.Image why) source left cache cache' backing backing' = WasRead source left × IsOpenCause (errors.Image why) cache cache' backing backing'
 IsServeCause stop.Memory source left cache cache' backing backing' = Unit {0}
 
 -- where a call ends so, the count of a device's faults rose

@@ -22,7 +22,7 @@ pub enum OpenError {
     Image(u8),
 }
 
-/// That a cache device has no journal entry.
+/// That a cache device has no journal entry. Journals aren't read yet, and this program wrote none.
 const NO_JOURNAL: u8 = 2;
 
 // That a call which read the superblock of this device failed, or found this fault.

@@ -1,4 +1,4 @@
-//! Why a call did nothing.
+//! Why a call ends before its command is done.
 ghost use Rattle.std.specs.Prelude.{◌≡◌};
 ghost use Rattle.bc_output.specs.Message.{message_text};
 ghost use Rattle.bc_top.specs.Ended.{IsPutOf};
@@ -10,7 +10,7 @@ use bc_output::message::{Message, Origin, print_message};
 use bc_output::put::put_all;
 use bc_script::script::ScriptError;
 
-/// Why no run began.
+/// Why a call ends before its command is done.
 #[derive(Clone, Copy, Debug, PartialEq, Eq, Drop)]
 pub enum Stop {
     /// The words aren't those of a command.
@@ -67,7 +67,7 @@ impl Stop {
     }
 }
 
-/// Puts the line that says why no run began, and answers the status.
+/// Puts the line that says why the command isn't done, and answers the status.
 pub fn tell<K: Sink>(stop: &Stop, out: &mut K) -> u8
     ensures status { result ≡ status_of stop.now }
     ensures put { IsPutOf (message_text (message_of stop.now)) (K.facts out.old) (K.facts out.new) }

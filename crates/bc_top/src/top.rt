@@ -55,6 +55,8 @@ pub fn bcache<R: Wait, C: Disk + Drop, B: Disk + Drop, S: Source, K: Sink>(
         → Does C.facts B.facts command result.status cache result.cache backing result.backing (K.facts out.old) (K.facts out.new) }
     ensures data { (IsServe words.now → ⊥) → KeepsOthers (B.facts backing) (B.facts result.backing) }
 
+    ensures unread { (IsServe words.now → ⊥) → trace.new ≡ trace.old }
+
     // A run began only where a trace is served, and then the cache device isn't touched.
     ensures cache { IfSome result.pass (λ _. IsServe words.now × (result.cache ≡ cache)) }
 

@@ -9,6 +9,7 @@ use Rattle.bc_pair.specs.Found.{IsTableOf}
 use Rattle.bc_pair.specs.declared.error.PairError.{PairError}
 use Rattle.bc_pair.proofs.Makings.{adopted_backing_usable, adopted_usable, adopts, fails_so, finds_adopted, rose_behind}
 use Rattle.bc_pair.proofs.Steps.{kept_keeps, others_joined}
+use Rattle.bc_pair.proofs.Refusals.{writing_behind}
 use Rattle.bc_pair.proofs.adopt.adopt.Goals as goal
 
 pub returns-in_err-c-clause-data : goal.returns-in_err-c-clause-data
@@ -81,3 +82,8 @@ returns-clause-found g c =
     finds_adopted c.in_ok-c.c c.adopted_cache-c.result c.in_ok-c.b c.adopted_backing-b.result c.layout_of-l.result
     (g.C.Disk.facts c.args.cache.now) (g.C.Disk.facts c.write_pair.new.cache) (g.B.Disk.facts c.args.backing.now) (g.B.Disk.facts c.write_pair.new.backing)
     c.in_ok-c.ensures.cache c.in_ok-c.ensures.backing c.layout_of-l.ensures.laid_out c.layout_of-l.ensures.sizes c.adopted_cache-c.ensures c.adopted_backing-b.ensures c.in_ok-write_pair.ensures.found
+
+pub returns-in_err-write_pair-clause-order : goal.returns-in_err-write_pair-clause-order
+returns-in_err-write_pair-clause-order g c =
+    fails_so c.from_residual-in_err-write_pair.result c.in_err-write_pair.field-0.0 _ c.from_residual-in_err-write_pair.ensures.1
+    (writing_behind c.in_err-write_pair.field-0.0 c.args.cache.now c.write_pair.new.cache (g.B.Disk.facts c.args.backing.now) c.in_ok-c.b c.in_ok-c.ensures.backing)

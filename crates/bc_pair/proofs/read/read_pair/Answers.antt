@@ -2,9 +2,9 @@ use Rattle.std.proofs.Common.{inl, inr, ◌≤◌, sym, ap, subst}
 use Rattle.std.proofs.lemmas.Bool.{cases_lt}
 use Rattle.bc_super.specs.declared.backing.BackingSuper.{BackingSuper}
 use Rattle.bc_super.specs.declared.cache.CacheSuper.{CacheSuper}
-use Rattle.bc_pair.specs.Causes.{FaultRose, IsShowCause}
+use Rattle.bc_pair.specs.Causes.{BackingFirst, FaultRose, IsShowCause}
 use Rattle.bc_pair.specs.declared.error.PairError.{PairError}
-use Rattle.bc_pair.proofs.Refusals.{backing_asked, backing_rose, cache_asked, cache_cause, cache_rose, failures_of}
+use Rattle.bc_pair.proofs.Refusals.{backing_asked, backing_first, backing_rose, cache_asked, cache_behind, cache_cause, cache_rose, failures_of}
 use Rattle.bc_pair.proofs.read.read_pair.Goals as goal
 
 pub returns-in-Err-clause-faults : goal.returns-in-Err-clause-faults
@@ -42,3 +42,13 @@ returns-clause-counted g c =
     let large : 16 ≤ backing.sectors = elim (cases_lt backing.sectors 16) [ inl small ↦ absurd (let no = c.in-Ok.ensures.small.1 small in cc) | inr large ↦ large ] in
     let room : 16 ≤ cache.sectors = elim (cases_lt cache.sectors 16) [ inl small ↦ absurd (let no = c.in-Ok-read_cache.ensures.small small in cc) | inr large ↦ large ] in
     (c.in-Ok-read_cache.ensures.counted room, c.in-Ok.ensures.counted large)
+
+pub returns-in-Err-clause-order : goal.returns-in-Err-clause-order
+returns-in-Err-clause-order g c =
+    let backing = g.B.Disk.facts c.args.backing.now in
+    subst (λ (e : PairError). BackingFirst e c.args.cache.now c.args.cache.now backing) (sym c.refusal.ensures) (backing_first c.in-Err.why c.args.cache.now backing)
+
+pub returns-in-Err-read_cache-clause-order : goal.returns-in-Err-read_cache-clause-order
+returns-in-Err-read_cache-clause-order g c =
+    let backing = g.B.Disk.facts c.args.backing.now in
+    subst (λ (e : PairError). BackingFirst e c.args.cache.now c.read_cache.new.disk backing) (sym c.refusal-in-Err-read_cache.ensures) (cache_behind c.in-Err-read_cache.why c.args.cache.now c.read_cache.new.disk backing c.in-Ok.b c.in-Ok.ensures.ok)

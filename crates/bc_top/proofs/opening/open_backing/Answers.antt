@@ -1,3 +1,4 @@
+use Rattle.std.proofs.Common.{ap}
 use Rattle.bc_top.proofs.Settled.{open_failed, opened, same_settled, stands}
 use Rattle.bc_top.proofs.opening.open_backing.Goals as goal
 
@@ -15,4 +16,4 @@ returns-in-Ok-read_backing-clause-same g c = same_settled (g.B.Disk.facts c.args
 pub returns-in-Err-clause-cause : goal.returns-in-Err-clause-cause
 returns-in-Err-clause-cause g c =
     let r = c.in-Err.ensures in
-    open_failed (g.B.Disk.facts c.args.backing.now) (g.B.Disk.facts c.barrier.new.self) (g.B.Disk.facts c.read_backing.new.disk) c.in-Err.error c.refused.result c.refused.ensures c.in-Ok.ensures.counted r.kept r.counted r.refused
+    open_failed (g.B.Disk.facts c.args.backing.now) (g.B.Disk.facts c.barrier.new.self) (g.B.Disk.facts c.read_backing.new.disk) c.in-Err.error c.refused.result c.refused.ensures c.in-Ok.ensures.counted r.kept r.counted (λ few. ap (λ d. (g.B.Disk.facts d).faults) (r.untouched few)) r.refused
