@@ -23,7 +23,7 @@ struct Stream<'a> {
 }
 
 impl Source for Stream<'_> {
-    ghost facts = { λ s. record { text = Some s.text.now; faults = s.faults } };
+    ghost facts = { λ s. record { text = Some s.text.now; faults = s.faults; stops = 0 } };
 
     fn next(&mut self, into: &mut [u8]) -> Result<usize, Failed> {
         if self.fails && self.text.is_empty() {
