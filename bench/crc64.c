@@ -1,31 +1,14 @@
 // The checksum of crates/bc_bytes_bench by a plain loop: one look-up in a table for each byte.
 // Run as: crc64 ROUNDS
+#include "checksum.h"
 #include <stdint.h>
 #include <stdio.h>
 #include <stdlib.h>
 #include <time.h>
 
 #define LENGTH 65536
-#define POLYNOMIAL 0x42f0e1eba9ea3693u
 
-static uint64_t table[256];
 static uint8_t bytes[LENGTH];
-
-static void fill_table(void) {
-    for (uint64_t byte = 0; byte < 256; byte++) {
-        uint64_t rest = byte << 56;
-        for (int bit = 0; bit < 8; bit++)
-            rest = rest >> 63 ? rest << 1 ^ POLYNOMIAL : rest << 1;
-        table[byte] = rest;
-    }
-}
-
-static uint64_t crc64(uint64_t start, const uint8_t *at, size_t length) {
-    uint64_t sum = start;
-    while (length--)
-        sum = sum << 8 ^ table[(sum >> 56 ^ *at++) & 0xff];
-    return ~sum;
-}
 
 static long long micros(void) {
     struct timespec now;

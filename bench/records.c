@@ -1,12 +1,12 @@
 // What crates/bc_records_bench reads, by plain loops: the checksum by one look-up in a table for each byte, and then a copy
 // of the words. Run as: records ROUNDS
+#include "checksum.h"
 #include <stdint.h>
 #include <stdio.h>
 #include <stdlib.h>
 #include <string.h>
 #include <time.h>
 
-#define POLYNOMIAL 0x42f0e1eba9ea3693u
 #define POINTER 0x9000000000000000u
 
 struct record {
@@ -14,24 +14,6 @@ struct record {
     uint64_t start, magic;
     uint8_t *bytes;
 };
-
-static uint64_t table[256];
-
-static void fill_table(void) {
-    for (uint64_t byte = 0; byte < 256; byte++) {
-        uint64_t rest = byte << 56;
-        for (int bit = 0; bit < 8; bit++)
-            rest = rest >> 63 ? rest << 1 ^ POLYNOMIAL : rest << 1;
-        table[byte] = rest;
-    }
-}
-
-static uint64_t crc64(uint64_t start, const uint8_t *at, size_t length) {
-    uint64_t sum = start;
-    while (length--)
-        sum = sum << 8 ^ table[(sum >> 56 ^ *at++) & 0xff];
-    return ~sum;
-}
 
 static void put(struct record *r, size_t place, uint64_t number, int width) {
     memcpy(r->bytes + place, &number, width);

@@ -75,7 +75,7 @@ IsJudged error s c =
     (error ≡ errors.Image 2))
 
 -- The backing device has this superblock, which asks for a cache. A call of the cache device failed; or its superblock has this
--- number's fault, the first in order; or both were read. But in the first of these no call failed.
+-- number's fault, the first in order; or both were read. No call failed in the last two.
 abbrev pub IsPairCause : OpenError → BackingSuper → DiskFacts → DiskFacts → Type 0
 IsPairCause error s old new = ((error ≡ errors.Fault device.Cache) × HasRisen old.faults new.faults)
     ⊎ ((e : SuperError) × (error ≡ errors.Superblock device.Cache (number_of e)) × (e ≢ fault.Fault) × IsCacheCause new e × (new.faults ≡ old.faults))
