@@ -42,7 +42,7 @@ pub record Survives (w : Setup) (image : Image) (st : State) : Type 0 where
   pub leaves : WhereTold st.backing.content (λ c. FineAt w image st.stable_to st.history c.leaves)
   pub reads : WhereTold st.backing.content (λ c. FineAt w image st.stable_to st.history c.reads)
   pub stable : st.stable_to ≤ length st.history
-  pub covered : floor st.history ≤ st.stable_to
+  pub covered : (s : ℕ) → floor st.history s ≤ st.stable_to
   pub flushes : (i : ℕ) → FlushStands st.history (st.seats i).flush
   pub begun : DoneBegun st.history
 
@@ -97,7 +97,7 @@ module _ (w : Setup) (image : Image) (st : State) (now_inv : Present w image st)
         reads = where_map st.backing.content _ _ (written (w.offset + first) values) (λ c h. more w image st.stable_to e st.history c.reads (written (w.offset + first) values c).reads stable
             (λ s v k. change s v _ (instead_cases (at_run (w.offset + first) values (w.offset + s)) (c.reads (w.offset + s)) v k)) h) inv.reads;
         stable = omega arith;
-        covered = omega (arith, floor_write of.worker of.line first values st.history);
+        covered = λ s. let old = covered s in omega (arith, floor_write of.worker of.line first values st.history s);
         flushes = flushes_put (e ∷ st.history) i _ (flush_grown e st.history (st.seats i).flush (inv.flushes i)) (λ k. flush_grown e st.history (st.seats k).flush (inv.flushes k));
         begun = plain_begun e st.history (λ a b. refl) (λ a b. refl) inv.begun;
       }
@@ -118,7 +118,7 @@ module _ (w : Setup) (image : Image) (st : State) (now_inv : Present w image st)
         reads = where_map st.backing.content _ _ (failed (w.offset + first) values) (λ c h. more w image st.stable_to e st.history c.reads (failed (w.offset + first) values c).reads stable
             (λ s v k. change s v _ (besides_cases (at_run (w.offset + first) values (w.offset + s)) (c.reads (w.offset + s)) v k)) h) inv.reads;
         stable = omega arith;
-        covered = omega (arith, floor_tried first values st.history);
+        covered = λ s. let old = covered s in omega (arith, floor_tried first values st.history s);
         flushes = flushes_put (e ∷ st.history) i x (flush_grown e st.history x.flush (subst (λ o. FlushStands st.history o) (sym same) (inv.flushes i))) (λ k. flush_grown e st.history (st.seats k).flush (inv.flushes k));
         begun = plain_begun e st.history (λ a b. refl) (λ a b. refl) inv.begun;
       }
@@ -153,9 +153,9 @@ module _ (w : Setup) (image : Image) (st : State) (now_inv : Present w image st)
       low None = omega arith
       low (Some d) = inv.stable
 
-      under : (o : Option Device) → floor st.history ≤ stable_after o (length st.history) st.stable_to
-      under None = floor_low st.history
-      under (Some d) = inv.covered
+      under : (o : Option Device) (s : ℕ) → floor st.history s ≤ stable_after o (length st.history) st.stable_to
+      under None s = floor_low st.history s
+      under (Some d) s = inv.covered s
 
   answer : (i : ℕ) (of : Line) (first : ℕ) (values : List Value) → Survives w image (after w st (event.Answer i of first values))
   answer i of first values =
@@ -166,7 +166,7 @@ module _ (w : Setup) (image : Image) (st : State) (now_inv : Present w image st)
         leaves = where_also st.backing.content _ _ (λ c h. older w image st.stable_to e st.history c.leaves stable h) inv.leaves;
         reads = where_also st.backing.content _ _ (λ c h. older w image st.stable_to e st.history c.reads stable h) inv.reads;
         stable = omega arith;
-        covered = omega (arith, floor_read of.worker of.line first values st.history);
+        covered = λ s. let old = covered s in omega (arith, floor_read of.worker of.line first values st.history s);
         flushes = λ k. flush_grown e st.history (st.seats k).flush (inv.flushes k);
         begun = plain_begun e st.history (λ a b. refl) (λ a b. refl) inv.begun;
       }
@@ -180,7 +180,7 @@ module _ (w : Setup) (image : Image) (st : State) (now_inv : Present w image st)
         leaves = where_also st.backing.content _ _ (λ c h. older w image st.stable_to e st.history c.leaves stable h) inv.leaves;
         reads = where_also st.backing.content _ _ (λ c h. older w image st.stable_to e st.history c.reads stable h) inv.reads;
         stable = omega arith;
-        covered = omega (arith, floor_from of.worker of.line st.history (inv.begun of.worker of.line));
+        covered = λ s. let old = covered s in omega (arith, floor_from of.worker of.line st.history s (inv.begun of.worker of.line));
         flushes = flushes_put (e ∷ st.history) i _ (inl (itself of.worker of.line, refl)) (λ k. flush_grown e st.history (st.seats k).flush (inv.flushes k));
         begun = λ a b h. counted (is_from a b e) (inv.begun a b h);
       }
@@ -207,7 +207,7 @@ module _ (w : Setup) (image : Image) (st : State) (now_inv : Present w image st)
             leaves = where_also st.backing.content _ _ (λ c k. older w image st.stable_to e st.history c.leaves stable k) inv.leaves;
             reads = where_also st.backing.content _ _ (λ c k. older w image st.stable_to e st.history c.reads stable k) inv.reads;
             stable = omega arith;
-            covered = floor_done of.worker of.line st.stable_to f.at st.history begins (omega arith) covered;
+            covered = λ s. floor_done of.worker of.line st.stable_to f.at st.history s begins (omega arith) (covered s);
             flushes = flushes_put (e ∷ st.history) i _ tt (λ k. flush_grown e st.history (st.seats k).flush (inv.flushes k));
             begun = λ a b k. done_begun a b (begins_counted of.worker of.line f.at st.history begins) k;
           }
@@ -246,7 +246,7 @@ pub survives_opened : (w : Setup) (image : Image) → OpensOn w image → Surviv
 survives_opened w image is =
     let left : WhereTold w.backing.content (λ c. FineAt w image 0 [] c.leaves) = subst (λ o. WhereTold o (λ c. FineAt w image 0 [] c.leaves)) (sym is) once in
     let read : WhereTold w.backing.content (λ c. FineAt w image 0 [] c.reads) = subst (λ o. WhereTold o (λ c. FineAt w image 0 [] c.reads)) (sym is) once in
-    record { leaves = left; reads = read; stable = omega arith; covered = omega arith; flushes = λ i. tt; begun = λ a b h. absurd (cc) }
+    record { leaves = left; reads = read; stable = omega arith; covered = λ s. omega arith; flushes = λ i. tt; begun = λ a b h. absurd (cc) }
   where
     once : (s : ℕ) (v : Value) → (v ≡ image (w.offset + s)) ⊎ ⊥ → v ≡ image (w.offset + s)
     once s v (inl e) = e
@@ -260,4 +260,4 @@ survives_run w image st (e ∷ es) here_ inv run = survives_run w image (after w
 pub crash_allowed : (w : Setup) (image : Image) (st : State) → Survives w image st
     → WhereTold st.backing.content (λ c. (crash : Image) → MayLeave c crash → (s : ℕ) → Allowed (data_of w image) st.history s (data_of w crash s))
 crash_allowed w image st inv =
-    where_also st.backing.content _ _ (λ c fine crash left s. allowed_lower (data_of w image) (floor st.history) st.stable_to st.history s (crash (w.offset + s)) inv.covered (fine s (crash (w.offset + s)) (left (w.offset + s)))) inv.leaves
+    where_also st.backing.content _ _ (λ c fine crash left s. allowed_lower (data_of w image) (floor st.history s) st.stable_to st.history s (crash (w.offset + s)) (inv.covered s) (fine s (crash (w.offset + s)) (left (w.offset + s)))) inv.leaves

@@ -69,28 +69,16 @@ beside_at None = []
 beside_at (Some values) = values
 
 abbrev pub write_at : ℕ → Option Entry → Event
-write_at seat None = event.Release seat
 write_at seat (Some (entry.Write worker line first values)) = event.BackingWrite seat first values (Some (record { worker = worker; line = line }))
-write_at seat (Some (entry.Read worker line first values)) = event.Release seat
-write_at seat (Some (entry.FlushFrom worker line)) = event.Release seat
-write_at seat (Some (entry.FlushDone worker line)) = event.Release seat
-write_at seat (Some (entry.Tried first values)) = event.Release seat
+write_at seat other = event.Release seat
 
 abbrev pub answer_at : ℕ → Option Entry → Event
-answer_at seat None = event.Release seat
-answer_at seat (Some (entry.Write worker line first values)) = event.Release seat
 answer_at seat (Some (entry.Read worker line first values)) = event.Answer seat (record { worker = worker; line = line }) first values
-answer_at seat (Some (entry.FlushFrom worker line)) = event.Release seat
-answer_at seat (Some (entry.FlushDone worker line)) = event.Release seat
-answer_at seat (Some (entry.Tried first values)) = event.Release seat
+answer_at seat other = event.Release seat
 
 abbrev pub fault_at : Device → ℕ → Option Entry → Event
-fault_at device seat None = event.Release seat
-fault_at device seat (Some (entry.Write worker line first values)) = event.Release seat
-fault_at device seat (Some (entry.Read worker line first values)) = event.Release seat
-fault_at device seat (Some (entry.FlushFrom worker line)) = event.Release seat
-fault_at device seat (Some (entry.FlushDone worker line)) = event.Release seat
 fault_at device seat (Some (entry.Tried first values)) = event.DeviceFault seat device Write first (Some (Values values)) true
+fault_at device seat other = event.Release seat
 
 -- the event that a record tells, beside these entries and values
 abbrev pub event_of : List Entry → List (List Value) → Record → Event

@@ -4,22 +4,16 @@ use Rattle.std.specs.Prelude.{MatchBool}
 use Rattle.bc_model.specs.Sector.{Value, Image, unless}
 use Rattle.bc_model.specs.History.{gives, may_give, now, AllowedFrom}
 use Rattle.bc_model.specs.declared.history.Entry.{Entry}
-use Rattle.bc_model.specs.declared.history.Entry.TheVariants.{Write, Read, FlushFrom, FlushDone, Tried}
+use Rattle.bc_model.specs.declared.history.Entry.TheVariants.{Write, Tried}
 use Rattle.bc_model.proofs.Cases.{by_le}
 
 pub gives_may : (e : Entry) (s : ℕ) (v : Value) → gives e s ≡ Some v → may_give e s ≡ Some v
-gives_may (Write worker line first values) s v h = h
-gives_may (Read worker line first values) s v h = h
-gives_may (FlushFrom worker line) s v h = h
-gives_may (FlushDone worker line) s v h = h
 gives_may (Tried first values) s v h = absurd (cc)
+gives_may e s v h = h
 
 pub silent_gives : (e : Entry) (s : ℕ) → may_give e s ≡ None → gives e s ≡ None
 silent_gives (Write worker line first values) s h = h
-silent_gives (Read worker line first values) s h = h
-silent_gives (FlushFrom worker line) s h = h
-silent_gives (FlushDone worker line) s h = h
-silent_gives (Tried first values) s h = refl
+silent_gives e s h = refl
 
 -- the present is allowed from any floor on
 pub allowed_now : (opening : Image) (f : ℕ) (es : List Entry) (s : ℕ) (v : Value) → v ≡ now opening es s → AllowedFrom f opening es s v

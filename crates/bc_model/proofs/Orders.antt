@@ -6,7 +6,7 @@ use Rattle.bc_model.specs.Sector.{Value, Image, unless}
 use Rattle.bc_model.specs.History.{gives, now, IsRight, IsLegal}
 use Rattle.bc_model.specs.InOrder.{image_after, now_of, IsLegalOf}
 use Rattle.bc_model.specs.declared.history.Entry.{Entry}
-use Rattle.bc_model.specs.declared.history.Entry.TheVariants.{Write, Read, FlushFrom, FlushDone, Tried}
+use Rattle.bc_model.specs.declared.history.Entry.TheVariants.{Read}
 
 -- the oldest entry of all may as well have been part of the opening image
 now_last : (opening : Image) (es : List Entry) (e : Entry) (s : ℕ) → now opening (es ++ e ∷ []) s ≡ now (image_after opening e) es s
@@ -19,11 +19,8 @@ now_agrees opening (e ∷ es) s =
     now_agrees (image_after opening e) es s ∙ sym (now_last opening (reverse es) e s) ∙ sym (ap (λ (xs : List Entry). now opening xs s) (reverse-append (e ∷ []) es))
 
 right_same : (e : Entry) (a b : Image) → ((s : ℕ) → a s ≡ b s) → IsRight e a → IsRight e b
-right_same (Write worker line first values) a b same h = tt
 right_same (Read worker line first values) a b same h = λ s v given. h s v given ∙ same s
-right_same (FlushFrom worker line) a b same h = tt
-right_same (FlushDone worker line) a b same h = tt
-right_same (Tried first values) a b same h = tt
+right_same e a b same h = tt
 
 last_legal : (opening : Image) (es : List Entry) (e : Entry) → IsLegal opening (es ++ e ∷ []) → IsRight e opening × IsLegal (image_after opening e) es
 last_legal opening [] e h = (h.0, tt)

@@ -29,6 +29,14 @@ pub enum Entry {
         worker: u8,
         line: u32,
     },
+    /// The write of this line whose range begins at `first` was acknowledged as durable, with these
+    /// sectors: it is a flush of them alone.
+    Durable {
+        worker: u8,
+        line: u32,
+        first: u64,
+        count: u32,
+    },
     /// A write of the device failed, so that each sector of the range may hold either value.
     Tried {
         first: u64,

@@ -1,7 +1,7 @@
 //! What the definitions of the history come to: each law is the contract of a function.
-ghost use Rattle.std.specs.Prelude.{◌≡◌, ◌⊎◌, ◌↔◌, ◌≤◌, ℕ, List, ◌∷◌, ◌++◌, reverse, Some};
+ghost use Rattle.std.specs.Prelude.{◌≡◌, ◌⊎◌, ◌↔◌, ◌+◌, ◌<◌, ◌≤◌, ℕ, List, ◌∷◌, ◌++◌, max, reverse, Some};
 ghost use Rattle.bc_model.specs.Sector.{Value, Image, Gives, at_run};
-ghost use Rattle.bc_model.specs.History.{now, IsLegal, Allowed, AllowedFrom, Silent, count_from};
+ghost use Rattle.bc_model.specs.History.{now, IsLegal, Allowed, AllowedFrom, Silent, count_from, flushed, forced, written_by};
 ghost use Rattle.bc_model.specs.InOrder.{now_of, IsLegalOf};
 ghost use Rattle.bc_model.specs.declared.history.Entry.{Entry};
 
@@ -17,6 +17,26 @@ pub fn flush_covers()
         → let H = newer ++ Entry.FlushDone worker line ∷ (between ++ Entry.FlushFrom worker line ∷ older)
         in Silent s newer → Silent s between → count_from worker line H ≡ 1
         → Allowed opening H s v → v ≡ now opening H s }
+{}
+
+/// Once a forced write is acknowledged, a sector of it that nothing has been written to since, nor
+/// tried, may show its last write alone.
+pub fn forced_write_covers()
+    ensures { (opening : Image) (worker line first count : ℕ) (values : List Value) (newer between older : List Entry) (s : ℕ) (v : Value)
+        → let H = newer ++ Entry.Durable worker line first count ∷ (between ++ Entry.Write worker line first values ∷ older)
+        in first ≤ s → s < first + count → Silent s newer → Silent s between
+        → Allowed opening H s v → v ≡ now opening H s }
+{}
+
+/// An acknowledged forced write covers its own sectors, up to its write, and says nothing of others.
+pub fn forced_write_is_exact()
+    ensures elsewhere { (opening : Image) (worker line first count : ℕ) (H : List Entry) (s : ℕ) (v : Value)
+        → (s < first) ⊎ (first + count ≤ s)
+        → Allowed opening (Entry.Durable worker line first count ∷ H) s v ↔ Allowed opening H s v }
+    ensures within { (opening : Image) (worker line first count : ℕ) (H : List Entry) (s : ℕ) (v : Value)
+        → first ≤ s → s < first + count
+        → Allowed opening (Entry.Durable worker line first count ∷ H) s v
+        ↔ AllowedFrom (max (flushed H) (max (written_by worker line first H) (forced H s))) opening H s v }
 {}
 
 /// A write adds what it gives, and takes nothing away.

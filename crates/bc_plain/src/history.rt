@@ -2,8 +2,8 @@
 //!
 //! The entries that these functions take stand in the order of time, the oldest first. `opening` is
 //! what the sectors held before the first of them, from sector 0 on: 512 bytes for each.
-ghost use Rattle.std.specs.Prelude.{◌≡◌, ◌↔◌, ◌+◌, ◌*◌, ◌≤◌, length, reverse, IsTrue};
-ghost use Rattle.bc_model.specs.History.{gives, may_give, now, IsRight, IsLegal, count_from, has_done, is_acknowledged, floor, Allowed};
+ghost use Rattle.std.specs.Prelude.{◌≡◌, ◌↔◌, ◌+◌, ◌*◌, ◌≤◌, ◌∷◌, length, reverse, IsTrue};
+ghost use Rattle.bc_model.specs.History.{gives, may_give, now, IsRight, IsLegal, count_from, has_done, is_acknowledged, flushed, is_write, written_by, is_within, forced, floor, Allowed};
 ghost use Rattle.bc_disk.specs.Bytes.{image_of};
 
 use crate::image::{sector_of, value_at, value_of};
@@ -135,10 +135,10 @@ fn is_acknowledged(entries: &[Entry], entry: &Entry) -> bool
     }
 }
 
-/// How many entries the last acknowledged flush covers: those before its `FlushFrom`, or none where
-/// no flush is acknowledged.
-pub fn floor(entries: &[Entry]) -> usize
-    ensures floor { result ≡ floor (reverse entries.now) }
+// How many entries the last acknowledged flush covers: those before its `FlushFrom`, or none where
+// no flush is acknowledged.
+fn flushed(entries: &[Entry]) -> usize
+    ensures flushed { result ≡ flushed (reverse entries.now) }
     ensures within { result ≤ length entries.now }
 {
     let mut covered = 0;
@@ -150,14 +150,95 @@ pub fn floor(entries: &[Entry]) -> usize
     covered
 }
 
+// Whether the entry is the write of this worker's line whose range begins there.
+fn is_write(entry: &Entry, by: u8, of: u32, at: u64) -> bool
+    ensures { result ≡ is_write by of at entry.now }
+{
+    match entry {
+        Entry::Write {
+            worker,
+            line,
+            first,
+            ..
+        } => *worker == by && *line == of && *first == at,
+        _ => false,
+    }
+}
+
+// How many entries there are up to the last such write and with it.
+fn written_by(entries: &[Entry], by: u8, of: u32, at: u64) -> usize
+    ensures written { result ≡ written_by by of at (reverse entries.now) }
+    ensures within { result ≤ length entries.now }
+{
+    let mut covered = 0;
+    for (place, entry) in entries.iter().enumerate() {
+        if is_write(entry, by, of, at) {
+            covered = place + 1;
+        }
+    }
+    covered
+}
+
+// Whether the sector is one of so many from the first on.
+fn is_within(first: u64, count: u32, sector: u128) -> bool
+    ensures { result ≡ is_within first count sector }
+{
+    u128::from(first) <= sector && sector < u128::from(first) + u128::from(count)
+}
+
+// How many entries the forced write that this entry acknowledges covers of the sector.
+fn covered_by(before: &[Entry], entry: &Entry, sector: u128, covered: usize) -> usize
+    requires { covered ≤ length before.now }
+    ensures forced { covered ≡ forced (reverse before.now) sector
+        → result ≡ forced (entry.now ∷ reverse before.now) sector }
+    ensures within { result ≤ length before.now }
+{
+    match entry {
+        Entry::Durable {
+            worker,
+            line,
+            first,
+            count,
+        } => {
+            if is_within(*first, *count, sector) {
+                written_by(before, *worker, *line, *first).max(covered)
+            } else {
+                covered
+            }
+        }
+        _ => covered,
+    }
+}
+
+// How many entries the forced writes of the sector cover.
+fn forced(entries: &[Entry], sector: u128) -> usize
+    ensures forced { result ≡ forced (reverse entries.now) sector }
+    ensures within { result ≤ length entries.now }
+{
+    let mut covered = 0;
+    for (place, entry) in entries.iter().enumerate() {
+        covered = covered_by(&entries[..place], entry, sector, covered);
+    }
+    covered
+}
+
+/// How many entries are covered of a sector: those before the last acknowledged flush, and those up
+/// to the last write that a forced write of the sector acknowledges, whichever are more.
+pub fn floor(entries: &[Entry], sector: u128) -> usize
+    ensures floor { result ≡ floor (reverse entries.now) sector }
+    ensures within { result ≤ length entries.now }
+{
+    flushed(entries).max(forced(entries, sector))
+}
+
 /// Whether the sector may show this value after a crash: it is the sector's value after the entries
-/// that the last acknowledged flush covers, or one that a later write, done or tried, gives it.
+/// that are covered of it, or one that a later write, done or tried, gives it.
 pub fn is_allowed(opening: &[u8], entries: &[Entry], sector: u64, value: &Sector) -> bool
     ensures { IsTrue result
         ↔ Allowed (image_of opening.now) (reverse entries.now) sector value.now }
 {
     let sector = u128::from(sector);
-    let covered = floor(entries);
+    let covered = floor(entries, sector);
     let later = &entries[covered..];
     let mut allowed = is_now(opening, &entries[..covered], sector, value);
     for entry in later {

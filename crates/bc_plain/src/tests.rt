@@ -52,8 +52,8 @@ fn a_flush_covers_what_stands_before_it(rt: HostRuntime) -> Result<(), Fail> {
         },
         Entry::FlushDone { worker: 2, line: 1 },
     ];
-    assert_eq!(rt; floor(&entries), 1);
-    assert_eq!(rt; floor(&entries[..4]), 0);
+    assert_eq!(rt; floor(&entries, 0), 1);
+    assert_eq!(rt; floor(&entries[..4], 0), 0);
     assert!(rt; now(&opening, &entries, 0) == [7; 512]);
     assert!(rt; now(&opening, &entries, 1) == [8; 512]);
     assert!(rt; now(&opening, &entries, 2) == [8; 512]);
@@ -79,6 +79,42 @@ fn a_flush_covers_what_stands_before_it(rt: HostRuntime) -> Result<(), Fail> {
             "{sector} {byte}"
         );
         assert_eq!(rt; is_allowed(&opening, &entries[..4], sector, &value), before);
+    }
+    Ok(())
+}
+
+#[test]
+fn a_forced_write_covers_its_own_sectors(rt: HostRuntime) -> Result<(), Fail> {
+    let opening = [0; 2048];
+    let entries = [
+        write(rt.alloc(), 1, 0, 7)?,
+        write(rt.alloc(), 2, 1, 8)?,
+        Entry::Durable {
+            worker: 1,
+            line: 2,
+            first: 1,
+            count: 2,
+        },
+        write(rt.alloc(), 3, 2, 9)?,
+    ];
+    for (sector, covered) in [(0, 0), (1, 2), (2, 2), (3, 0)] {
+        assert_eq!(rt; floor(&entries, sector), covered);
+    }
+    for (sector, byte, allowed) in [
+        (0, 0, true),
+        (0, 7, true),
+        (1, 7, false),
+        (1, 8, true),
+        (2, 0, false),
+        (2, 8, true),
+        (2, 9, true),
+        (3, 0, true),
+        (3, 9, true),
+    ] {
+        assert_eq!(rt;
+            is_allowed(&opening, &entries, sector, &[byte; 512]),
+            allowed
+        );
     }
     Ok(())
 }

@@ -26,6 +26,6 @@ returns c =
     let f = c.floor-covered.result in
     let es = c.args.entries.now in
     let P : ℕ → List Entry → ℕ → Type 0 = λ g h s. IsTrue c.loop-entry.allowed ↔ AllowedFrom g (image_of c.args.opening.now) h s c.args.value.now in
-    subst (λ s. P (floor (reverse es)) (reverse es) s) c.from-sector.ensures
+    subst (λ s. P (floor (reverse es) s) (reverse es) s) c.from-sector.ensures
     (subst (λ g. P g (reverse es) c.from-sector.result) c.floor-covered.ensures.floor
     (subst (λ (h : List Entry). P f h c.from-sector.result) (reverse_parts es f c.loop-entry.entry-index (omega arith)) c.loop-entry.invariant))
