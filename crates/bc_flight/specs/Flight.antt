@@ -1,14 +1,19 @@
--- The claims that stand, at most one for each seat.
+-- The claims that stand, at most one for each seat, and the candidates beside them.
 use Rattle.std.specs.Prelude.{◌≡◌, ℕ, ◌+◌, ◌<◌, ◌≤◌, ◌^◌, true, false, ◌==◌, List, [], ◌∷◌, Option, Some, None, if◌then◌else◌}
 use Rattle.bc_flight.specs.Claims.{conflicts, conflicts_any}
+use Rattle.bc_flight.specs.declared.candidate.Candidate.{Candidate}
 use Rattle.bc_flight.specs.declared.claim.Claim.{Claim}
 use Rattle.bc_flight.specs.declared.claim.Share.{Share}
 
 -- what a flight is seen as
-pub record Claims : Type 0 where
+pub record InFlight : Type 0 where
   -- how many seats may claim
   pub seats : ℕ
   pub claims : List Claim
+  -- the oldest first
+  pub candidates : List Candidate
+  -- the number of the next candidate
+  pub next : ℕ
 
 abbrev pub claim_at : ℕ → ℕ → ℕ → Share → Claim
 claim_at seat first count how = record { seat = seat; first = first; count = count; share = how }

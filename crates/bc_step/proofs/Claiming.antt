@@ -4,7 +4,7 @@ use Rattle.bc_model.proofs.Cases.{by_test}
 use Rattle.bc_disk.specs.Disk.{DiskFacts}
 use Rattle.bc_disk.specs.declared.disk.Device.{Device}
 use Rattle.bc_flight.specs.Claims.{conflicts, conflicts_any}
-use Rattle.bc_flight.specs.Flight.{Claims, claim_of, without, claim_at}
+use Rattle.bc_flight.specs.Flight.{InFlight, claim_of, without, claim_at}
 use Rattle.bc_flight.specs.Flight as standing
 use Rattle.bc_flight.specs.declared.claim.Claim.{Claim}
 use Rattle.bc_flight.specs.declared.claim.Share.{Share}
@@ -66,13 +66,13 @@ module _ {C B : Type 0} (cache_facts : C → DiskFacts) (backing_facts : B → D
   note_took v w part took = ap (λ (l : List Event). note_of l) took.deeds
 
   -- the seat's claim among the claims
-  pub claim_seen : (v w : SeatView (CorePart C B) Event Device) (f : Claims) → Took cache_facts backing_facts v 1 w → IsFlight f (world_of cache_facts backing_facts w).now → claim_of v.first f.claims ≡ (note v).claim
+  pub claim_seen : (v w : SeatView (CorePart C B) Event Device) (f : InFlight) → Took cache_facts backing_facts v 1 w → IsFlight f (world_of cache_facts backing_facts w).now → claim_of v.first f.claims ≡ (note v).claim
   claim_seen v w f took flight =
       let first_ : w.first ≡ v.first = ap (λ (x : SeatView (CorePart C B) Event Device). x.first) took.view in
       ap (λ n. claim_of n f.claims) (sym first_) ∙ flight.1 w.first ∙ (fits_seen w).claim ∙ ap (λ (o : Note). o.claim) (note_took v w 1 took)
 
   -- a claim that conflicts with none may be made
-  pub can_claim : (v w : SeatView (CorePart C B) Event Device) (f : Claims) (first count : ℕ) (how : Share) (x : World) → IsSeat cache_facts backing_facts v → Took cache_facts backing_facts v 1 w → IsFlight f (world_of cache_facts backing_facts w).now
+  pub can_claim : (v w : SeatView (CorePart C B) Event Device) (f : InFlight) (first count : ℕ) (how : Share) (x : World) → IsSeat cache_facts backing_facts v → Took cache_facts backing_facts v 1 w → IsFlight f (world_of cache_facts backing_facts w).now
       → (note v).claim ≡ None → conflicts_any (claim_at v.first first count how) f.claims ≡ false → 1 ≤ count → first + count ≤ (setup_of cache_facts backing_facts v.run.start).size
       → AtEvent cache_facts backing_facts w (event.Claim v.first first count how) x → may x (event.Claim v.first first count how)
   can_claim v w f first count how x seat took flight none free some inside at =
@@ -97,7 +97,7 @@ module _ {C B : Type 0} (cache_facts : C → DiskFacts) (backing_facts : B → D
   holds_took v w k took = subst (λ (hs : List ℕ). Holds hs k) (sym (ap (λ (y : SeatView (CorePart C B) Event Device). y.parts) took.view)) (inl refl)
 
   -- the part with the claims where a claim was committed, where one was refused and taken back, and where one was let go
-  pub kept_claimed : (v w w2 : SeatView (CorePart C B) Event Device) (f new : Claims) (n first count : ℕ) (how : Share) → Took cache_facts backing_facts v 1 w → IsFlight f (world_of cache_facts backing_facts w).now
+  pub kept_claimed : (v w w2 : SeatView (CorePart C B) Event Device) (f new : InFlight) (n first count : ℕ) (how : Share) → Took cache_facts backing_facts v 1 w → IsFlight f (world_of cache_facts backing_facts w).now
       → claim_of n f.claims ≡ None → new.seats ≡ f.seats → new.claims ≡ f.claims ++ claim_at n first count how ∷ [] → Committed cache_facts backing_facts w (event.Claim n first count how) w2
       → IsFlight new (world_of cache_facts backing_facts w2).now
   kept_claimed v w w2 f new n first count how took flight none seats claims done =
@@ -105,14 +105,14 @@ module _ {C B : Type 0} (cache_facts : C → DiskFacts) (backing_facts : B → D
       let there = state.1.parts 1 (part.Flight f) (holds_took v w 1 took) (refl, flight) in
       subst (λ (y : World). IsFlight new y.now) (sym state.2) (seats ∙ there.1.0, claimed f.claims new.claims (claim_at n first count how) state.0.now there.1.1 none claims)
 
-  pub kept_undone : (v w w2 : SeatView (CorePart C B) Event Device) (f mid new : Claims) (c : Claim) (d : Device) → Took cache_facts backing_facts v 1 w → IsFlight f (world_of cache_facts backing_facts w).now
+  pub kept_undone : (v w w2 : SeatView (CorePart C B) Event Device) (f mid new : InFlight) (c : Claim) (d : Device) → Took cache_facts backing_facts v 1 w → IsFlight f (world_of cache_facts backing_facts w).now
       → claim_of c.seat f.claims ≡ None → mid.claims ≡ f.claims ++ c ∷ [] → new.seats ≡ f.seats → new.claims ≡ without c.seat mid.claims → Refused cache_facts backing_facts w d w2
       → IsFlight new (world_of cache_facts backing_facts w2).now
   kept_undone v w w2 f mid new c d took flight none claims seats gone refused =
       let there = refused.parts 1 (part.Flight f) (holds_took v w 1 took) (refl, flight) in
       (seats ∙ there.1.0, λ n. undone f.claims mid.claims new.claims c none claims gone n ∙ there.1.1 n)
 
-  pub kept_released : (v w w2 : SeatView (CorePart C B) Event Device) (f new : Claims) (n : ℕ) → Took cache_facts backing_facts v 1 w → IsFlight f (world_of cache_facts backing_facts w).now
+  pub kept_released : (v w w2 : SeatView (CorePart C B) Event Device) (f new : InFlight) (n : ℕ) → Took cache_facts backing_facts v 1 w → IsFlight f (world_of cache_facts backing_facts w).now
       → new.seats ≡ f.seats → new.claims ≡ without n f.claims → Committed cache_facts backing_facts w (event.Release n) w2 → IsFlight new (world_of cache_facts backing_facts w2).now
   kept_released v w w2 f new n took flight seats claims done =
       let state = done.state in
@@ -126,7 +126,7 @@ module _ {C B : Type 0} (cache_facts : C → DiskFacts) (backing_facts : B → D
       (c, ap (λ k. (x.now.seats k).claim) (is ∙ sym first_) ∙ at.fits.claim ∙ ap (λ (o : Note). o.claim) (note_took v w 1 took) ∙ some)
 
   -- a claim that stands in the way does so in the state that was seen
-  pub taken_in : (w w2 : SeatView (CorePart C B) Event Device) (f : Claims) (c : Claim) → IsFlight f (world_of cache_facts backing_facts w).now → w2 ≡ record w { parts = [] } → standing.IsTaken c f.claims
+  pub taken_in : (w w2 : SeatView (CorePart C B) Event Device) (f : InFlight) (c : Claim) → IsFlight f (world_of cache_facts backing_facts w).now → w2 ≡ record w { parts = [] } → standing.IsTaken c f.claims
       → IsTaken c (world_of cache_facts backing_facts w2).now
   taken_in w w2 f c flight is taken =
       let other = taken.0 in

@@ -5,7 +5,7 @@ use Rattle.std.proofs.lemmas.Bool.Decides.{eqb_tells}
 use Rattle.std.proofs.lemmas.List.Sums.{fold-append}
 use Rattle.bc_disk.specs.Disk.{DiskFacts}
 use Rattle.bc_disk.specs.declared.disk.Device.{Device}
-use Rattle.bc_flight.specs.Flight.{Claims, claim_of}
+use Rattle.bc_flight.specs.Flight.{InFlight, claim_of}
 use Rattle.bc_core.specs.State.{Seat, put_seat}
 use Rattle.bc_core.specs.Step.{halted_by}
 use Rattle.bc_core.specs.Pass.{halt_of, halt_after, verdict_of, verdict_by, is_late}
@@ -30,12 +30,12 @@ unchanged : (k n : ℕ) → (k == n) ≡ false → k ≡ n → ⊥
 unchanged k n is e = by_test k n (λ b. b ≡ false → ⊥) (λ _ not. cc) (λ ne _. ne e) is
 
 -- a seat changes, but for its claim
-same_claims : (f : Claims) (seats : ℕ → Seat) (i : ℕ) (x : Seat) → x.claim ≡ (seats i).claim → ((n : ℕ) → claim_of n f.claims ≡ (seats n).claim) → (n : ℕ) → claim_of n f.claims ≡ (put_seat seats i x n).claim
+same_claims : (f : InFlight) (seats : ℕ → Seat) (i : ℕ) (x : Seat) → x.claim ≡ (seats i).claim → ((n : ℕ) → claim_of n f.claims ≡ (seats n).claim) → (n : ℕ) → claim_of n f.claims ≡ (put_seat seats i x n).claim
 same_claims f seats i x same h n =
     by_test n i (λ b. claim_of n f.claims ≡ (if b then x else seats n).claim) (λ e. h n ∙ ap (λ k. (seats k).claim) e ∙ sym same) (λ _. h n)
 
 module _ {C B : Type 0} (cache_facts : C → DiskFacts) (backing_facts : B → DiskFacts) where
-  flight_fault : (k : ℕ) (f : Claims) (x : World) (i : ℕ) (device : Device) (call : CallKind) (at : ℕ) (what : Option Written) (tried : Bool) → IsPart cache_facts backing_facts k (part.Flight f) x → IsPart cache_facts backing_facts k (part.Flight f) (after x (event.DeviceFault i device call at what tried))
+  flight_fault : (k : ℕ) (f : InFlight) (x : World) (i : ℕ) (device : Device) (call : CallKind) (at : ℕ) (what : Option Written) (tried : Bool) → IsPart cache_facts backing_facts k (part.Flight f) x → IsPart cache_facts backing_facts k (part.Flight f) (after x (event.DeviceFault i device call at what tried))
   flight_fault k f x i device Read at what tried h = (h.0, (h.1.0, same_claims f x.now.seats i _ refl h.1.1))
   flight_fault k f x i device Barrier at what tried h = (h.0, (h.1.0, same_claims f x.now.seats i _ refl h.1.1))
   flight_fault k f x i device Write at None tried h = (h.0, (h.1.0, same_claims f x.now.seats i _ refl h.1.1))

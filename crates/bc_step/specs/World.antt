@@ -4,7 +4,7 @@ use Rattle.bc_disk.specs.Device.{DeviceModel}
 use Rattle.bc_disk.specs.Disk.{DiskFacts, StandsFor}
 use Rattle.bc_disk.specs.Stands.{settled_model}
 use Rattle.bc_flight.specs.Claims.{conflicts}
-use Rattle.bc_flight.specs.Flight.{Claims, claim_of}
+use Rattle.bc_flight.specs.Flight.{InFlight, claim_of}
 use Rattle.bc_flight.specs.declared.claim.Claim.{Claim}
 use Rattle.bc_core.specs.State.{State, Setup, opened}
 use Rattle.bc_core.specs.Step as step
@@ -60,7 +60,7 @@ abbrev pub enabled : World → Event → Type 0
 enabled x e = (number e < seat_count) × may x e
 
 -- the claims of all seats
-abbrev pub IsFlight : Claims → State → Type 0
+abbrev pub IsFlight : InFlight → State → Type 0
 IsFlight f st = (f.seats ≡ seat_count) × ((n : ℕ) → claim_of n f.claims ≡ (st.seats n).claim)
 
 -- a seat has a claim that conflicts with it
@@ -99,7 +99,7 @@ module _ {C B : Type 0} (cache_facts : C → DiskFacts) (backing_facts : B → D
   opening ps = record { setup = setup_of ps; cache = cache_of ps; now = opened (setup_of ps) }
 
 -- the parts of a run over the backing device alone, as it begins
-abbrev pub opening_parts : {C B : Type 0} → Claims → Backing B → List (CorePart C B)
+abbrev pub opening_parts : {C B : Type 0} → InFlight → Backing B → List (CorePart C B)
 opening_parts flight backing = part.Absent ∷ part.Flight flight ∷ part.Absent ∷ part.Absent ∷ part.Absent ∷ part.Backing backing ∷ []
 
 -- the backing device stands at its place among six parts

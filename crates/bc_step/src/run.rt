@@ -2,7 +2,7 @@
 ghost use Rattle.std.specs.Prelude.{◌≡◌, ◌+◌, ◌<◌, ◌≤◌, [], IfOk, IfErr, All, length};
 ghost use Rattle.bc_disk.specs.Disk.{StandsFor};
 ghost use Rattle.bc_disk.specs.Stands.{settled_model};
-ghost use Rattle.bc_flight.specs.Flight.{Claims};
+ghost use Rattle.bc_flight.specs.Flight.{InFlight};
 ghost use Rattle.bc_core.specs.Pass.{events_in, entries_of};
 ghost use Rattle.bc_core.specs.State.{opened};
 ghost use Rattle.bc_core.specs.Step.{IsRun};
@@ -50,7 +50,7 @@ pub fn begin<C: Disk + Drop, B: Disk + Drop>(
 ) -> Result<(CoreParts<C, B>, CoreSeat<C, B>), Backing<B>>
     requires backing { StandsFor (B.facts backing.disk) (settled_model (B.facts backing.disk)) }
     requires inside { backing.offset + backing.size ≤ (B.facts backing.disk).sectors }
-    ensures ok { IfOk result (λ r. (flight : Claims) × (r.0.run.start ≡ opening_parts flight backing) × (r.0.seats ≡ 320) × (r.1 ≡ newcomer r.0)) }
+    ensures ok { IfOk result (λ r. (flight : InFlight) × (r.0.run.start ≡ opening_parts flight backing) × (r.0.seats ≡ 320) × (r.1 ≡ newcomer r.0)) }
     ensures err { IfErr result (λ device. device ≡ backing) }
 {
     let Ok(flight) = Flight::new(alloc, SEATS) else {

@@ -5,14 +5,14 @@ use Rattle.bc_flight.specs.Flight.{IsTaken, claim_of, claim_at}
 use Rattle.bc_flight.proofs.Ordered.{claim_of_new}
 use Rattle.bc_core.specs.declared.event.Event.TheVariants as event
 use Rattle.bc_step.specs.World.{World, may, IsPart}
-use Rattle.bc_step.specs.Seats.{AtEvent, world_of}
+use Rattle.bc_step.specs.Seats.{AtEvent, Stepped, world_of}
 use Rattle.bc_step.proofs.Claiming.{claim_seen, can_claim, kept_claimed, kept_undone, false_if, taken_in}
 use Rattle.bc_disk.specs.declared.disk.Device.{Device}
 use Rattle.bc_core.specs.Pass.{halt_of}
 use Rattle.bc_core.specs.declared.event.Event.{Event}
 use Rattle.bc_parts.specs.Seat.{SeatView}
 use Rattle.bc_step.specs.declared.part.CorePart.{CorePart}
-use Rattle.bc_step.proofs.Stepping.{waited_with}
+use Rattle.bc_step.proofs.Stepping.{stepped_with, waited_with}
 use Rattle.bc_step.proofs.claims.claim.Goals as goal
 
 pub try_claim-requires-clause-none : goal.try_claim-requires-clause-none
@@ -75,3 +75,8 @@ returns-in-Err-clause-err g c = (
   ap (λ (v : SeatView (CorePart _ _) Event Device). halt_of v.seen) c.give-in-Err.ensures ∙ c.in-Err.ensures.err.halted,
   waited_with g.C.Disk.facts g.B.Disk.facts c.args.seat.now c.take.new.seat c.commit.new.seat c.give-in-Err.new.seat 1 c.in-Err.device c.requires.idle c.take.ensures.seat c.in-Err.ensures.err c.give-in-Err.ensures,
 )
+
+pub returns-in-Ok-clause-claimed : goal.returns-in-Ok-clause-claimed
+returns-in-Ok-clause-claimed g c = λ _.
+    subst (λ n. Stepped g.C.Disk.facts g.B.Disk.facts c.args.seat.now (event.Claim n c.args.first c.args.count c.args.share) c.give-in-Ok.new.seat) c.number-number.ensures.first
+    (stepped_with g.C.Disk.facts g.B.Disk.facts c.args.seat.now c.take.new.seat c.commit.new.seat c.give-in-Ok.new.seat 1 _ c.requires.idle c.take.ensures.seat c.in-Ok.ensures.ok c.give-in-Ok.ensures)

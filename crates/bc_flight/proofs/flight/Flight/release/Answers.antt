@@ -1,7 +1,7 @@
 use Rattle.std.proofs.Common.{◌≡◌, List, ◌<◌, sym, ap, ◌∙◌, subst, arith, length}
 use Rattle.std.specs.Prelude.{IfSome, slice_get}
 use Rattle.bc_flight.specs.declared.claim.Claim.{Claim}
-use Rattle.bc_flight.specs.Flight.{Claims, IsInOrder, without}
+use Rattle.bc_flight.specs.Flight.{InFlight, IsInOrder, without}
 use Rattle.bc_flight.proofs.Ordered.{removed, in_order_without}
 use Rattle.bc_flight.proofs.flight.Flight.release.Goals as goal
 
@@ -20,4 +20,4 @@ invariant_of-self c =
     )
 
 pub returns-clause-claims : goal.returns-clause-claims
-returns-clause-claims c = gone c ∙ ap (λ (f : Claims). without c.args.claim.seat f.claims) c.self.view_is
+returns-clause-claims c = gone c ∙ ap (λ (f : InFlight). without c.args.claim.seat f.claims) c.self.view_is
