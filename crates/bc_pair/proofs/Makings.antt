@@ -1,14 +1,14 @@
 -- What is made of a pair.
 use Rattle.std.proofs.Common.{◌≡◌, ◌≢◌, inl, inr, ℕ, ◌+◌, ◌*◌, ◌/◌, ◌%◌, ◌^◌, ◌<◌, ◌≤◌, refl, sym, ◌∙◌, subst, arith}
 use Rattle.std.proofs.Math.Nat.{div-eq_of_lt, mul-le-mul_left}
-use Rattle.std.specs.Prelude.{replicate, Result, Ok, Err, IsErrAnd, IfErr, bit_or}
+use Rattle.std.specs.Prelude.{replicate, Bool, true, false, ◌==◌, if◌then◌else◌, Result, Ok, Err, IsErrAnd, IfErr, bit_or}
 use Rattle.std.proofs.lemmas.Nat.{or_disjoint}
 use Rattle.std.proofs.lemmas.Nat.Bits.{and_pow}
 use Rattle.bc_disk.specs.Device.{HasRisen}
 use Rattle.bc_disk.specs.Disk.{DiskFacts, IsCounted}
 use Rattle.bc_disk.specs.declared.disk.Device.{Device}
 use Rattle.bc_disk.specs.declared.disk.Device.TheVariants as device
-use Rattle.bc_super.specs.Cache.{IsBlock, IsBucket, IsUsableCache, most_buckets}
+use Rattle.bc_super.specs.Cache.{IsBlock, IsBucket, IsCacheVersion, IsUsableCache, most_buckets}
 use Rattle.bc_super.specs.Layout.{IsLaidOut, buckets_of}
 use Rattle.bc_super.specs.Reading.{ReadsCache, ReadsSuper}
 use Rattle.bc_super.specs.Super.{IsUsable, state_number}
@@ -19,7 +19,7 @@ use Rattle.bc_super.specs.declared.geometry.Layout.{Layout}
 use Rattle.bc_super.proofs.Buckets.{quotient, wide}
 use Rattle.bc_pair.specs.Causes.{Adopts, AreKept, FaultRose, IsFormatRefused, IsWritingOf, good}
 use Rattle.bc_pair.specs.Found.{FindsAdopted, FindsNew, IsPair}
-use Rattle.bc_pair.specs.Made.{IsUnused, PairWritten, adopted_backing, adopted_cache, new_backing, new_cache}
+use Rattle.bc_pair.specs.Made.{IsUnused, PairWritten, adopted_backing, adopted_cache, new_backing, new_cache, version_in_use}
 use Rattle.bc_pair.specs.Steps.{HasRoom}
 use Rattle.bc_pair.specs.declared.error.PairError.{PairError}
 use Rattle.bc_pair.specs.declared.error.PairError.TheVariants as errors
@@ -61,7 +61,7 @@ module _ (sectors : ℕ) (l : Layout) (laid : IsLaidOut sectors l) where
 
   pub new_usable : (p : NewPair) → (l.geometry.block ≡ p.block) × (l.geometry.bucket ≡ p.bucket) → p.set_uuid ≢ replicate 16 0 → IsUsableCache sectors (new_cache p l)
   new_usable p sizes named = record {
-    version = inr refl;
+    version = inr (inl refl);
     block = subst (λ n. IsBlock n) sizes.0 laid.block;
     bucket = subst (λ n. IsBucket n) sizes.1 laid.bucket;
     fewest = laid.enough;
@@ -80,12 +80,19 @@ pub zero_refused : (p : NewPair) (cache backing : ℕ) (l : Layout) → IsLaidOu
 zero_refused p cache backing l laid sizes zero =
     inr (subst (λ n. IsBlock n) sizes.0 laid.block, inr (subst (λ n. IsBucket n) sizes.1 laid.bucket, inr (subst (λ n. 128 ≤ buckets_of cache n) sizes.1 (subst (λ n. 128 ≤ n) laid.nbuckets laid.enough), inl ((λ named. named zero), (refl, refl)))))
 
+in_use : (version : ℕ) → IsCacheVersion (version_in_use version)
+in_use version = either (version == 5)
+  where
+    either : (b : Bool) → IsCacheVersion (if b then 5 else 3)
+    either true = inr (inr refl)
+    either false = inr (inl refl)
+
 pub adopted_usable : (sectors : ℕ) (c : CacheSuper) (l : Layout) → IsUsableCache sectors c → IsLaidOut (c.bucket * c.nbuckets) l → l.geometry.bucket ≡ c.bucket → l.geometry.nbuckets ≡ c.nbuckets → IsUsableCache sectors (adopted_cache c l)
 adopted_usable sectors c l usable laid size many =
     let first = first_bucket_of (c.bucket * c.nbuckets) l laid in
     let journal = journal_of (c.bucket * c.nbuckets) l laid in
     record {
-      version = inr refl;
+      version = in_use c.version;
       block = usable.block;
       bucket = usable.bucket;
       fewest = usable.fewest;

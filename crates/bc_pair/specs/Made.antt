@@ -1,5 +1,5 @@
 -- What is written of a pair that is made, and what that leaves of its two devices.
-use Rattle.std.specs.Prelude.{◌≡◌, ◌⊎◌, ℕ, ◌+◌, ◌*◌, ◌%◌, ◌^◌, ◌<◌, ◌≤◌, List, length, replicate, slice_index_or, Result, Ok, Err}
+use Rattle.std.specs.Prelude.{◌≡◌, ◌⊎◌, ℕ, ◌+◌, ◌*◌, ◌%◌, ◌^◌, ◌<◌, ◌≤◌, List, length, replicate, slice_index_or, Result, Ok, Err, ◌==◌, if◌then◌else◌}
 use Rattle.bc_model.specs.Sector.{Value, Image, at_run, unless, values_of}
 use Rattle.bc_disk.specs.Disk.{DiskFacts, IfTold, BothTold}
 use Rattle.bc_disk.specs.declared.disk.Device.{Device}
@@ -50,9 +50,13 @@ new_backing p = record {
 abbrev pub IsUnused : CacheSuper → BackingSuper → Type 0
 IsUnused c b = (c.flags % 2 ≡ 0) × (c.journal ≡ 0) × (state_number b.flags ≡ 0)
 
+-- the version of a cache device in use: one that has feature words keeps it
+abbrev pub version_in_use : ℕ → ℕ
+version_in_use version = if version == 5 then 5 else 3
+
 -- what becomes of its superblocks: bit 0 of the flags says that the cache was set up, and bit 61 that the state is clean
 abbrev pub adopted_cache : CacheSuper → Layout → CacheSuper
-adopted_cache c l = record c { version = 3; flags = c.flags + 1; first_bucket = l.geometry.first_bucket; journal = l.geometry.journal }
+adopted_cache c l = record c { version = version_in_use c.version; flags = c.flags + 1; first_bucket = l.geometry.first_bucket; journal = l.geometry.journal }
 
 abbrev pub adopted_backing : CacheSuper → BackingSuper → BackingSuper
 adopted_backing c b = record b { set_uuid = c.set_uuid; flags = b.flags + 2 ^ 61 }

@@ -5,7 +5,7 @@ ghost use Rattle.bc_super.specs.Layout.{IsLaidOut};
 ghost use Rattle.bc_super.specs.Super.{state_number};
 ghost use Rattle.bc_pair.specs.Causes.{AdoptLeaves, Adopts, BackingFirst, FaultRose, IsAdoptCause, KeepsOthers};
 ghost use Rattle.bc_pair.specs.Found.{FindsAdopted};
-ghost use Rattle.bc_pair.specs.Made.{IsUnused, adopted_backing, adopted_cache};
+ghost use Rattle.bc_pair.specs.Made.{IsUnused, adopted_backing, adopted_cache, version_in_use};
 
 use crate::error::PairError;
 use crate::flags::{CLEAN, SET_UP};
@@ -21,8 +21,22 @@ use bc_super::state::BackingState;
 use bc_uuid::Uuids;
 use std::alloc::Global;
 
-/// The version that the superblock of a cache device is given.
+/// The version of a cache device in use.
 const CACHE_VERSION: u64 = 3;
+
+/// The same with feature words, none of which is set.
+const FEATURE_VERSION: u64 = 5;
+
+// The version of a cache device in use that had this one.
+fn version_in_use(version: u64) -> u64
+    ensures { result ≡ version_in_use version }
+{
+    if version == FEATURE_VERSION {
+        FEATURE_VERSION
+    } else {
+        CACHE_VERSION
+    }
+}
 
 // Whether no cache was set up for the pair.
 fn is_unused(c: &CacheSuper, b: &BackingSuper) -> bool
@@ -51,7 +65,7 @@ fn adopted_cache(c: &CacheSuper, l: &Layout) -> CacheSuper
     ensures { result ≡ adopted_cache c.now l.now }
 {
     CacheSuper {
-        version: CACHE_VERSION,
+        version: version_in_use(c.version),
         flags: c.flags | SET_UP,
         first_bucket: l.geometry.first_bucket,
         journal: l.geometry.journal,

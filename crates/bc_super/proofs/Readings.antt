@@ -8,7 +8,7 @@ use Rattle.std.specs.Prelude.{replicate, Result, Ok, Err, IfErr}
 use Rattle.bc_disk.specs.Disk.{DiskFacts}
 use Rattle.bc_super.specs.Reading.{IsSuperBytes, IsCause, IsCacheCause}
 use Rattle.bc_super.specs.Cache.{FirstLayoutFault, HasJournal, IsBlock, IsBucket, IsCacheRefused, IsCacheSuper, IsCacheVersion, IsJournalCount, IsUsableCache, Lists, cache_of, most_buckets}
-use Rattle.bc_super.specs.Super.{Unless, FirstFault, IsSuper, IsBackingVersion, IsDataOffset, IsBackingSuper, IsRefused, IsUsable, magic, place_in, count_in, fields_in, backing_of, state_number}
+use Rattle.bc_super.specs.Super.{HasNoFeatures, Unless, FirstFault, IsSuper, IsBackingVersion, IsDataOffset, IsBackingSuper, IsRefused, IsUsable, magic, place_in, count_in, fields_in, backing_of, state_number}
 use Rattle.bc_super.specs.declared.backing.BackingSuper.{BackingSuper}
 use Rattle.bc_super.specs.declared.cache.CacheSuper.{CacheSuper}
 use Rattle.bc_super.proofs.Buckets.{IsOne, is_bucket, is_one, one_or_not}
@@ -24,7 +24,7 @@ each p here behind (inr (passes, is)) = behind is
 -- a test of bytes never answers that the device is small
 never_small : (bytes : List ℕ) (sectors : ℕ) → IsRefused bytes sectors errors.DeviceSmall → ⊥
 never_small bytes sectors =
-    each _ (λ e. cc) (each _ (λ e. cc) (each _ (λ e. cc) (each _ (λ e. cc) (each _ (λ e. cc) (each _ (λ e. cc) (each _ (λ e. cc) (λ h. h)))))))
+    each _ (λ e. cc) (each _ (λ e. cc) (each _ (λ e. cc) (each _ (λ e. cc) (each _ (λ e. cc) (each _ (λ e. cc) (each _ (λ e. cc) (each _ (λ e. cc) (λ h. h))))))))
 
 pub is_cause : (d : DiskFacts) (bytes : List ℕ) → 16 ≤ d.sectors → IsSuperBytes bytes d → (answer : Result BackingSuper SuperError) → IfErr answer (λ e. IsRefused bytes d.sectors e) → IfErr answer (λ e. IsCause d e)
 is_cause d bytes large stands (Ok s) is = tt
@@ -47,7 +47,7 @@ layout_refused bytes sectors e is fault =
           is.count,
           inr (
             is.checksum,
-            behind (behind (behind (behind (behind (behind (behind (behind (behind (λ (h : ⊥). absurd h))))))))) fault,
+            behind (behind (behind (behind (behind (behind (behind (behind (behind (behind (λ (h : ⊥). absurd h)))))))))) fault,
           ),
         ),
       ),
@@ -64,13 +64,23 @@ is_cache_cause d bytes large stands (Err e) is = (bytes, stands, is)
 small_or_not : (m n : ℕ) → (m ≤ n) ⊎ (m ≤ n → ⊥)
 small_or_not m n = elim (cases_lt n m) [ inl above ↦ inr (λ h. omega arith) | inr low ↦ inl low ]
 
+-- either of two, or both
+or_not : {P Q : Type 0} → P ⊎ (P → ⊥) → Q ⊎ (Q → ⊥) → (P ⊎ Q) ⊎ ((P ⊎ Q) → ⊥)
+or_not (inl p) q = inl (inl p)
+or_not (inr p) (inl q) = inl (inr q)
+or_not (inr p) (inr q) = inr (λ is. elim is [ inl e ↦ p e | inr e ↦ q e ])
+
+-- a condition that asks for nothing, or for what holds
+where_not : {P Q : Type 0} → P ⊎ (P → ⊥) → Q ⊎ (Q → ⊥) → (P → Q) ⊎ ((P → Q) → ⊥)
+where_not p (inl q) = inl (λ _. q)
+where_not (inl p) (inr q) = inr (λ f. q (f p))
+where_not (inr p) (inr q) = inl (λ is. absurd (p is))
+
+features_or_not : (version : ℕ) (f : Fields) → HasNoFeatures version f ⊎ (HasNoFeatures version f → ⊥)
+features_or_not version f = where_not (cases_eq f.version version) (same_or_not f.features (replicate 24 0))
+
 version_or_not : (n : ℕ) → IsBackingVersion n ⊎ (IsBackingVersion n → ⊥)
-version_or_not n = go (cases_eq n 1) (cases_eq n 4)
-  where
-    go : (n ≡ 1) ⊎ (n ≡ 1 → ⊥) → (n ≡ 4) ⊎ (n ≡ 4 → ⊥) → IsBackingVersion n ⊎ (IsBackingVersion n → ⊥)
-    go (inl one) four = inl (inl one)
-    go (inr one) (inl four) = inl (inr four)
-    go (inr one) (inr four) = inr (λ is. elim is [ inl e ↦ one e | inr e ↦ four e ])
+version_or_not n = or_not (cases_eq n 1) (or_not (cases_eq n 4) (cases_eq n 6))
 
 offset_or_not : (sectors offset : ℕ) → IsDataOffset sectors offset ⊎ (IsDataOffset sectors offset → ⊥)
 offset_or_not sectors offset = go (cases_lt offset 16) (cases_lt offset sectors)
@@ -98,9 +108,10 @@ pub either : (bytes : List ℕ) (sectors : ℕ) → ((s : BackingSuper) × IsBac
 either bytes sectors =
     head_first S _ bytes (λ is.
     first S _ _ (errors.Version s.version) (version_or_not s.version) (λ version.
+    first S _ _ errors.Features (features_or_not 6 (fields_in bytes)) (λ features.
     first S _ _ errors.DataOffset (offset_or_not sectors s.data_offset) (λ offset.
     first S _ (λ e. ⊥) errors.Stale (not_or_not (cases_eq (state_number s.flags) 3)) (λ state.
-    inl (s, record { super = is; spelled = refl; usable = record { version = version; fixed = fixed; data_offset = offset; state = state } })))))
+    inl (s, record { super = is; spelled = refl; features = features; usable = record { version = version; fixed = fixed; data_offset = offset; state = state } }))))))
   where
     s : BackingSuper
     s = backing_of (fields_in bytes)
@@ -118,18 +129,7 @@ either bytes sectors =
 -- ---- the same of a cache device
 
 cache_version_or_not : (n : ℕ) → IsCacheVersion n ⊎ (IsCacheVersion n → ⊥)
-cache_version_or_not n = go (cases_eq n 0) (cases_eq n 3)
-  where
-    go : (n ≡ 0) ⊎ (n ≡ 0 → ⊥) → (n ≡ 3) ⊎ (n ≡ 3 → ⊥) → IsCacheVersion n ⊎ (IsCacheVersion n → ⊥)
-    go (inl e) three = inl (inl e)
-    go (inr none) (inl e) = inl (inr e)
-    go (inr none) (inr three) = inr (λ is. elim is [ inl e ↦ none e | inr e ↦ three e ])
-
--- either of two, or both
-or_not : {P Q : Type 0} → P ⊎ (P → ⊥) → Q ⊎ (Q → ⊥) → (P ⊎ Q) ⊎ ((P ⊎ Q) → ⊥)
-or_not (inl p) q = inl (inl p)
-or_not (inr p) (inl q) = inl (inr q)
-or_not (inr p) (inr q) = inr (λ is. elim is [ inl e ↦ p e | inr e ↦ q e ])
+cache_version_or_not n = or_not (cases_eq n 0) (or_not (cases_eq n 3) (cases_eq n 5))
 
 and_not : {P Q : Type 0} → P ⊎ (P → ⊥) → Q ⊎ (Q → ⊥) → (P × Q) ⊎ ((P × Q) → ⊥)
 and_not (inl p) (inl q) = inl (p, q)
@@ -139,11 +139,6 @@ and_not (inr p) q = inr (λ is. p is.0)
 never_not : {P : Type 0} → P ⊎ (P → ⊥) → (P → ⊥) ⊎ ((P → ⊥) → ⊥)
 never_not (inl p) = inr (λ never. never p)
 never_not (inr never) = inl never
-
-where_not : {P Q : Type 0} → P ⊎ (P → ⊥) → Q ⊎ (Q → ⊥) → (P → Q) ⊎ ((P → Q) → ⊥)
-where_not p (inl q) = inl (λ _. q)
-where_not (inl p) (inr q) = inr (λ f. q (f p))
-where_not (inr p) (inr q) = inl (λ is. absurd (p is))
 
 block_or_not : (n : ℕ) → IsBlock n ⊎ (IsBlock n → ⊥)
 block_or_not n = three (cases_eq n 1) (cases_eq n 2) (cases_eq n 4) (cases_eq n 8)
@@ -182,6 +177,7 @@ pub either_cache : (bytes : List ℕ) (n : ℕ) → ((s : CacheSuper) × IsCache
 either_cache bytes n =
     head_first S _ bytes (λ is.
     first S _ _ (errors.Version f.version) (cache_version_or_not f.version) (λ version.
+    first S _ _ errors.Features (features_or_not 5 f) (λ features.
     first S _ _ errors.Block (block_or_not f.block) (λ block.
     first S _ _ errors.Bucket (bucket_or_not f.bucket) (λ bucket.
     first S _ _ errors.FewBuckets (small_or_not 128 f.nbuckets) (λ fewest.
@@ -196,6 +192,7 @@ either_cache bytes n =
       record {
         super = is;
         spelled = refl;
+        features = features;
         set_number = set_number;
         list = journal.list;
         usable = record {
@@ -212,7 +209,7 @@ either_cache bytes n =
           within = journal.within;
         };
       },
-    ))))))))))))
+    )))))))))))))
   where
     f : Fields
     f = fields_in bytes
@@ -231,14 +228,14 @@ never_both_cache bytes n s e is refused =
     let fits : IsUsableCache n (cache_of (fields_in bytes)) = subst (IsUsableCache n) is.spelled is.usable in
     let list : Lists bytes (fields_in bytes).first_bucket (fields_in bytes).journal = subst (λ (t : CacheSuper). Lists bytes t.first_bucket t.journal) is.spelled is.list in
     past (record { count = fits.count; within = fits.within; list = list })
-    (past fits.first_bucket (past is.set_number (past fits.set_uuid (past fits.room (past fits.most (past fits.fewest (past fits.bucket (past fits.block (past fits.version
-    (past known.checksum (past known.count (past known.place (past known.has_magic refused)))))))))))))
+    (past fits.first_bucket (past is.set_number (past fits.set_uuid (past fits.room (past fits.most (past fits.fewest (past fits.bucket (past fits.block (past is.features (past fits.version
+    (past known.checksum (past known.count (past known.place (past known.has_magic refused))))))))))))))
 
 pub apart : (bytes : List ℕ) (n : ℕ) (s : BackingSuper) (e : SuperError) → IsBackingSuper bytes n s → IsRefused bytes n e → ⊥
 apart bytes n s e is refused =
     let known = is.super in
     let fits : IsUsable n (backing_of (fields_in bytes)) = subst (IsUsable n) is.spelled is.usable in
-    past fits.state (past fits.data_offset (past fits.version (past known.checksum (past known.count (past known.place (past known.has_magic refused))))))
+    past fits.state (past fits.data_offset (past is.features (past fits.version (past known.checksum (past known.count (past known.place (past known.has_magic refused)))))))
 
 pub one_super : (bytes : List ℕ) (n : ℕ) (s t : BackingSuper) → IsBackingSuper bytes n s → IsBackingSuper bytes n t → s ≡ t
 one_super bytes n s t first second = first.spelled ∙ sym second.spelled

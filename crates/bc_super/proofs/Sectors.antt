@@ -26,6 +26,7 @@ same_fields xs ys numbers parts =
     let label = parts 72 104 (lit≤ tt) (lit≤ tt) in
     let flags = numbers 8 104 (lit≤ tt) (lit≤ tt) in
     let seq = numbers 8 112 (lit≤ tt) (lit≤ tt) in
+    let features = parts 120 144 (lit≤ tt) (lit≤ tt) in
     let nbuckets = numbers 8 184 (lit≤ tt) (lit≤ tt) in
     let block = numbers 2 192 (lit≤ tt) (lit≤ tt) in
     let bucket = numbers 2 194 (lit≤ tt) (lit≤ tt) in
@@ -41,6 +42,7 @@ same_fields xs ys numbers parts =
       label = label i;
       flags = flags i;
       seq = seq i;
+      features = features i;
       nbuckets = nbuckets i;
       block = block i;
       bucket = bucket i;
@@ -83,9 +85,10 @@ super_front m bytes low is fits =
           ∙ ap (checksum 0xffff_ffff_ffff_ffff) (part_of_front 8 (208 + 8 * count_in (take m bytes)) m bytes fits ∙ ap (λ n. slice_range bytes 8 (208 + 8 * n)) count);
     }
 
-offset_again : (version offset : ℕ) → IsBackingVersion version → (version ≡ 1 → offset ≡ 16) → (if version == 4 then (if version == 4 then offset else 0) else 16) ≡ offset
+offset_again : (version offset : ℕ) → IsBackingVersion version → (version ≡ 1 → offset ≡ 16) → (if version == 1 then 16 else (if version == 1 then 0 else offset)) ≡ offset
 offset_again version offset (inl one) fixed = rw one (sym (fixed one))
-offset_again version offset (inr four) fixed = rw four refl
+offset_again version offset (inr (inl four)) fixed = rw four refl
+offset_again version offset (inr (inr six)) fixed = rw six refl
 
 -- what was written as a backing device's fields is read as it was
 pub backing_again : (sectors : ℕ) (s : BackingSuper) → IsUsable sectors s → backing_of (fields_of s) ≡ s
@@ -110,6 +113,7 @@ written_again bytes sectors s is usable =
     record {
       super = super_front 512 bytes (lit≤ tt) is.super (omega arith);
       spelled = sym (ap backing_of (sym (fields_front 512 bytes (lit≤ tt)) ∙ is.fields) ∙ backing_again sectors s usable);
+      features = λ six. ap (λ (f : Fields). f.features) (sym (fields_front 512 bytes (lit≤ tt)) ∙ is.fields);
       usable = usable;
     }
 
@@ -169,6 +173,7 @@ cache_again : (bytes : List ℕ) (n : ℕ) (s : CacheSuper) → IsCacheBytes byt
 cache_again bytes n s is usable = record {
   super = is.super;
   spelled = sym (ap cache_of is.fields);
+  features = λ five. ap (λ (f : Fields). f.features) is.fields;
   set_number = (ap (λ (f : Fields). f.devices) is.fields, ap (λ (f : Fields). f.device) is.fields);
   list = is.list;
   usable = usable;

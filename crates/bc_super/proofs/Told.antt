@@ -1,5 +1,5 @@
 -- A device that tells what it holds has the bytes of one superblock.
-use Rattle.std.proofs.Common.{◌≡◌, ◌⊎◌, inl, inr, ℕ, ◌<◌, ◌≤◌, List, Option, Some, None, length, refl, sym, ◌∙◌, subst}
+use Rattle.std.proofs.Common.{◌≡◌, inl, inr, ℕ, ◌<◌, ◌≤◌, List, Option, Some, None, refl, sym, ◌∙◌, subst}
 use Rattle.bc_model.specs.Sector.{Value, Image, at_run, unless, values_of, Gives}
 use Rattle.bc_disk.specs.Disk.{DiskFacts, BothTold, IfTold, Overwritten}
 use Rattle.bc_super.specs.Cache.{IsCacheRefused, IsCacheSuper}
@@ -64,42 +64,10 @@ module _ (d e : DiskFacts) (size : e.sectors ≡ d.sectors) (both : BothTold (λ
   pub cause_after : (why : SuperError) → IsCause d why → IsCause e why
   cause_after errors.DeviceSmall is = subst (λ n. n < 16) (sym size) is
   cause_after errors.Fault is = subst (λ n. 16 ≤ n) (sym size) is
-  cause_after errors.Magic is = refused_after errors.Magic is
-  cause_after errors.Checksum is = refused_after errors.Checksum is
-  cause_after (errors.Version n) is = refused_after (errors.Version n) is
-  cause_after errors.Place is = refused_after errors.Place is
-  cause_after errors.Block is = refused_after errors.Block is
-  cause_after errors.Bucket is = refused_after errors.Bucket is
-  cause_after errors.FewBuckets is = refused_after errors.FewBuckets is
-  cause_after errors.ManyBuckets is = refused_after errors.ManyBuckets is
-  cause_after errors.ZeroUuid is = refused_after errors.ZeroUuid is
-  cause_after errors.SetNumber is = refused_after errors.SetNumber is
-  cause_after errors.FirstBucket is = refused_after errors.FirstBucket is
-  cause_after errors.JournalList is = refused_after errors.JournalList is
-  cause_after errors.DataOffset is = refused_after errors.DataOffset is
-  cause_after errors.NotInitialised is = refused_after errors.NotInitialised is
-  cause_after errors.Stale is = refused_after errors.Stale is
-  cause_after errors.OtherSet is = refused_after errors.OtherSet is
-  cause_after errors.Initialised is = refused_after errors.Initialised is
+  cause_after why is = refused_after why is
 
   pub cache_cause_after : (why : SuperError) → IsCacheCause d why → IsCacheCause e why
   cache_cause_after errors.DeviceSmall (inl few) = inl (subst (λ n. n < 16) (sym size) few)
   cache_cause_after errors.DeviceSmall (inr is) = inr (cache_refused_after errors.DeviceSmall is)
   cache_cause_after errors.Fault is = subst (λ n. 16 ≤ n) (sym size) is
-  cache_cause_after errors.Magic is = cache_refused_after errors.Magic is
-  cache_cause_after errors.Checksum is = cache_refused_after errors.Checksum is
-  cache_cause_after (errors.Version n) is = cache_refused_after (errors.Version n) is
-  cache_cause_after errors.Place is = cache_refused_after errors.Place is
-  cache_cause_after errors.Block is = cache_refused_after errors.Block is
-  cache_cause_after errors.Bucket is = cache_refused_after errors.Bucket is
-  cache_cause_after errors.FewBuckets is = cache_refused_after errors.FewBuckets is
-  cache_cause_after errors.ManyBuckets is = cache_refused_after errors.ManyBuckets is
-  cache_cause_after errors.ZeroUuid is = cache_refused_after errors.ZeroUuid is
-  cache_cause_after errors.SetNumber is = cache_refused_after errors.SetNumber is
-  cache_cause_after errors.FirstBucket is = cache_refused_after errors.FirstBucket is
-  cache_cause_after errors.JournalList is = cache_refused_after errors.JournalList is
-  cache_cause_after errors.DataOffset is = cache_refused_after errors.DataOffset is
-  cache_cause_after errors.NotInitialised is = cache_refused_after errors.NotInitialised is
-  cache_cause_after errors.Stale is = cache_refused_after errors.Stale is
-  cache_cause_after errors.OtherSet is = cache_refused_after errors.OtherSet is
-  cache_cause_after errors.Initialised is = cache_refused_after errors.Initialised is
+  cache_cause_after why is = cache_refused_after why is

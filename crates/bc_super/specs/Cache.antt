@@ -1,7 +1,7 @@
 -- The superblock of a cache device.
 use Rattle.std.specs.Prelude.{◌≡◌, ◌≢◌, ◌⊎◌, ℕ, ◌+◌, ◌*◌, ◌%◌, ◌^◌, ◌<◌, ◌≤◌, min, List, replicate}
 use Rattle.bc_bytes.specs.Fields.{number_at}
-use Rattle.bc_super.specs.Super.{IsSuper, Unless, FirstFault, fields_in}
+use Rattle.bc_super.specs.Super.{HasNoFeatures, IsSuper, Unless, FirstFault, fields_in}
 use Rattle.bc_super.specs.declared.cache.CacheSuper.{CacheSuper}
 use Rattle.bc_super.specs.declared.error.SuperError.{SuperError}
 use Rattle.bc_super.specs.declared.error.SuperError.TheVariants as errors
@@ -24,8 +24,9 @@ cache_of f = record {
   journal = f.journal;
 }
 
+-- version 5 has feature words
 abbrev pub IsCacheVersion : ℕ → Type 0
-IsCacheVersion version = (version ≡ 0) ⊎ (version ≡ 3)
+IsCacheVersion version = (version ≡ 0) ⊎ (version ≡ 3) ⊎ (version ≡ 5)
 
 -- what a block and a bucket may have, in sectors
 abbrev pub IsBlock : ℕ → Type 0
@@ -72,6 +73,7 @@ pub record IsUsableCache (sectors : ℕ) (s : CacheSuper) : Type 0 where
 pub record IsCacheSuper (bytes : List ℕ) (sectors : ℕ) (s : CacheSuper) : Type 0 where
   pub super : IsSuper bytes
   pub spelled : s ≡ cache_of (fields_in bytes)
+  pub features : HasNoFeatures 5 (fields_in bytes)
   -- the one device of its set
   pub set_number : ((fields_in bytes).devices ≡ 1) × ((fields_in bytes).device ≡ 0)
   pub list : Lists bytes s.first_bucket s.journal
@@ -81,6 +83,7 @@ pub record IsCacheSuper (bytes : List ℕ) (sectors : ℕ) (s : CacheSuper) : Ty
 abbrev pub FirstLayoutFault : ℕ → Fields → SuperError → Type 0 → Type 0
 FirstLayoutFault sectors f e behind =
     Unless (IsCacheVersion f.version) (e ≡ errors.Version f.version)
+    (Unless (HasNoFeatures 5 f) (e ≡ errors.Features)
     (Unless (IsBlock f.block) (e ≡ errors.Block)
     (Unless (IsBucket f.bucket) (e ≡ errors.Bucket)
     (Unless (128 ≤ f.nbuckets) (e ≡ errors.FewBuckets)
@@ -88,11 +91,12 @@ FirstLayoutFault sectors f e behind =
     (Unless (f.bucket * f.nbuckets ≤ sectors) (e ≡ errors.DeviceSmall)
     (Unless (f.set_uuid ≢ replicate 16 0) (e ≡ errors.ZeroUuid)
     (Unless ((f.devices ≡ 1) × (f.device ≡ 0)) (e ≡ errors.SetNumber)
-    (Unless (IsFirstBucket f.bucket f.nbuckets f.first_bucket) (e ≡ errors.FirstBucket) behind))))))))
+    (Unless (IsFirstBucket f.bucket f.nbuckets f.first_bucket) (e ≡ errors.FirstBucket) behind)))))))))
 
 -- what passes those tests
 pub record IsLayout (sectors : ℕ) (f : Fields) : Type 0 where
   pub version : IsCacheVersion f.version
+  pub features : HasNoFeatures 5 f
   pub block : IsBlock f.block
   pub bucket : IsBucket f.bucket
   pub fewest : 128 ≤ f.nbuckets

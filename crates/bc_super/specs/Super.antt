@@ -1,6 +1,6 @@
 -- Superblocks: the bytes from a device's sector 8 on, as `struct cache_sb_disk` in the kernel's `bcache_ondisk.h` lays
 -- them out. A number has its lowest byte first, and bit 0 of the flags is the lowest one.
-use Rattle.std.specs.Prelude.{◌≡◌, ◌≢◌, ◌⊎◌, ℕ, ◌+◌, ◌-◌, ◌*◌, ◌/◌, ◌%◌, ◌^◌, ◌<◌, ◌≤◌, min, List, [], ◌∷◌, slice_range, ◌==◌, if◌then◌else◌}
+use Rattle.std.specs.Prelude.{◌≡◌, ◌≢◌, ◌⊎◌, ℕ, ◌+◌, ◌-◌, ◌*◌, ◌/◌, ◌%◌, ◌^◌, ◌<◌, ◌≤◌, min, replicate, List, [], ◌∷◌, slice_range, ◌==◌, if◌then◌else◌}
 use Rattle.bc_bytes.specs.Fields.{number_at}
 use Rattle.bc_bytes.specs.Checksum.{checksum}
 use Rattle.bc_super.specs.declared.backing.BackingSuper.{BackingSuper}
@@ -49,6 +49,7 @@ fields_in bytes = record {
   label = slice_range bytes 72 104;
   flags = number_at 8 bytes 104;
   seq = number_at 8 bytes 112;
+  features = slice_range bytes 120 144;
   nbuckets = number_at 8 bytes 184;
   block = number_at 2 bytes 192;
   bucket = number_at 2 bytes 194;
@@ -73,9 +74,15 @@ FirstFault bytes e behind =
 
 -- ---- the superblock of a backing device
 
--- By version 1 data begins at sector 16, and by version 4 at the sector that the field of the buckets tells.
+-- By version 1 data begins at sector 16, and by versions 4 and 6 at the sector that the field of the buckets tells.
+-- Version 6 has feature words.
 abbrev pub IsBackingVersion : ℕ → Type 0
-IsBackingVersion version = (version ≡ 1) ⊎ (version ≡ 4)
+IsBackingVersion version = (version ≡ 1) ⊎ (version ≡ 4) ⊎ (version ≡ 6)
+
+-- By the version that has feature words none of them is set, since nothing is known of what they would ask for. By the
+-- others they aren't looked at.
+abbrev pub HasNoFeatures : ℕ → Fields → Type 0
+HasNoFeatures version f = f.version ≡ version → f.features ≡ replicate 24 0
 
 -- the fields of a backing device
 abbrev pub backing_of : Fields → BackingSuper
@@ -88,7 +95,7 @@ backing_of f = record {
   seq = f.seq;
   block = f.block;
   last_mount = f.last_mount;
-  data_offset = if f.version == 4 then f.nbuckets else 16;
+  data_offset = if f.version == 1 then 16 else f.nbuckets;
 }
 
 -- the first of the device's sectors that has data, behind those set aside
@@ -131,6 +138,7 @@ pub record IsUsable (sectors : ℕ) (s : BackingSuper) : Type 0 where
 pub record IsBackingSuper (bytes : List ℕ) (sectors : ℕ) (s : BackingSuper) : Type 0 where
   pub super : IsSuper bytes
   pub spelled : s ≡ backing_of (fields_in bytes)
+  pub features : HasNoFeatures 6 (fields_in bytes)
   pub usable : IsUsable sectors s
 
 -- the bytes are no superblock that can be used, and this is the first reason
@@ -138,8 +146,9 @@ abbrev pub IsRefused : List ℕ → ℕ → SuperError → Type 0
 IsRefused bytes sectors e = let s = backing_of (fields_in bytes) in
     FirstFault bytes e
     (Unless (IsBackingVersion s.version) (e ≡ errors.Version s.version)
+    (Unless (HasNoFeatures 6 (fields_in bytes)) (e ≡ errors.Features)
     (Unless (IsDataOffset sectors s.data_offset) (e ≡ errors.DataOffset)
-    (Unless (state_number s.flags ≢ 3) (e ≡ errors.Stale) ⊥)))
+    (Unless (state_number s.flags ≢ 3) (e ≡ errors.Stale) ⊥))))
 
 -- ---- the numbers of errors
 
@@ -164,3 +173,4 @@ number_of errors.Stale = 16
 number_of errors.OtherSet = 17
 number_of errors.Initialised = 18
 number_of errors.Fault = 19
+number_of errors.Features = 20

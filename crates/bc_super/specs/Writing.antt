@@ -61,7 +61,8 @@ fields_of s = record {
   label = s.label;
   flags = s.flags;
   seq = s.seq;
-  nbuckets = if s.version == 4 then s.data_offset else 0;
+  features = replicate 24 0;
+  nbuckets = if s.version == 1 then 0 else s.data_offset;
   block = s.block;
   bucket = 0;
   devices = 0;
@@ -98,6 +99,7 @@ cache_fields_of s = record {
   label = s.label;
   flags = s.flags;
   seq = s.seq;
+  features = replicate 24 0;
   nbuckets = s.nbuckets;
   block = s.block;
   bucket = s.bucket;

@@ -16,7 +16,7 @@ use bc_disk::disk::{Disk, Failed};
 /// What a backing device says of itself.
 #[derive(Clone, Copy, Debug, PartialEq, Eq, Drop)]
 pub struct BackingSuper {
-    /// The version of the format, 1 or 4.
+    /// The version of the format: 1, 4 or 6.
     pub version: u64,
     /// The uuid of the device.
     pub uuid: [u8; 16],
@@ -41,6 +41,9 @@ const FIXED_VERSION: u64 = 1;
 
 /// The version of a backing device that tells where its data begins.
 const OFFSET_VERSION: u64 = 4;
+
+/// The same with feature words.
+const FEATURE_VERSION: u64 = 6;
 
 impl BackingSuper {
     /// How requests are to use a cache. A number above 3 counts as writethrough.
@@ -71,10 +74,10 @@ fn from_fields(fields: &Fields) -> BackingSuper
         seq: fields.seq,
         block: fields.block,
         last_mount: fields.last_mount,
-        data_offset: if fields.version == OFFSET_VERSION {
-            fields.nbuckets
-        } else {
+        data_offset: if fields.version == FIXED_VERSION {
             DATA_START
+        } else {
+            fields.nbuckets
         },
     }
 }
@@ -86,9 +89,13 @@ fn decode(bytes: &[u8], sectors: u64) -> Result<BackingSuper, SuperError>
     ensures refused { IfErr result (λ e. IsRefused bytes.now sectors e) }
 {
     check_head(bytes)?;
-    let s = from_fields(&get_fields(bytes));
-    if s.version != FIXED_VERSION && s.version != OFFSET_VERSION {
+    let fields = get_fields(bytes);
+    let s = from_fields(&fields);
+    if s.version != FIXED_VERSION && s.version != OFFSET_VERSION && s.version != FEATURE_VERSION {
         return Err(SuperError::Version(s.version));
+    }
+    if s.version == FEATURE_VERSION && fields.features != [0; 24] {
+        return Err(SuperError::Features);
     }
     if s.data_offset < DATA_START || sectors <= s.data_offset {
         return Err(SuperError::DataOffset);
@@ -99,12 +106,12 @@ fn decode(bytes: &[u8], sectors: u64) -> Result<BackingSuper, SuperError>
     }
 }
 
-/// Reads the superblock of a backing device of version 1 or 4, from sector 8 on. Takes no memory.
+/// Reads the superblock of a backing device of version 1, 4 or 6, from sector 8 on. Takes no memory.
 ///
 /// The error is the first of these that holds: `DeviceSmall`, where the device has fewer than 16
 /// sectors; `Fault`, where the read failed; `Magic`; `Place`; `JournalList`, where a list of more
-/// than 256 items is told; `Checksum`; `Version`; `DataOffset`, where data would begin before
-/// sector 16 or at none of the device's sectors; `Stale`. `DeviceSmall` is answered without a call
+/// than 256 items is told; `Checksum`; `Version`; `Features`, where one is set by version 6;
+/// `DataOffset`, where data would begin before sector 16 or at none of the device's sectors; `Stale`. `DeviceSmall` is answered without a call
 /// of the device. Each other answer has made one call, which leaves what the device holds as it
 /// was.
 pub fn read_backing<D: Disk>(disk: &mut D) -> Result<BackingSuper, SuperError>
@@ -138,10 +145,11 @@ fn to_fields(s: &BackingSuper) -> Fields
         label: s.label,
         flags: s.flags,
         seq: s.seq,
-        nbuckets: if s.version == OFFSET_VERSION {
-            s.data_offset
-        } else {
+        features: [0; 24],
+        nbuckets: if s.version == FIXED_VERSION {
             0
+        } else {
+            s.data_offset
         },
         block: s.block,
         bucket: 0,
@@ -163,7 +171,7 @@ fn encode(s: &BackingSuper) -> [u8; 512]
     bytes
 }
 
-/// Writes the superblock of a backing device of version 1 or 4 and makes it stable. It has no list,
+/// Writes the superblock of a backing device of version 1, 4 or 6 and makes it stable. It has no list,
 /// so it takes sector 8 alone, and a crash leaves it whole or as it was; no other sector is
 /// written. What it doesn't tell is written as zero. Takes no memory.
 ///

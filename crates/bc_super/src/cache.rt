@@ -2,7 +2,7 @@
 ghost use Rattle.std.specs.Prelude.{◌≡◌, ◌↔◌, ◌+◌, ◌*◌, ◌^◌, ◌<◌, ◌≤◌, length, IsTrue, IfOk, IfErr, OnOk, OnErr, IsErrOf};
 ghost use Rattle.bc_disk.specs.Disk.{IsKept, IsCounted};
 ghost use Rattle.bc_super.specs.Super.{fields_in};
-ghost use Rattle.bc_super.specs.Cache.{IsUsableCache, IsCacheSuper, IsCacheRefused, FirstLayoutFault, IsLayout, IsInitialised, HasJournal, cache_of};
+ghost use Rattle.bc_super.specs.Cache.{IsUsableCache, IsCacheSuper, IsCacheRefused, FirstLayoutFault, IsFirstBucket, IsLayout, IsInitialised, HasJournal, cache_of};
 ghost use Rattle.bc_super.specs.Reading.{ReadsCache, OnlyReadsCache, IsCacheCause, call_of};
 ghost use Rattle.bc_super.specs.Writing.{IsCacheBytes, IsCacheStored, IsCacheTorn, AreCounted, cache_fields_of};
 
@@ -17,7 +17,7 @@ use bc_disk::disk::{Disk, Failed};
 /// What a cache device says of itself.
 #[derive(Clone, Copy, Debug, PartialEq, Eq, Drop)]
 pub struct CacheSuper {
-    /// The version of the format, 0 or 3.
+    /// The version of the format: 0, 3 or 5.
     pub version: u64,
     /// The uuid of the device.
     pub uuid: [u8; 16],
@@ -45,6 +45,9 @@ pub struct CacheSuper {
     /// that was set up.
     pub journal: u16,
 }
+
+/// The version of a cache device with feature words.
+const FEATURE_VERSION: u64 = 5;
 
 // The fields of a cache device.
 fn from_fields(fields: &Fields) -> CacheSuper
@@ -77,13 +80,24 @@ fn has_journal(bytes: &[u8], fields: &Fields) -> bool
     !few && u64::from(first) + u64::from(count) <= fields.nbuckets && lists(bytes, first, count)
 }
 
+// Whether the first bucket begins behind what is set aside, and is one of the device's.
+fn is_first_bucket(f: &Fields) -> bool
+    ensures { IsTrue result ↔ IsFirstBucket f.now.bucket f.now.nbuckets f.now.first_bucket }
+{
+    let first = u64::from(f.first_bucket);
+    DATA_START <= first * u64::from(f.bucket) && first < f.nbuckets
+}
+
 // The first fault of how a cache device is divided.
 fn check_layout(f: &Fields, sectors: u64) -> Result<(), SuperError>
     ensures ok { OnOk result (IsLayout sectors f.now) }
     ensures refused { IfErr result (λ e. FirstLayoutFault sectors f.now e ⊥) }
 {
-    if f.version != 0 && f.version != 3 {
+    if f.version != 0 && f.version != 3 && f.version != FEATURE_VERSION {
         return Err(SuperError::Version(f.version));
+    }
+    if f.version == FEATURE_VERSION && f.features != [0; 24] {
+        return Err(SuperError::Features);
     }
     if !is_block(f.block) {
         return Err(SuperError::Block);
@@ -107,8 +121,7 @@ fn check_layout(f: &Fields, sectors: u64) -> Result<(), SuperError>
     if f.devices != 1 || f.device != 0 {
         return Err(SuperError::SetNumber);
     }
-    let first = u64::from(f.first_bucket);
-    if first * bucket < DATA_START || f.nbuckets <= first {
+    if !is_first_bucket(f) {
         return Err(SuperError::FirstBucket);
     }
     Ok(())
@@ -129,11 +142,11 @@ fn decode(bytes: &[u8], sectors: u64) -> Result<CacheSuper, SuperError>
     Ok(from_fields(&fields))
 }
 
-/// Reads the superblock of a cache device of version 0 or 3, from sector 8 on. Takes no memory.
+/// Reads the superblock of a cache device of version 0, 3 or 5, from sector 8 on. Takes no memory.
 ///
 /// The error is the first of these that holds: `DeviceSmall`, where the device has fewer than 16
 /// sectors; `Fault`, where the read failed; `Magic`; `Place`; `JournalList`, where a list of more
-/// than 256 items is told; `Checksum`; `Version`; `Block`; `Bucket`; `FewBuckets`; `ManyBuckets`;
+/// than 256 items is told; `Checksum`; `Version`; `Features`, where one is set by version 5; `Block`; `Bucket`; `FewBuckets`; `ManyBuckets`;
 /// `DeviceSmall`, where the device has fewer sectors than its buckets; `ZeroUuid`; `SetNumber`;
 /// `FirstBucket`; `JournalList`. On fewer than 16 sectors no call of the device is made. Each other
 /// answer has made one call, which leaves what the device holds as it was.
@@ -175,6 +188,7 @@ fn to_fields(s: &CacheSuper) -> Fields
         label: s.label,
         flags: s.flags,
         seq: s.seq,
+        features: [0; 24],
         nbuckets: u64::from(s.nbuckets),
         block: s.block,
         bucket: s.bucket,

@@ -47,6 +47,8 @@ pub enum SuperError {
     Initialised,
     /// The device failed while its superblock was read.
     Fault,
+    /// A feature word is set, of which nothing is known.
+    Features,
 }
 
 impl SuperError {
@@ -76,6 +78,7 @@ impl SuperError {
             SuperError::OtherSet => 17,
             SuperError::Initialised => 18,
             SuperError::Fault => 19,
+            SuperError::Features => 20,
         }
     }
 }

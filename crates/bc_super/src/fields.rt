@@ -23,8 +23,10 @@ pub struct Fields {
     pub flags: u64,
     /// How often the superblock was written.
     pub seq: u64,
+    /// The feature words, which are looked at by versions 5 and 6 alone.
+    pub features: [u8; 24],
     /// How many buckets a cache device has; the sector at which the data of a backing device of
-    /// version 4 begins.
+    /// version 4 or 6 begins.
     pub nbuckets: u64,
     /// The sectors of a block.
     pub block: u16,
@@ -64,6 +66,7 @@ pub(crate) fn get_fields(bytes: &[u8]) -> Fields
         label: part(bytes, 72),
         flags: get_u64(bytes, 104),
         seq: get_u64(bytes, 112),
+        features: part(bytes, 120),
         nbuckets: get_u64(bytes, 184),
         block: get_u16(bytes, 192),
         bucket: get_u16(bytes, 194),
@@ -117,9 +120,10 @@ fn put_layout(bytes: &mut [u8], fields: &Fields)
 }
 
 /// Writes the magic, the place and the fields. There are at least 208 bytes, and those of the
-/// checksum, of the feature words and the pad, and of the list stay.
+/// checksum, of the feature words and the pad, and of the list stay: the feature words stand there.
 pub(crate) fn put_fields(bytes: &mut [u8], fields: &Fields)
-    requires { 208 ≤ length bytes.old }
+    requires room { 208 ≤ length bytes.old }
+    requires features { slice_range bytes.old 120 144 ≡ fields.now.features }
     ensures has_magic { HasMagic bytes.new }
     ensures place { place_in bytes.new ≡ 8 }
     ensures fields { fields_in bytes.new ≡ fields.now }

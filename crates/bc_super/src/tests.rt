@@ -276,7 +276,14 @@ fn changed_backing_devices(rt: HostRuntime) -> Result<(), Fail> {
         (80, 4, 0, 15, Err(SuperError::DataOffset)),
         (16, 1, 0, 0, Err(SuperError::DataOffset)),
         (16, 0, 3 << 61, 0, Err(SuperError::Version(0))),
-        (80, 6, 0, 16, Err(SuperError::Version(6))),
+        (80, 5, 0, 16, Err(SuperError::Version(5))),
+        (
+            80,
+            6,
+            1 + (1 << 61),
+            64,
+            Ok((64, Mode::Writeback, BackingState::Clean)),
+        ),
         (15, 1, 0, 0, Err(SuperError::DeviceSmall)),
     ] {
         let mut bytes = SMALL_BACKING;
@@ -286,6 +293,28 @@ fn changed_backing_devices(rt: HostRuntime) -> Result<(), Fail> {
         let mut disk = disk(&rt, rt.alloc(), sectors, &summed(&bytes))?;
         let read = read_backing(&mut disk).map(|s| (s.data_offset, s.mode(), s.state()));
         assert_eq!(rt; read, wanted, "version {version} on {sectors} sectors");
+    }
+    Ok(())
+}
+
+#[test]
+fn feature_words(rt: HostRuntime) -> Result<(), Fail> {
+    for (place, word) in [(120, 1), (128, 1 << 63), (136, 7)] {
+        for (version, wanted) in [(4, Ok(64)), (6, Err(SuperError::Features))] {
+            let mut bytes = SMALL_BACKING;
+            put_u64(&mut bytes, 16, version);
+            put_u64(&mut bytes, 184, 64);
+            put_u64(&mut bytes, place, word);
+            let mut disk = disk(&rt, rt.alloc(), 80, &summed(&bytes))?;
+            assert_eq!(rt; read_backing(&mut disk).map(|s| s.data_offset), wanted);
+        }
+        for (version, wanted) in [(3, Ok(3)), (5, Err(SuperError::Features))] {
+            let mut bytes = SMALL_CACHE;
+            put_u64(&mut bytes, 16, version);
+            put_u64(&mut bytes, place, word);
+            let mut disk = disk(&rt, rt.alloc(), 8192, &summed(&bytes))?;
+            assert_eq!(rt; read_cache(&mut disk).map(|s| s.version), wanted);
+        }
     }
     Ok(())
 }

@@ -19,6 +19,7 @@ returns-clause-fields c =
     let label = others.parts 72 104 (inl (omega arith)) ∙ names.label in
     let flags = others.numbers 8 104 (inl (omega arith)) ∙ names.flags in
     let seq = others.numbers 8 112 (inl (omega arith)) ∙ names.seq in
+    let features = others.parts 120 144 (inl (omega arith)) ∙ c.put_names.ensures.others.parts 120 144 (inr (omega arith)) ∙ c.requires.features in
     λ i. record {
       version = version i;
       uuid = uuid i;
@@ -26,6 +27,7 @@ returns-clause-fields c =
       label = label i;
       flags = flags i;
       seq = seq i;
+      features = features i;
       nbuckets = layout.nbuckets i;
       block = layout.block i;
       bucket = layout.bucket i;
