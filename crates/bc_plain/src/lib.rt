@@ -2,7 +2,10 @@
 //! the real program, so that a wrong definition shows as a wrong number.
 #![tactic(auto)]
 
+#[cfg(test)]
+mod candidates;
 pub mod device;
+pub mod flight;
 pub mod history;
 mod image;
 pub mod journal;

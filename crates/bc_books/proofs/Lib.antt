@@ -1,0 +1,11 @@
+pub mod Cases
+pub mod Counts
+pub mod Places
+pub mod Marked
+pub mod Known
+pub mod Opening
+pub mod Safety
+pub mod Later
+pub mod Small
+pub mod Runs
+pub mod Broken

@@ -1,0 +1,5 @@
+use Rattle.bc_books.proofs.Broken.{law_teeth_walked}
+use Rattle.bc_books.proofs.teeth.law_teeth_walked.Goals as goal
+
+pub returns : goal.returns
+returns c = law_teeth_walked

@@ -1,0 +1,13 @@
+pub mod Index
+pub mod Versions
+pub mod Shelves
+pub mod Marks
+pub mod Chains
+pub mod Round
+pub mod Books
+pub mod Enabled
+pub mod After
+pub mod Invariant
+pub mod Laws
+pub mod Example
+pub mod Teeth

@@ -1,0 +1,5 @@
+pub mod Collect
+pub mod Spare
+pub mod Reserve
+pub mod Next
+pub mod Runs

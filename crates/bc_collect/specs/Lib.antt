@@ -1,0 +1,4 @@
+pub mod Collect
+pub mod Spare
+pub mod Next
+pub mod Example
