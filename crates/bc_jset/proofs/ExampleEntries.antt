@@ -1,5 +1,6 @@
 -- The example journals, computed.
-use Rattle.std.proofs.Common.{◌≡◌, inl, ℕ, suc, ◌-◌, ◌<◌, ◌≤◌, List, [], ◌∷◌, ◌++◌, length, take, Some, None, refl, subst, ap, ◌∙◌, lit<, lit≤, arith}
+use Rattle.std.proofs.lemmas.Bool.{cases_lt}
+use Rattle.std.proofs.Common.{◌≡◌, inl, inr, ℕ, suc, ◌-◌, ◌<◌, ◌≤◌, List, [], ◌∷◌, ◌++◌, length, take, Some, None, refl, subst, ap, ◌∙◌, lit<, lit≤, arith}
 use Rattle.std.specs.Prelude.{replicate}
 use Rattle.std.proofs.lemmas.List.{take-append-le}
 use Rattle.std.proofs.lemmas.List.Elements.{All-nil, All-cons}
@@ -16,10 +17,10 @@ use Rattle.bc_jset.specs.Example.{example_bytes}
 use Rattle.bc_jset.specs.ExampleEntries.{example_geometry, first_numbers, second_numbers, sector_with, example_image, gapped_image}
 use Rattle.bc_jset.specs.EntryBytes.{IsEntry, HasChecksum, bytes_of}
 use Rattle.bc_jset.specs.Records.{EntryFound}
-use Rattle.bc_jset.specs.Entries.{StandIn, first_with, AreNumbered, AreEntries}
+use Rattle.bc_record.specs.Places.{at_place}
+use Rattle.bc_jset.specs.Entries.{FoundEntry, StandIn, first_with, IsNewest, AreNumbered, AreEntries, IsGap, HasGap}
 use Rattle.bc_jset.proofs.EntryLaws.{entry_stays}
 use Rattle.bc_jset.proofs.Records.{none_in_zeros}
-use Rattle.bc_jset.proofs.Entries.{one_stand, found_has}
 use Rattle.bc_jset.proofs.Example.{example_entry, example_is_entry}
 
 abbrev pub first_entry : JEntry
@@ -51,7 +52,7 @@ first_is_entry = record {
   extents = example_is_entry.extents;
 }
 
-second_is_entry : IsEntry 1 (sector_with second_numbers) second_entry
+pub second_is_entry : IsEntry 1 (sector_with second_numbers) second_entry
 unfolding number_at words_at
 second_is_entry = record {
   whole = record { header = record { room = lit≤ tt; magic = refl; version = refl }; few = lit≤ tt; long = lit≤ tt; checksum = second_checksum };
@@ -67,7 +68,7 @@ second_is_entry = record {
 }
 
 -- an entry that begins a sector is found there
-found_in_sector : (image : Image) (end place : ℕ) (value : List ℕ) (e : JEntry) → image place ≡ value → length value ≡ 512 → bytes_of e ≤ 512 → 0 < end - place → IsEntry 1 value e → EntryFound example_geometry image end place e
+pub found_in_sector : (image : Image) (end place : ℕ) (value : List ℕ) (e : JEntry) → image place ≡ value → length value ≡ 512 → bytes_of e ≤ 512 → 0 < end - place → IsEntry 1 value e → EntryFound example_geometry image end place e
 unfolding bytes_in
 found_in_sector image end place value e here whole small some is =
     entry_stays 1 value (bytes_to image end place) e is
@@ -75,10 +76,16 @@ found_in_sector image end place value e here whole small some is =
     ∙ ap (λ (v : List ℕ). take (bytes_of e) (v ++ [])) (ap sector_bytes here ∙ sector_of_whole value whole)
     ∙ take-append-le (bytes_of e) value [] (omega (arith, small, whole)))
 
-two_stand : StandIn example_geometry example_image 2 (second_entry ∷ first_entry ∷ [])
+abbrev pub first_found : FoundEntry
+first_found = at_place 128 first_entry
+
+abbrev pub second_found : FoundEntry
+second_found = at_place 64 second_entry
+
+two_stand : StandIn example_geometry example_image 2 (second_found ∷ first_found ∷ [])
 unfolding words_of
 two_stand = (
-  second_entry ∷ [],
+  second_found ∷ [],
   first_entry ∷ [],
   (
     [],
@@ -97,12 +104,12 @@ two_stand = (
   refl,
 )
 
-pub two_entries : AreEntries example_geometry example_image (first_entry ∷ second_entry ∷ [])
+pub two_entries : AreEntries example_geometry example_image (first_found ∷ second_found ∷ [])
 two_entries = record {
-  all = second_entry ∷ first_entry ∷ [];
+  all = second_found ∷ first_found ∷ [];
   stand = two_stand;
-  newest = second_entry;
-  is_newest = record { counts = refl; greatest = All-cons (λ (e : JEntry). e.seq ≤ 2) second_entry (first_entry ∷ []) (lit≤ tt) (All-cons (λ (e : JEntry). e.seq ≤ 2) first_entry [] (lit≤ tt) (All-nil (λ (e : JEntry). e.seq ≤ 2))) };
+  newest = second_found;
+  is_newest = record { counts = refl; greatest = All-cons (λ (e : FoundEntry). e.item.seq ≤ 2) second_found (first_found ∷ []) (lit≤ tt) (All-cons (λ (e : FoundEntry). e.item.seq ≤ 2) first_found [] (lit≤ tt) (All-nil (λ (e : FoundEntry). e.item.seq ≤ 2))) };
   reaches = lit≤ tt;
   numbered = (refl, (refl, refl));
 }
@@ -113,10 +120,13 @@ gapped_is_entry : IsEntry 1 (example_bytes ++ replicate 248 0) example_entry
 unfolding words_of
 gapped_is_entry = entry_stays 1 example_bytes (example_bytes ++ replicate 248 0) example_entry example_is_entry refl
 
-gapped_stand : StandIn example_geometry gapped_image 2 (example_entry ∷ [])
+abbrev seventh_found : FoundEntry
+seventh_found = at_place 64 example_entry
+
+gapped_stand : StandIn example_geometry gapped_image 2 (seventh_found ∷ [])
 unfolding words_of
 gapped_stand = (
-  example_entry ∷ [],
+  seventh_found ∷ [],
   [],
   (
     [],
@@ -132,14 +142,17 @@ gapped_stand = (
   refl,
 )
 
-no_fifth : (es : List JEntry) → AreNumbered (example_entry ∷ []) 5 es 8 → ⊥
-no_fifth [] p = omega (arith, p)
-no_fifth (e ∷ es) p = let none : first_with 5 (example_entry ∷ []) ≡ None = refl in absurd (cc)
+two_missing : (k : ℕ) → 5 ≤ k → k ≤ 6 → first_with k (seventh_found ∷ []) ≡ None
+two_missing k low high = elim (cases_lt k 6) [
+  | inl five ↦ let same : 5 ≡ k = omega arith in subst (λ n. first_with n (seventh_found ∷ []) ≡ None) same refl
+  | inr six ↦ let same : 6 ≡ k = omega arith in subst (λ n. first_with n (seventh_found ∷ []) ≡ None) same refl
+]
 
-pub gap_is_refused : (es : List JEntry) → AreEntries example_geometry gapped_image es → ⊥
-gap_is_refused es p =
-    let all : p.all ≡ example_entry ∷ [] = one_stand example_geometry gapped_image 2 p.all (example_entry ∷ []) p.stand gapped_stand in
-    let counts = subst (λ (xs : List JEntry). first_with p.newest.seq xs ≡ Some p.newest) all p.is_newest.counts in
-    let newest : p.newest ≡ example_entry = found_has (λ e. e ≡ example_entry) p.newest.seq (example_entry ∷ []) p.newest (All-cons (λ (e : JEntry). e ≡ example_entry) example_entry [] refl (All-nil (λ (e : JEntry). e ≡ example_entry))) counts in
-    let numbered = subst (λ (e : JEntry). AreNumbered (example_entry ∷ []) e.last_seq es (suc e.seq)) newest (subst (λ (xs : List JEntry). AreNumbered xs p.newest.last_seq es (suc p.newest.seq)) all p.numbered) in
-    no_fifth es numbered
+pub gap_is_found : HasGap example_geometry gapped_image 5 6
+gap_is_found = record {
+  all = seventh_found ∷ [];
+  stand = gapped_stand;
+  newest = seventh_found;
+  is_newest = record { counts = refl; greatest = All-cons (λ (e : FoundEntry). e.item.seq ≤ 7) seventh_found [] (lit≤ tt) (All-nil (λ (e : FoundEntry). e.item.seq ≤ 7)) };
+  gap = inr (record { begins = lit≤ tt; order = lit≤ tt; before = λ k from to. absurd (omega arith); missing = two_missing; behind = (seventh_found, refl) });
+}

@@ -7,17 +7,19 @@ use Rattle.bc_model.specs.Pattern.{zeros}
 use Rattle.bc_disk.specs.declared.geometry.Geometry.{Geometry}
 use Rattle.bc_record.specs.Sectors.{bytes_to}
 use Rattle.bc_record.proofs.Blocks.{block_some}
-use Rattle.bc_record.proofs.Found.{IsCodec}
+use Rattle.bc_record.specs.Codec.{IsCodec}
 use Rattle.bc_record.proofs.Parts.{length-bytes_in, zeros_in_front}
 use Rattle.bc_jset.specs.declared.entry.JEntry.{JEntry}
 use Rattle.bc_jset.specs.EntryBytes.{version_in}
 use Rattle.bc_jset.specs.Records.{entry_kind, EntryFound}
 use Rattle.bc_jset.proofs.EntryLaws.{one_entry, entry_fits, entry_stays}
+use Rattle.bc_jset.proofs.Deciders.{entry_or_none}
 
 pub entry_codec : (g : Geometry) → IsCodec (entry_kind g)
 entry_codec g = record {
   block = block_some g;
   some = λ e. omega arith;
+  decide = entry_or_none g.set_magic;
   one = one_entry g.set_magic;
   fits = entry_fits g.set_magic;
   stays = entry_stays g.set_magic;

@@ -4,3 +4,4 @@ pub mod Example
 pub mod Records
 pub mod Entries
 pub mod ExampleEntries
+pub mod Ring

@@ -1,5 +1,5 @@
 //! What the definitions come to: each law is the contract of a function.
-ghost use Rattle.std.specs.Prelude.{◌≡◌, ◌↔◌, ◌+◌, ◌*◌, ◌<◌, ◌≤◌, ℕ, List, [], ◌∷◌, ◌++◌, length, drop, slice_range, All};
+ghost use Rattle.std.specs.Prelude.{◌≡◌, ◌↔◌, ◌⊎◌, ◌+◌, ◌*◌, ◌<◌, ◌≤◌, ℕ, List, [], ◌∷◌, ◌++◌, length, drop, slice_range, All, Any};
 ghost use Rattle.bc_bytes.specs.Fields.{number_at};
 ghost use Rattle.bc_jset.specs.declared.entry.JEntry.{JEntry};
 ghost use Rattle.bc_jset.specs.declared.error.JsetError.{JsetError};
@@ -13,10 +13,14 @@ ghost use Rattle.bc_record.specs.Sectors.{Has, AgreeOn};
 ghost use Rattle.bc_record.specs.Kind.{AreFound, behind};
 ghost use Rattle.bc_jset.specs.Records.{entry_kind, entry_sectors, EntryFound};
 ghost use Rattle.bc_jset.specs.ExampleEntries.{example_geometry, example_image, gapped_image};
-ghost use Rattle.bc_jset.specs.Entries.{AreEntries, CountUp, StandsInJournal, bucket_start};
+ghost use Rattle.bc_jset.specs.Entries.{FoundEntry, HasNoJournal, HasGap, AreEntries, CountUp, StandsInJournal, bucket_start};
+ghost use Rattle.bc_jset.specs.Ring.{bucket_of, greatest_in, IsNextPlace};
+ghost use Rattle.bc_record.specs.Codec.{Decided};
 
-/// Bytes begin with one entry at most, or they are refused for one reason at most, and never both.
+/// Bytes begin with one entry or with none, or they are refused for one reason at most, and never
+/// both.
 pub fn one_reading()
+    ensures either { (magic : ℕ) (bytes : List ℕ) → Decided ((e : JEntry) × IsEntry magic bytes e) }
     ensures one_entry { (magic : ℕ) (bytes : List ℕ) (d e : JEntry)
         → IsEntry magic bytes d → IsEntry magic bytes e → d ≡ e }
     ensures never_both { (magic : ℕ) (bytes : List ℕ) (e : JEntry) (f : JsetError)
@@ -89,24 +93,53 @@ pub fn found_is_spelled()
 /// A device has one list of entries at most. Each number from the oldest one's to the newest one's
 /// stands in it once, in order, and each of its entries stands in the journal.
 pub fn one_list()
-    ensures one { (g : Geometry) (image : Image) (ds es : List JEntry)
+    ensures one { (g : Geometry) (image : Image) (ds es : List FoundEntry)
         → AreEntries g image ds → AreEntries g image es → ds ≡ es }
-    ensures numbers { (g : Geometry) (image : Image) (es : List JEntry)
+    ensures numbers { (g : Geometry) (image : Image) (es : List FoundEntry)
         → AreEntries g image es → CountUp es }
-    ensures stand { (g : Geometry) (image : Image) (es : List JEntry)
+    ensures stand { (g : Geometry) (image : Image) (es : List FoundEntry)
         → AreEntries g image es → All (StandsInJournal g image) es }
+{}
+
+/// Of each image one of three things holds and no other: no entry is found, or the entries have a gap,
+/// which is one, or they are a list.
+pub fn one_of_three()
+    ensures either { (g : Geometry) (image : Image) → HasNoJournal g image
+        ⊎ (((from to : ℕ) × HasGap g image from to) ⊎ ((es : List FoundEntry) × AreEntries g image es)) }
+    ensures no_gap { (g : Geometry) (image : Image) (from to : ℕ)
+        → HasNoJournal g image → HasGap g image from to → ⊥ }
+    ensures no_list { (g : Geometry) (image : Image) (es : List FoundEntry)
+        → HasNoJournal g image → AreEntries g image es → ⊥ }
+    ensures never_both { (g : Geometry) (image : Image) (from to : ℕ) (es : List FoundEntry)
+        → HasGap g image from to → AreEntries g image es → ⊥ }
+    ensures one_gap { (g : Geometry) (image : Image) (a b c d : ℕ)
+        → HasGap g image a b → HasGap g image c d → (a ≡ c) × (b ≡ d) }
+{}
+
+/// The ring goes on at one place. The greatest number of a bucket is that of an entry there, or 0, and
+/// none that is found there is greater.
+pub fn ring_goes_on()
+    ensures some { (g : Geometry) (image : Image) (es : List FoundEntry)
+        (a : AreEntries g image es) → (next : ℕ) × IsNextPlace g es a.newest next }
+    ensures one { (g : Geometry) (es : List FoundEntry) (newest : FoundEntry) (m n : ℕ)
+        → IsNextPlace g es newest m → IsNextPlace g es newest n → m ≡ n }
+    ensures greatest { (g : Geometry) (bucket : ℕ) (all : List FoundEntry)
+        → All (λ e. bucket_of g e ≡ bucket → e.item.seq ≤ greatest_in g bucket all) all }
+    ensures found { (g : Geometry) (bucket : ℕ) (all : List FoundEntry)
+        → (greatest_in g bucket all ≡ 0) ⊎ Any (λ e. (bucket_of g e ≡ bucket)
+        × (e.item.seq ≡ greatest_in g bucket all)) all }
 {}
 
 /// The entries of a device rest on its journal alone.
 pub fn entries_stay()
-    ensures { (g : Geometry) (a b : Image) (es : List JEntry) → AreEntries g a es
+    ensures { (g : Geometry) (a b : Image) (es : List FoundEntry) → AreEntries g a es
         → AgreeOn a b (bucket_start g 0) (bucket_start g g.journal) → AreEntries g b es }
 {}
 
-/// There is a device with two entries, and one where entries are found and none are listed, since two
-/// numbers are missing.
+/// There is a device with two entries, the second one in a lower place, and one where entry 7 is found
+/// and none are listed, since it needs 5 and 6.
 pub fn example_entries()
-    ensures two { (d e : JEntry) × AreEntries example_geometry example_image (d ∷ e ∷ [])
-        × (d.seq ≡ 1) × (e.seq ≡ 2) }
-    ensures none { (es : List JEntry) → AreEntries example_geometry gapped_image es → ⊥ }
+    ensures two { (d e : FoundEntry) × AreEntries example_geometry example_image (d ∷ e ∷ [])
+        × (d.item.seq ≡ 1) × (e.item.seq ≡ 2) × (d.place ≡ 128) × (e.place ≡ 64) }
+    ensures gap { HasGap example_geometry gapped_image 5 6 }
 {}

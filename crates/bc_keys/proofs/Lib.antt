@@ -2,3 +2,4 @@ pub mod WordsAt
 pub mod KeyLists
 pub mod Readings
 pub mod OnePointer
+pub mod Deciders

@@ -1,11 +1,13 @@
 //! What the definitions come to: each law is the contract of a function.
-ghost use Rattle.std.specs.Prelude.{◌≡◌, ◌++◌, ℕ, List};
+ghost use Rattle.std.specs.Prelude.{◌≡◌, ◌⊎◌, ◌++◌, ℕ, List};
 ghost use Rattle.bc_key.specs.declared.error.KeyError.{KeyError};
 ghost use Rattle.bc_key.specs.declared.key.Key.{Key};
 ghost use Rattle.bc_keys.specs.Spelling.{SpellKeys, SpellThen, AreRefused, words_of_all};
 
-/// Words are one list of keys at most, or they are refused for one reason at most, and never both.
+/// Words are one list of keys or none, or they are refused for one reason at most, and never both.
 pub fn one_reading()
+    ensures either { (words : List ℕ) → ((keys : List Key) × SpellKeys words keys)
+        ⊎ (((keys : List Key) × SpellKeys words keys) → ⊥) }
     ensures one_list { (words : List ℕ) (a b : List Key)
         → SpellKeys words a → SpellKeys words b → a ≡ b }
     ensures never_both { (words : List ℕ) (keys : List Key) (fault : KeyError)

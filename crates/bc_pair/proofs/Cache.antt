@@ -1,5 +1,5 @@
 -- Where the parts of a cache device stand, and what it is made of.
-use Rattle.std.proofs.Common.{◌≡◌, ◌⊎◌, inl, inr, ℕ, ◌+◌, ◌*◌, ◌<◌, ◌≤◌, List, [], ◌∷◌, length, take, drop, replicate, length-drop, refl, sym, ap, ◌∙◌, arith}
+use Rattle.std.proofs.Common.{◌≡◌, ◌⊎◌, inl, inr, ℕ, zero, suc, slice_index_or, ◌+◌, ◌*◌, ◌<◌, ◌≤◌, List, [], ◌∷◌, length, take, drop, replicate, length-drop, refl, sym, ap, ◌∙◌, arith}
 use Rattle.std.proofs.Math.Nat.{mul-le-mul_left, mul-add}
 use Rattle.std.proofs.Common.{mul-le-mul}
 use Rattle.std.specs.Prelude.{Option, Some, None, if◌then◌else◌}
@@ -13,7 +13,8 @@ use Rattle.bc_super.specs.Writing.{IsCacheBytes, IsCacheStored, IsCacheTorn, IsL
 use Rattle.bc_super.specs.declared.backing.BackingSuper.{BackingSuper}
 use Rattle.bc_super.specs.declared.cache.CacheSuper.{CacheSuper}
 use Rattle.bc_super.specs.declared.geometry.Layout.{Layout}
-use Rattle.bc_uuid.specs.Table.{AreWritten, IsTable, entries_in}
+use Rattle.bc_uuid.specs.Table.{AreWritten, IsTable, entries_in, entry_bytes}
+use Rattle.bc_uuid.proofs.Unique.{timeless_says}
 use Rattle.bc_uuid.specs.declared.entry.UuidEntry.{UuidEntry}
 use Rattle.bc_pair.specs.Made.{IsMadeCache, IsMadeImage, IsTableBytes, IsUnfinished, IsWrittenSector, over, zeros}
 use Rattle.bc_pair.specs.Found.{HasBlankJournal, IsJournalSector, IsTableOf}
@@ -76,6 +77,12 @@ first_only : (first : Value) (s : ℕ) (v : Value) → at_run 8 (first ∷ []) s
 first_only first s v given = let range = at_range 8 (first ∷ []) s v given in omega (arith, range.0, range.1)
 
 -- ---- the journal and the table
+
+-- each entry of the table is one without times
+no_times : (b : BackingSuper) (entries : List UuidEntry) → IsTableOf b entries → (i : ℕ) → i < length entries → (d : UuidEntry)
+    → ((slice_index_or entries i d).first_reg ≡ 0) × ((slice_index_or entries i d).last_reg ≡ 0) × ((slice_index_or entries i d).invalidated ≡ 0)
+no_times b entries of zero inside d = (of.first d).no_times
+no_times b entries of (suc i) inside d = (of.others (suc i) d (omega arith) inside).no_times
 
 abbrev pub IsTableSector : Layout → ℕ → Type 0
 IsTableSector l s = (l.geometry.bucket * l.uuid ≤ s) × (s < l.geometry.bucket * (l.uuid + 1))
@@ -174,13 +181,13 @@ module _ (l : Layout) (sectors : ℕ) (room : HasRoom l sectors) where
     pub blank_found : (old new : DiskFacts) → Becomes (whole_of super table) old new → HasBlankJournal l.geometry new
     blank_found old new turns = told_by (whole_of super table) (λ held. (s : ℕ) → IsJournalSector l.geometry s → held s ≡ replicate 512 0) blank_there old.holds new.holds turns
 
-    pub table_found : (entries : List UuidEntry) → length entries ≡ entries_in l.geometry → AreWritten table entries → (old new : DiskFacts) → Becomes (whole_of super table) old new → IsTable l.geometry new l.uuid entries
-    table_found entries many holds old new turns = record {
+    pub table_found : (b : BackingSuper) (entries : List UuidEntry) → length entries ≡ entries_in l.geometry → IsTableOf b entries → AreWritten table entries → (old new : DiskFacts) → Becomes (whole_of super table) old new → IsTable l.geometry new l.uuid entries
+    table_found b entries many of holds old new turns = record {
       bytes = table;
       whole = fills;
       read = told_by (whole_of super table) (λ held. Gives (l.geometry.bucket * l.uuid) (values_of table) (λ s v. v ≡ held s)) table_there old.holds new.holds turns;
       many = many;
-      holds = λ i inside d. (holds i inside d).says;
+      holds = λ i inside d. (let times = no_times b entries of i inside d in timeless_says (entry_bytes table i) (slice_index_or entries i d) times.0 times.1 times.2 (holds i inside d));
     }
 
   pub whole_becomes : (table super : List ℕ) (old one two three new : DiskFacts) → Becomes (over (l.geometry.bucket * l.geometry.first_bucket) (zeros (l.geometry.bucket * l.geometry.journal))) old one

@@ -51,7 +51,7 @@ fn write_cache_device<C: Disk>(
     ensures failed { OnErr result ((b : BackingSuper) → IsTableOf b table.now → IsUnfinished l.now c.now b (C.facts cache.old) (C.facts cache.new)) }
     ensures reads { OnOk result (OnlyReadsCache (C.facts cache.new) c.now) }
     ensures journal { OnOk result (HasBlankJournal l.now.geometry (C.facts cache.new)) }
-    ensures table { OnOk result (IsTable l.now.geometry (C.facts cache.new) l.now.uuid table.now) }
+    ensures table { OnOk result ((b : BackingSuper) → IsTableOf b table.now → IsTable l.now.geometry (C.facts cache.new) l.now.uuid table.now) }
     ensures counted { AreCounted (cache_calls l.now) result (C.facts cache.old) (C.facts cache.new) }
 {
     zero_journal(cache, &l.geometry, buffer)?;

@@ -7,7 +7,9 @@ use Rattle.bc_model.specs.Sector.{Image}
 use Rattle.bc_disk.specs.Bytes.{image_of}
 use Rattle.bc_disk.specs.declared.geometry.Geometry.{Geometry}
 use Rattle.bc_record.specs.Sectors.{bytes_to}
-use Rattle.bc_record.specs.Kind.{Kind, sectors_of, IsFound, AreFound}
+use Rattle.bc_record.specs.Kind.{Kind, sectors_of, IsFound, AreFound, behind}
+use Rattle.bc_record.specs.Places.{at_place, placed}
+use Rattle.bc_record.specs.declared.placed.Placed.{Placed}
 use Rattle.bc_record.proofs.Parts.{bytes_to-image_of}
 use Rattle.bc_record.proofs.Blocks.{block_some}
 use Rattle.bc_record.proofs.Found.{found_fits, takes_some}
@@ -16,7 +18,7 @@ use Rattle.bc_jset.proofs.Entries.{one_stand, one_newest, found_has, found_numbe
 use Rattle.bc_jset.specs.EntryBytes.{bytes_of}
 use Rattle.bc_jset.specs.declared.entry.JEntry.{JEntry}
 use Rattle.bc_jset.specs.Records.{entry_kind, entry_sectors, EntryFound}
-use Rattle.bc_jset.specs.Entries.{bucket_end, StandIn, first_with, IsNewest, AreNumbered, AreEntries}
+use Rattle.bc_jset.specs.Entries.{FoundEntry, bucket_end, StandIn, first_with, IsNewest, AreNumbered, AreEntries}
 
 -- the bytes that are read
 pub part_is : (bytes part : List ℕ) (end place : ℕ) → place ≤ end → 512 * end ≤ length bytes → part ≡ slice_range bytes (512 * place) (512 * end) → bytes_to (image_of bytes) end place ≡ part
@@ -32,6 +34,23 @@ pub lists_more : {A : Type 0} (kind : Kind A) (image : Image) (end start place n
     → ListsOn kind image end start (here ++ e ∷ []) next
 lists_more {A = A} kind image end start place next here e so found is rest more =
     subst (λ (xs : List A). AreFound kind image end start xs) (sym (append_assoc here (e ∷ []) rest)) (so (e ∷ rest) (found, subst (λ (p : ℕ). AreFound kind image end p rest) is more))
+
+-- one more, with its place
+pub placed_more : {A : Type 0} (kind : Kind A) (start place : ℕ) (before : List (Placed A)) (here : List A) (e : A) → place ≡ behind kind start here
+    → (before ++ placed kind start here) ++ at_place place e ∷ [] ≡ before ++ placed kind start (here ++ e ∷ [])
+placed_more {A} kind start place before here e is =
+    append_assoc before (placed kind start here) (at_place place e ∷ []) ∙ ap (λ (ps : List (Placed A)). before ++ ps) (go start here is)
+  where
+    go : (from : ℕ) (xs : List A) → place ≡ behind kind from xs → placed kind from xs ++ at_place place e ∷ [] ≡ placed kind from (xs ++ e ∷ [])
+    go from [] at = ap (λ (p : ℕ). at_place p e ∷ []) at
+    go from (x ∷ xs) at = ap (λ (ps : List (Placed A)). at_place from x ∷ ps) (go (from + sectors_of kind x) xs at)
+
+pub behind_more : {A : Type 0} (kind : Kind A) (start place : ℕ) (here : List A) (e : A) → place ≡ behind kind start here → place + sectors_of kind e ≡ behind kind start (here ++ e ∷ [])
+behind_more {A} kind start place here e is = go start here is
+  where
+    go : (from : ℕ) (xs : List A) → place ≡ behind kind from xs → place + sectors_of kind e ≡ behind kind from (xs ++ e ∷ [])
+    go from [] at = ap (λ (p : ℕ). p + sectors_of kind e) at
+    go from (x ∷ xs) at = go (from + sectors_of kind x) xs at
 
 -- ---- one bucket
 
@@ -67,58 +86,58 @@ taken g image end place blocks sectors e whole found is =
 
 -- ---- numbers
 
-pub numbered_more : (all : List JEntry) (low number : ℕ) (list : List JEntry) (e : JEntry)
-    → ((rest : List JEntry) (next : ℕ) → AreNumbered all number rest next → AreNumbered all low (list ++ rest) next) → first_with number all ≡ Some e
-    → (rest : List JEntry) (next : ℕ) → AreNumbered all (suc number) rest next → AreNumbered all low ((list ++ e ∷ []) ++ rest) next
+pub numbered_more : (all : List FoundEntry) (low number : ℕ) (list : List FoundEntry) (e : FoundEntry)
+    → ((rest : List FoundEntry) (next : ℕ) → AreNumbered all number rest next → AreNumbered all low (list ++ rest) next) → first_with number all ≡ Some e
+    → (rest : List FoundEntry) (next : ℕ) → AreNumbered all (suc number) rest next → AreNumbered all low ((list ++ e ∷ []) ++ rest) next
 numbered_more all low number list e so is rest next more =
-    subst (λ (xs : List JEntry). AreNumbered all low xs next) (sym (append_assoc list (e ∷ []) rest)) (so (e ∷ rest) next (is, more))
+    subst (λ (xs : List FoundEntry). AreNumbered all low xs next) (sym (append_assoc list (e ∷ []) rest)) (so (e ∷ rest) next (is, more))
 
 -- one number more is needed
-pub needs_more : (all : List JEntry) (number high : ℕ) → number < high → (es : List JEntry) → AreNumbered all number es (suc high) → (rest : List JEntry) × AreNumbered all (suc number) rest (suc high)
+pub needs_more : (all : List FoundEntry) (number high : ℕ) → number < high → (es : List FoundEntry) → AreNumbered all number es (suc high) → (rest : List FoundEntry) × AreNumbered all (suc number) rest (suc high)
 needs_more all number high below [] p = absurd (omega (arith, p))
 needs_more all number high below (e ∷ es) p = (es, p.1)
 
-pub none_numbered : (all : List JEntry) (number high : ℕ) → number ≤ high → first_with number all ≡ None → (es : List JEntry) → AreNumbered all number es (suc high) → ⊥
+pub none_numbered : (all : List FoundEntry) (number high : ℕ) → number ≤ high → first_with number all ≡ None → (es : List FoundEntry) → AreNumbered all number es (suc high) → ⊥
 none_numbered all number high low none [] p = omega (arith, p)
 none_numbered all number high low none (e ∷ es) p = let here = p.0 in cc
 
 -- ---- the list
 
-module _ (g : Geometry) (image : Image) (all : List JEntry) (stand : StandIn g image g.journal all) where
+module _ (g : Geometry) (image : Image) (all : List FoundEntry) (stand : StandIn g image g.journal all) where
   -- what a list of entries has as its newest one
-  newest_in : (es : List JEntry) → (p : AreEntries g image es) → IsNewest all p.newest
-  newest_in es p = subst (λ (xs : List JEntry). IsNewest xs p.newest) (one_stand g image g.journal p.all all p.stand stand) p.is_newest
+  newest_in : (es : List FoundEntry) → (p : AreEntries g image es) → IsNewest all p.newest
+  newest_in es p = subst (λ (xs : List FoundEntry). IsNewest xs p.newest) (one_stand g image g.journal p.all all p.stand stand) p.is_newest
 
-  numbered_in : (es : List JEntry) → (p : AreEntries g image es) → AreNumbered all p.newest.last_seq es (suc p.newest.seq)
-  numbered_in es p = subst (λ (xs : List JEntry). AreNumbered xs p.newest.last_seq es (suc p.newest.seq)) (one_stand g image g.journal p.all all p.stand stand) p.numbered
+  numbered_in : (es : List FoundEntry) → (p : AreEntries g image es) → AreNumbered all p.newest.item.last_seq es (suc p.newest.item.seq)
+  numbered_in es p = subst (λ (xs : List FoundEntry). AreNumbered xs p.newest.item.last_seq es (suc p.newest.item.seq)) (one_stand g image g.journal p.all all p.stand stand) p.numbered
 
   -- the greatest number is no entry's
-  pub no_newest : (number : ℕ) → All (λ (e : JEntry). e.seq ≤ number) all → ((n : ℕ) → All (λ (e : JEntry). e.seq ≤ n) all → number ≤ n) → first_with number all ≡ None → (es : List JEntry) → AreEntries g image es → ⊥
+  pub no_newest : (number : ℕ) → All (λ (e : FoundEntry). e.item.seq ≤ number) all → ((n : ℕ) → All (λ (e : FoundEntry). e.item.seq ≤ n) all → number ≤ n) → first_with number all ≡ None → (es : List FoundEntry) → AreEntries g image es → ⊥
   no_newest number above least none es p =
       let newest = newest_in es p in
-      let low = found_has (λ (e : JEntry). e.seq ≤ number) p.newest.seq all p.newest above newest.counts in
-      let high = least p.newest.seq newest.greatest in
-      let same : p.newest.seq ≡ number = omega (arith, low, high) in
+      let low = found_has (λ (e : FoundEntry). e.item.seq ≤ number) p.newest.item.seq all p.newest above newest.counts in
+      let high = least p.newest.item.seq newest.greatest in
+      let same : p.newest.item.seq ≡ number = omega (arith, low, high) in
       let counts = subst (λ (n : ℕ). first_with n all ≡ Some p.newest) same newest.counts in
       cc
 
-  pub newest_above : (newest : JEntry) → IsNewest all newest → newest.seq < newest.last_seq → (es : List JEntry) → AreEntries g image es → ⊥
+  pub newest_above : (newest : FoundEntry) → IsNewest all newest → newest.item.seq < newest.item.last_seq → (es : List FoundEntry) → AreEntries g image es → ⊥
   newest_above newest is above es p =
       let same = one_newest all p.newest newest (newest_in es p) is in
-      let reaches = subst (λ (e : JEntry). e.last_seq ≤ e.seq) same p.reaches in
+      let reaches = subst (λ (e : FoundEntry). e.item.last_seq ≤ e.item.seq) same p.reaches in
       omega (arith, reaches, above)
 
   -- an answer on the numbers is one on the entries
-  pub listed : {V E : Type 0} (items : V → List JEntry) (newest : JEntry) → IsNewest all newest → newest.last_seq ≤ newest.seq → (answer : Result (Option V) E)
-      → IfOk answer (λ o. MatchOption o ((es : List JEntry) → AreNumbered all newest.last_seq es (suc newest.seq) → ⊥) (λ list. AreNumbered all newest.last_seq (items list) (suc newest.seq)))
-      → IfOk answer (λ o. MatchOption o ((es : List JEntry) → AreEntries g image es → ⊥) (λ list. AreEntries g image (items list)))
+  pub listed : {V E : Type 0} (items : V → List FoundEntry) (newest : FoundEntry) → IsNewest all newest → newest.item.last_seq ≤ newest.item.seq → (answer : Result (Option V) E)
+      → IfOk answer (λ o. MatchOption o ((es : List FoundEntry) → AreNumbered all newest.item.last_seq es (suc newest.item.seq) → ⊥) (λ list. AreNumbered all newest.item.last_seq (items list) (suc newest.item.seq)))
+      → IfOk answer (λ o. MatchOption o ((es : List FoundEntry) → AreEntries g image es → ⊥) (λ list. AreEntries g image (items list)))
   listed items newest is reaches (Err e) numbered = tt
   listed items newest is reaches (Ok None) numbered = λ es p.
       let same = one_newest all p.newest newest (newest_in es p) is in
-      numbered es (subst (λ (e : JEntry). AreNumbered all e.last_seq es (suc e.seq)) same (numbered_in es p))
+      numbered es (subst (λ (e : FoundEntry). AreNumbered all e.item.last_seq es (suc e.item.seq)) same (numbered_in es p))
   listed items newest is reaches (Ok (Some list)) numbered = record { all = all; stand = stand; newest = newest; is_newest = is; reaches = reaches; numbered = numbered }
 
-pub newest_is : (all : List JEntry) (number : ℕ) (newest : JEntry) → All (λ (e : JEntry). e.seq ≤ number) all → first_with number all ≡ Some newest → IsNewest all newest
+pub newest_is : (all : List FoundEntry) (number : ℕ) (newest : FoundEntry) → All (λ (e : FoundEntry). e.item.seq ≤ number) all → first_with number all ≡ Some newest → IsNewest all newest
 newest_is all number newest above found =
-    let same : number ≡ newest.seq = sym (found_number number all newest found) in
-    record { counts = subst (λ (n : ℕ). first_with n all ≡ Some newest) same found; greatest = subst (λ (n : ℕ). All (λ (e : JEntry). e.seq ≤ n) all) same above }
+    let same : number ≡ newest.item.seq = sym (found_number number all newest found) in
+    record { counts = subst (λ (n : ℕ). first_with n all ≡ Some newest) same found; greatest = subst (λ (n : ℕ). All (λ (e : FoundEntry). e.item.seq ≤ n) all) same above }

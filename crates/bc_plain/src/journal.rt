@@ -3,14 +3,16 @@ ghost use Rattle.std.specs.Prelude.{◌≡◌, ◌≢◌, ◌+◌, ◌*◌, ◌<
 ghost use Rattle.bc_disk.specs.Bytes.{image_of};
 ghost use Rattle.bc_record.specs.Sectors.{in_blocks};
 ghost use Rattle.bc_record.specs.Kind.{NoneFound, AreFound};
+ghost use Rattle.bc_record.specs.Places.{placed};
 ghost use Rattle.bc_jset.specs.declared.entry.JEntry.{JEntry};
 ghost use Rattle.bc_jset.specs.declared.error.JsetError.{JsetError};
 ghost use Rattle.bc_jset.specs.Records.{entry_kind, entry_sectors, EntryFound};
-ghost use Rattle.bc_jset.specs.Entries.{bucket_start, bucket_end, StandIn, first_with, AreNumbered, AreEntries};
+ghost use Rattle.bc_jset.specs.Entries.{FoundEntry, bucket_start, bucket_end, StandIn, first_with, AreNumbered, AreEntries};
 
 use bc_disk::geometry::Geometry;
 use bc_jset::{JEntry, JsetError, read_entry};
 use bc_keys::Keys;
+use bc_record::Placed;
 use std::alloc::{AllocError, Global};
 
 /// How many sectors so many bytes take, in whole blocks.
@@ -68,28 +70,32 @@ fn add_bucket(
     image: &[u8],
     g: &Geometry,
     i: u16,
-    all: &mut Vec<JEntry>,
+    all: &mut Vec<Placed<JEntry>>,
 ) -> Result<(), AllocError>
     requires bucket { i < g.now.journal }
     requires within { 512 * (g.now.bucket * g.now.nbuckets) ≤ length image.now }
     ensures { IfOk result (λ _. (here : List JEntry)
         × AreFound (entry_kind g.now) (image_of image.now)
         (bucket_end g.now i) (bucket_start g.now i) here
-        × (all.new.items ≡ all.old.items ++ here)) }
+        × (all.new.items
+        ≡ all.old.items ++ placed (entry_kind g.now) (bucket_start g.now i) here)) }
 {
     let bucket = g.bucket as usize;
     let start = bucket * (g.first_bucket as usize + i as usize);
     let end = start + bucket;
     let mut place = start;
     while let Some((entry, sectors)) = entry_at(alloc, image, g, end, place)? {
-        all.push(entry)?;
+        all.push(Placed {
+            place: place as u64,
+            item: entry,
+        })?;
         place += sectors;
     }
     Ok(())
 }
 
 /// The entries that stand in the journal buckets, those in a lower place first.
-fn all_entries(alloc: Global, image: &[u8], g: &Geometry) -> Result<Vec<JEntry>, AllocError>
+fn all_entries(alloc: Global, image: &[u8], g: &Geometry) -> Result<Vec<Placed<JEntry>>, AllocError>
     requires { 512 * (g.now.bucket * g.now.nbuckets) ≤ length image.now }
     ensures { IfOk result (λ all. StandIn g.now (image_of image.now) g.now.journal all.items) }
 {
@@ -101,24 +107,24 @@ fn all_entries(alloc: Global, image: &[u8], g: &Geometry) -> Result<Vec<JEntry>,
 }
 
 /// The greatest number that one of the entries has; 0 where there are none.
-fn greatest(all: &[JEntry]) -> u64
-    ensures above { All (λ e. e.seq ≤ result) all.now }
-    ensures least { (n : ℕ) → All (λ e. e.seq ≤ n) all.now → result ≤ n }
+fn greatest(all: &[Placed<JEntry>]) -> u64
+    ensures above { All (λ e. e.item.seq ≤ result) all.now }
+    ensures least { (n : ℕ) → All (λ e. e.item.seq ≤ n) all.now → result ≤ n }
 {
     let mut number = 0;
     for entry in all {
-        number = number.max(entry.seq);
+        number = number.max(entry.item.seq);
     }
     number
 }
 
 /// Of the entries with this number the one in the lowest place.
-fn first_with(all: &[JEntry], number: u64) -> Option<&JEntry>
+fn first_with(all: &[Placed<JEntry>], number: u64) -> Option<&Placed<JEntry>>
     ensures { MatchOption result (first_with number all.now ≡ None)
         (λ e. first_with number all.now ≡ Some e.now) }
 {
     for entry in all {
-        if entry.seq == number {
+        if entry.item.seq == number {
             return Some(entry);
         }
     }
@@ -126,31 +132,35 @@ fn first_with(all: &[JEntry], number: u64) -> Option<&JEntry>
 }
 
 /// The same entry once more.
-fn copy(alloc: Global, entry: &JEntry) -> Result<JEntry, AllocError>
-    ensures { IfOk result (λ e. e ≡ entry.now) }
+fn copy(alloc: Global, found: &Placed<JEntry>) -> Result<Placed<JEntry>, AllocError>
+    ensures { IfOk result (λ e. e ≡ found.now) }
 {
+    let entry = &found.item;
     let keys = entry.keys.as_slice().to_vec(alloc)?;
-    Ok(JEntry {
-        seq: entry.seq,
-        last_seq: entry.last_seq,
-        uuid_bucket: entry.uuid_bucket,
-        root: entry.root,
-        level: entry.level,
-        prio: entry.prio,
-        keys: Keys::from_vec(keys),
+    Ok(Placed {
+        place: found.place,
+        item: JEntry {
+            seq: entry.seq,
+            last_seq: entry.last_seq,
+            uuid_bucket: entry.uuid_bucket,
+            root: entry.root,
+            level: entry.level,
+            prio: entry.prio,
+            keys: Keys::from_vec(keys),
+        },
     })
 }
 
 /// The entries with the numbers from `low` up to `high`, or nothing where one is missing.
 fn numbered(
     alloc: Global,
-    all: &[JEntry],
+    all: &[Placed<JEntry>],
     low: u64,
     high: u64,
-) -> Result<Option<Vec<JEntry>>, AllocError>
+) -> Result<Option<Vec<Placed<JEntry>>>, AllocError>
     requires { low ≤ high }
     ensures { IfOk result (λ o. MatchOption o
-        ((es : List JEntry) → AreNumbered all.now low es (suc high) → ⊥)
+        ((es : List FoundEntry) → AreNumbered all.now low es (suc high) → ⊥)
         (λ list. AreNumbered all.now low list.items (suc high))) }
 {
     let mut list = Vec::new(alloc);
@@ -167,7 +177,7 @@ fn numbered(
     }
 }
 
-/// The entries of the device whose bytes these are, oldest first; nothing where it has none, where a
+/// The entries of the device whose bytes these are, oldest first and each with its place; nothing where it has none, where a
 /// number is missing, or where the newest entry needs one that is newer.
 ///
 /// Each journal bucket is read from its first sector, an entry at the first block behind the one
@@ -178,10 +188,10 @@ pub fn entries_of(
     alloc: Global,
     image: &[u8],
     g: &Geometry,
-) -> Result<Option<Vec<JEntry>>, AllocError>
+) -> Result<Option<Vec<Placed<JEntry>>>, AllocError>
     requires { 512 * (g.now.bucket * g.now.nbuckets) ≤ length image.now }
     ensures { IfOk result (λ o. MatchOption o
-        ((es : List JEntry) → AreEntries g.now (image_of image.now) es → ⊥)
+        ((es : List FoundEntry) → AreEntries g.now (image_of image.now) es → ⊥)
         (λ list. AreEntries g.now (image_of image.now) list.items)) }
 {
     let all = all_entries(alloc, image, g)?;
@@ -189,8 +199,8 @@ pub fn entries_of(
     let Some(newest) = first_with(&all, number) else {
         return Ok(None);
     };
-    if newest.last_seq > newest.seq {
+    if newest.item.last_seq > newest.item.seq {
         return Ok(None);
     }
-    numbered(alloc, &all, newest.last_seq, newest.seq)
+    numbered(alloc, &all, newest.item.last_seq, newest.item.seq)
 }

@@ -9,6 +9,7 @@ use bc_disk::geometry::Geometry;
 use bc_jset::JEntry;
 use bc_model::history::Entry;
 use bc_model::values::Values;
+use bc_record::Placed;
 use std::alloc::{AllocError, Global};
 use std::test::Fail;
 
@@ -200,7 +201,7 @@ fn empty_device(alloc: Global) -> Result<Vec<u8>, AllocError> {
 }
 
 // The entries of a device.
-fn listed(alloc: Global, image: &[u8]) -> Result<Option<Vec<JEntry>>, AllocError> {
+fn listed(alloc: Global, image: &[u8]) -> Result<Option<Vec<Placed<JEntry>>>, AllocError> {
     if image.len() < 4_194_304 {
         return Ok(None);
     }
@@ -208,10 +209,10 @@ fn listed(alloc: Global, image: &[u8]) -> Result<Option<Vec<JEntry>>, AllocError
 }
 
 // Whether these are the numbers of the entries and of the oldest that each needs.
-fn are(list: &[JEntry], numbers: &[(u64, u64)]) -> bool {
+fn are(list: &[Placed<JEntry>], numbers: &[(u64, u64)]) -> bool {
     let mut same = list.len() == numbers.len();
     for (entry, number) in list.iter().zip(numbers) {
-        same &= (entry.seq, entry.last_seq) == *number;
+        same &= (entry.item.seq, entry.item.last_seq) == *number;
     }
     same
 }

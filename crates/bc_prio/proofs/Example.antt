@@ -124,7 +124,7 @@ module _ (blank head half body set : List ℕ) (sum : ℕ) (long : length blank 
   )
 
 -- what is known of the bytes
-record IsExample (set : List ℕ) : Type 0 where
+pub record IsExample (set : List ℕ) : Type 0 where
   pub long : length set ≡ 32768
   pub magic : number_at 8 set 8 ≡ 0x6750_e15f_8733_7f90
   pub checksum : HasChecksum set
@@ -168,7 +168,7 @@ module _ (blank head half body set : List ℕ) (sum : ℕ) (long : length blank 
     other = other_record blank head half body set sum long none head_is half_is body_is set_is sum_is;
   }
 
-example_is : IsExample example_set
+pub example_is : IsExample example_set
 example_is =
     is_example example_blank example_head example_half example_body example_set (checksum 0xffff_ffff_ffff_ffff (drop 8 example_body))
     blank_long (λ j. byte_of_zeros 32768 example_blank j blank_is) head_made half_made body_made set_made refl

@@ -9,3 +9,5 @@ pub mod Examples
 pub mod Unique
 pub mod Found
 pub mod Example
+pub mod RecordKind
+pub mod Refused

@@ -1,7 +1,7 @@
 -- Bytes in whole blocks.
-use Rattle.std.proofs.Common.{◌≡◌, ◌==◌, inl, inr, ℕ, zero, ◌+◌, ◌-◌, ◌*◌, ◌/◌, ◌<◌, ◌≤◌, List, [], ◌∷◌, true, refl, subst, ap, ◌∙◌, lit<, arith}
+use Rattle.std.proofs.Common.{◌≡◌, ◌==◌, inl, inr, ℕ, zero, ◌+◌, ◌-◌, ◌*◌, ◌/◌, ◌<◌, ◌≤◌, List, [], ◌∷◌, true, min, refl, subst, ap, ◌∙◌, lit<, lit≤, arith}
 use Rattle.std.specs.List.{list_any, AllByRecursion}
-use Rattle.std.proofs.lemmas.Bool.{or_cases, eqb-true}
+use Rattle.std.proofs.lemmas.Bool.{or_cases, eqb-true, cases_lt}
 use Rattle.std.proofs.Math.Nat.{lt-mul-div-succ, mul-div-le, lt_of_mul-lt-mul_left, mul-le-mul_left, mul_assoc, mul-add}
 use Rattle.bc_disk.specs.Geometry.{is_block, is_bucket}
 use Rattle.bc_disk.specs.declared.geometry.Geometry.{Geometry}
@@ -68,3 +68,14 @@ bucket_blocks g =
     let eight = (fills_eight g.block g.block_is_one).1 in
     let many = is_eights g.bucket g.bucket_is_one in
     (eight.0 * many.0, many.1 ∙ ap (λ n. n * many.0) eight.1 ∙ mul_assoc g.block eight.0 many.0)
+
+-- and so is a node, which is as long as a bucket or 512 sectors
+pub node_blocks : (g : Geometry) → (k : ℕ) × (g.node_sectors ≡ g.block * k)
+node_blocks g = elim (cases_lt g.bucket 512) [
+  | inl less ↦ (let all = bucket_blocks g in (all.0, g.node_is_one ∙ (let e : min g.bucket 512 ≡ g.bucket = omega arith in e) ∙ all.1))
+  | inr more ↦ (let eight = (fills_eight g.block g.block_is_one).1 in
+      (eight.0 * 64, g.node_is_one ∙ (let e : min g.bucket 512 ≡ 8 * 64 = omega arith in e) ∙ ap (λ n. n * 64) eight.1 ∙ mul_assoc g.block eight.0 64))
+]
+
+pub block_small : (g : Geometry) → g.block ≤ 8
+block_small g = among g.block (λ n. n ≤ 8) (1 ∷ 2 ∷ 4 ∷ 8 ∷ []) g.block_is_one (lit≤ tt, (lit≤ tt, (lit≤ tt, (lit≤ tt, tt))))

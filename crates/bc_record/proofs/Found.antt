@@ -1,5 +1,5 @@
 -- What is found of a kind whose records rest on their own bytes alone.
-use Rattle.std.proofs.Common.{◌≡◌, ◌↔◌, ℕ, ◌+◌, ◌-◌, ◌*◌, ◌<◌, ◌≤◌, List, [], ◌∷◌, ◌++◌, length, take, drop, refl, sym, subst, ap, ◌∙◌, arith}
+use Rattle.std.proofs.Common.{◌≡◌, ◌↔◌, inl, inr, ℕ, zero, suc, ◌+◌, ◌-◌, ◌*◌, ◌<◌, ◌≤◌, List, [], ◌∷◌, ◌++◌, length, take, drop, refl, sym, subst, ap, ◌∙◌, arith}
 use Rattle.std.specs.Prelude.{All, ◌/◌}
 use Rattle.std.proofs.Math.Nat.{mul-add, lt_of_mul-lt-mul_left}
 use Rattle.std.proofs.lemmas.List.{take-take}
@@ -7,16 +7,12 @@ use Rattle.std.proofs.lemmas.List.Elements.{All-nil, All-cons}
 use Rattle.bc_model.specs.Sector.{Image, values_of}
 use Rattle.bc_disk.specs.Bytes.{image_of}
 use Rattle.bc_record.specs.Sectors.{bytes_to, Has, AgreeOn}
-use Rattle.bc_record.specs.Kind.{Kind, sectors_of, IsFound, AreFound, behind}
+use Rattle.bc_record.specs.Kind.{Kind, sectors_of, IsFound, NoneFound, AreFound, behind}
+use Rattle.bc_record.specs.Codec.{Decided, IsCodec}
+use Rattle.bc_record.specs.Places.{at_place, placed, items_of, end_of}
+use Rattle.bc_record.specs.declared.placed.Placed.{Placed}
 use Rattle.bc_record.proofs.Blocks.{blocks_hold, blocks_within, some_blocks}
 use Rattle.bc_record.proofs.Parts.{length-bytes_in, bytes_in-agree, bytes_in-front, bytes_in-has, bytes_to-agree, bytes_to-image_of}
-
-pub record IsCodec {A : Type 0} (kind : Kind A) : Type 0 where
-  pub block : 0 < kind.block
-  pub some : (e : A) → 0 < kind.bytes e
-  pub one : (bytes : List ℕ) (d e : A) → kind.Begins bytes d → kind.Begins bytes e → d ≡ e
-  pub fits : (bytes : List ℕ) (e : A) → kind.Begins bytes e → kind.bytes e ≤ length bytes
-  pub stays : (old new : List ℕ) (e : A) → kind.Begins old e → take (kind.bytes e) new ≡ take (kind.bytes e) old → kind.Begins new e
 
 module _ {A : Type 0} (kind : Kind A) (codec : IsCodec kind) where
   pub takes_some : (e : A) → 0 < sectors_of kind e
@@ -88,12 +84,12 @@ module _ {A : Type 0} (kind : Kind A) (codec : IsCodec kind) where
   )
 
   -- each is found at a block and whole
-  abbrev pub IsPlaced : Image → ℕ → ℕ → A → Type 0
-  IsPlaced image end start e = (k : ℕ) × IsFound kind image end (start + kind.block * k) e × (start + kind.block * k + sectors_of kind e ≤ end)
+  abbrev pub IsPlaced : Image → ℕ → ℕ → Placed A → Type 0
+  IsPlaced image end start p = (k : ℕ) × (p.place ≡ start + kind.block * k) × IsFound kind image end p.place p.item × (p.place + sectors_of kind p.item ≤ end)
 
-  run_places_from : (image : Image) (end start n k place : ℕ) (es : List A) → end ≡ start + kind.block * n → place ≡ start + kind.block * k → k ≤ n → AreFound kind image end place es → All (IsPlaced image end start) es
-  run_places_from image end start n k place [] ends here inside p = All-nil (IsPlaced image end start)
-  run_places_from image end start n k place (e ∷ es) ends here inside p =
+  run_placed_from : (image : Image) (end start n k place : ℕ) (es : List A) → end ≡ start + kind.block * n → place ≡ start + kind.block * k → k ≤ n → AreFound kind image end place es → All (IsPlaced image end start) (placed kind place es)
+  run_placed_from image end start n k place [] ends here inside p = All-nil (IsPlaced image end start)
+  run_placed_from image end start n k place (e ∷ es) ends here inside p =
       let m = (kind.bytes e + (512 * kind.block - 1)) / (512 * kind.block) in
       let split : kind.block * n ≡ kind.block * k + kind.block * (n - k) = ap (λ j. kind.block * j) (let e : n ≡ k + (n - k) = omega arith in e) ∙ mul-add kind.block k (n - k) in
       let fits : place + kind.block * m ≤ end = found_fits image end place (n - k) e (omega (arith, ends, here, split)) p.0 in
@@ -101,13 +97,13 @@ module _ {A : Type 0} (kind : Kind A) (codec : IsCodec kind) where
       let more : kind.block * (n + 1) ≡ kind.block * n + kind.block * 1 = mul-add kind.block n 1 in
       let some = codec.block in
       let below : k + m < n + 1 = lt_of_mul-lt-mul_left kind.block (omega (arith, fits, next, more, ends, here, some)) in
-      All-cons (IsPlaced image end start) e es
-      (k, subst (λ (q : ℕ). IsFound kind image end q e) here p.0, omega (arith, fits, here))
-      (run_places_from image end start n (k + m) (place + kind.block * m) es ends (omega (arith, here, next)) (omega (arith, below)) p.1)
+      All-cons (IsPlaced image end start) (at_place place e) (placed kind (place + sectors_of kind e) es)
+      (k, here, p.0, fits)
+      (run_placed_from image end start n (k + m) (place + kind.block * m) es ends (omega (arith, here, next)) (omega (arith, below)) p.1)
 
-  pub run_places : (image : Image) (end start n : ℕ) (es : List A) → end ≡ start + kind.block * n → AreFound kind image end start es → All (IsPlaced image end start) es
-  run_places image end start n es ends p =
-      run_places_from image end start n 0 start es ends (omega arith) (omega arith) p
+  pub run_placed : (image : Image) (end start n : ℕ) (es : List A) → end ≡ start + kind.block * n → AreFound kind image end start es → All (IsPlaced image end start) (placed kind start es)
+  run_placed image end start n es ends p =
+      run_placed_from image end start n 0 start es ends (omega arith) (omega arith) p
 
   -- records that stay, and what is found behind them
   behind_on : (place : ℕ) (es : List A) → place ≤ behind kind place es
@@ -123,3 +119,54 @@ module _ {A : Type 0} (kind : Kind A) (codec : IsCodec kind) where
         found_stays a b end place e p.0 (λ s after before. same s after (omega (arith, before, on))) (omega (arith, on, inside)),
         run_goes_on a b end next es more rest p.1 (λ s after before. same s (omega (arith, after)) before) inside found,
       )
+
+  -- ---- each image has records of a kind, or none, from a place on
+
+  pub found_or_none : (image : Image) (end place : ℕ) → Decided ((e : A) × IsFound kind image end place e)
+  found_or_none image end place = codec.decide (bytes_to image end place)
+
+  -- what is left behind a record is whole blocks again
+  pub next_blocks : (e : A) (end place n : ℕ) → end ≡ place + kind.block * n → place + sectors_of kind e ≤ end → (left : ℕ) × (end ≡ place + sectors_of kind e + kind.block * left)
+  next_blocks e end place n ends fits =
+      let m = (kind.bytes e + (512 * kind.block - 1)) / (512 * kind.block) in
+      let some = codec.block in
+      let more : kind.block * (n + 1) ≡ kind.block * n + kind.block * 1 = mul-add kind.block n 1 in
+      let below : m < n + 1 = lt_of_mul-lt-mul_left kind.block (omega (arith, fits, more, ends, some)) in
+      let split : kind.block * n ≡ kind.block * m + kind.block * (n - m) = ap (λ j. kind.block * j) (let e : n ≡ m + (n - m) = omega (arith, below) in e) ∙ mul-add kind.block m (n - m) in
+      (n - m, omega (arith, ends, split))
+
+  abbrev SomeRun : Image → ℕ → ℕ → Type 0
+  SomeRun image end place = (es : List A) × AreFound kind image end place es
+
+  run_from : (image : Image) (end left place n : ℕ) → end ≡ place + kind.block * n → end ≤ place + left → SomeRun image end place
+  run_from image end zero place n ends few =
+      ([], λ e is. (let fits = found_fits image end place n e ends is in let some = takes_some e in omega arith))
+  run_from image end (suc left) place n ends few = go (found_or_none image end place) (λ p m e f. run_from image end left p m e f)
+    where
+      go : Decided ((e : A) × IsFound kind image end place e) → ((p m : ℕ) → end ≡ p + kind.block * m → end ≤ p + left → SomeRun image end p) → SomeRun image end place
+      go (inr none) on = ([], λ e is. none (e, is))
+      go (inl k) on =
+          let fits = found_fits image end place n k.0 ends k.1 in
+          let some = takes_some k.0 in
+          let next = next_blocks k.0 end place n ends fits in
+          let rest = on (place + sectors_of kind k.0) next.0 next.1 (omega arith) in
+          (k.0 ∷ rest.0, (k.1, rest.1))
+
+  pub run_exists : (image : Image) (end place n : ℕ) → end ≡ place + kind.block * n → SomeRun image end place
+  run_exists image end place n ends = run_from image end end place n ends (omega arith)
+
+-- ---- places
+
+pub items_placed : {A : Type 0} → (kind : Kind A) (place : ℕ) (es : List A) → items_of (placed kind place es) ≡ es
+items_placed kind place [] = refl
+items_placed {A} kind place (e ∷ es) = ap (λ (xs : List A). e ∷ xs) (items_placed kind (place + sectors_of kind e) es)
+
+-- of each of the records, at its place
+pub all_placed : {A : Type 0} → (kind : Kind A) (codec : IsCodec kind) (P : ℕ → A → Type 0) (image : Image) (end place : ℕ) (es : List A)
+    → ((q : ℕ) (e : A) → place ≤ q → IsFound kind image end q e → P q e) → AreFound kind image end place es → All (λ (p : Placed A). P p.place p.item) (placed kind place es)
+all_placed {A} kind codec P image end place [] each found = All-nil (λ (p : Placed A). P p.place p.item)
+all_placed {A} kind codec P image end place (e ∷ es) each found =
+    let some = takes_some kind codec e in
+    All-cons (λ (p : Placed A). P p.place p.item) (at_place place e) (placed kind (place + sectors_of kind e) es)
+    (each place e (omega arith) found.0)
+    (all_placed kind codec P image end (place + sectors_of kind e) es (λ q d low is. each q d (omega (arith, low)) is) found.1)

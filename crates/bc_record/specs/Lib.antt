@@ -1,2 +1,4 @@
 pub mod Sectors
 pub mod Kind
+pub mod Codec
+pub mod Places

@@ -23,8 +23,9 @@ pub fn whole_blocks()
         → in_blocks block bytes ≤ block * n }
 {}
 
-/// A bucket is whole blocks of some sectors.
+/// A bucket and a node are whole blocks of some sectors.
 pub fn bucket_is_blocks()
     ensures some { (g : Geometry) → 0 < g.block }
     ensures whole { (g : Geometry) → (k : ℕ) × (g.bucket ≡ g.block * k) }
+    ensures node { (g : Geometry) → (k : ℕ) × (g.node_sectors ≡ g.block * k) }
 {}

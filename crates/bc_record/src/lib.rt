@@ -3,3 +3,6 @@
 #![tactic(auto)]
 
 pub mod laws;
+mod placed;
+
+pub use placed::Placed;

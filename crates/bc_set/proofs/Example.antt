@@ -1,5 +1,5 @@
 -- The example, computed.
-use Rattle.std.proofs.Common.{◌≡◌, ℕ, zero, suc, ◌+◌, ◌<◌, true, [], ◌∷◌, get_or, refl, lit<, lit≤, arith}
+use Rattle.std.proofs.Common.{◌≡◌, inr, ℕ, zero, suc, ◌+◌, ◌<◌, true, [], ◌∷◌, get_or, refl, lit<, lit≤, arith}
 use Rattle.bc_bytes.specs.Checksum.{message, dividend, checksum}
 use Rattle.bc_bytes.specs.Division.{remainder}
 use Rattle.bc_bytes.specs.Fields.{number_at}
@@ -49,7 +49,7 @@ example_words_are = refl
 pub example_is_set : IsSet 0x8_0003 1 Extents example_bytes example_set
 unfolding number_at words_at
 example_is_set = record {
-  whole = record { header = record { room = lit≤ tt; magic = refl; version = refl }; long = lit≤ tt; checksum = example_checksum };
+  whole = record { header = record { room = lit≤ tt; magic = refl; version = inr refl }; long = lit≤ tt; checksum = example_checksum };
   seq = refl;
   version = refl;
   keys = (example_spelled, refl);

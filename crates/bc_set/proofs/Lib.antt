@@ -1,3 +1,5 @@
 pub mod SetLaws
-pub mod Example
+pub mod Deciders
 pub mod Records
+pub mod NodeSets
+pub mod Example

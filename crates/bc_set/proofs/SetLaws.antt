@@ -14,14 +14,14 @@ use Rattle.bc_set.specs.declared.error.SetError.TheVariants as errors
 use Rattle.bc_set.specs.declared.set.Set.{Set}
 use Rattle.bc_set.specs.declared.set.SetKind.{SetKind}
 use Rattle.bc_set.specs.declared.set.SetKind.TheVariants.{Extents, Children}
-use Rattle.bc_set.specs.SetBytes.{IsSet, HasMagic, HasChecksum, StandsAt, IsRefused, IsCause, Follows, IsRefusedAs, HasBadKey, AreOfKind, AreInOrder, AreSetKeys, bytes_of, count_in, end_in, version_in, words_in}
+use Rattle.bc_set.specs.SetBytes.{IsVersion, start_by, IsSet, HasMagic, HasChecksum, StandsAt, IsRefused, IsCause, Follows, IsRefusedAs, HasBadKey, AreOfKind, AreInOrder, AreSetKeys, bytes_of, count_in, end_in, version_in, words_in}
 
 same_set : (s t : Set) → s.seq ≡ t.seq → s.version ≡ t.version → s.keys ≡ t.keys → s ≡ t
 same_set s t seq version keys = λ i. record { seq = seq i; version = version i; keys = keys i }
 
 pub one_set : (start magic : ℕ) (kind : SetKind) (bytes : List ℕ) (s t : Set) → IsSet start magic kind bytes s → IsSet start magic kind bytes t → s ≡ t
 one_set start magic kind bytes s t p q =
-    same_set s t (sym p.seq ∙ q.seq) (p.version ∙ sym q.version) (one_list (words_in bytes) s.keys t.keys p.keys q.keys)
+    same_set s t (sym p.seq ∙ q.seq) (sym p.version ∙ q.version) (one_list (words_in bytes) s.keys t.keys p.keys q.keys)
 
 -- keys that a set of the kind may hold, and words with a bad key
 no_refused : (kind : SetKind) (keys : List Key) → AreOfKind kind keys → Any (IsRefusedAs kind) keys → ⊥
@@ -57,6 +57,7 @@ set_stays start magic kind old new s p same =
     let words : words_in new ≡ words_in old =
     ap (λ n. words_at n new 32) count ∙ words_at-front (count_in old) new old 32 m same (omega arith) in
     let new_end : end_in new ≡ m = omega (arith, count) in
+    let version : version_in new ≡ version_in old = number_at-front 4 new old 24 m same (omega arith) in
     let covered : slice_range new 8 (end_in new) ≡ slice_range old 8 (end_in old) =
     ap (slice_range new 8) new_end ∙ slice_range-front new old 8 m same (omega arith) ∙ ap (slice_range old 8) ends in
     record {
@@ -64,13 +65,15 @@ set_stays start magic kind old new s p same =
         header = record {
           room = omega arith;
           magic = number_at-front 8 new old 8 m same (omega arith) ∙ p.whole.header.magic;
-          version = number_at-front 4 new old 24 m same (omega arith) ∙ p.whole.header.version;
+          version = subst IsVersion (sym version) p.whole.header.version;
         };
         long = omega arith;
-        checksum = number_at-front 8 new old 0 m same (omega arith) ∙ p.whole.checksum ∙ ap (checksum start) (sym covered);
+        checksum =
+            number_at-front 8 new old 0 m same (omega arith) ∙ p.whole.checksum
+            ∙ ap (λ v. checksum (start_by v start) (slice_range old 8 (end_in old))) (sym version) ∙ ap (checksum (start_by (version_in new) start)) (sym covered);
       };
       seq = number_at-front 8 new old 16 m same (omega arith) ∙ p.seq;
-      version = p.version;
+      version = version ∙ p.version;
       keys = subst (λ (ws : List ℕ). SpellKeys ws s.keys) (sym words) p.keys;
       proper = p.proper;
     }
@@ -222,9 +225,9 @@ IsSet-written start magic bytes s has known kind rest proper =
     let count = has.count in
     set_stays start magic kind bytes (take (bytes_of s) bytes ++ rest) s
     (record {
-      whole = record { header = record { room = omega arith; magic = has.magic; version = has.version }; long = omega arith; checksum = has.checksum };
+      whole = record { header = record { room = omega arith; magic = has.magic; version = inr has.version }; long = omega arith; checksum = has.checksum };
       seq = has.seq;
-      version = known;
+      version = has.version ∙ sym known;
       keys = SpellKeys-words_of (words_in bytes) s.keys has.words;
       proper = proper;
     })
@@ -281,6 +284,7 @@ pub written_fields : (start magic : ℕ) (s : Set) (count sum : ℕ) (b1 b2 b3 b
     → HasFields start magic b6 s
 written_fields start magic s count sum b1 b2 b3 b4 b5 b6 counted fits known words magic_is o2 seq_is o3 version_is o4 count_is o5 sum_is checksum_is o6 =
     let at_end : count_in b6 ≡ count = o6.numbers 4 28 (inr (omega arith)) ∙ count_is in
+    let at_version : version_in b6 ≡ 1 = o6.numbers 4 24 (inr (omega arith)) ∙ o5.numbers 4 24 (inl (omega arith)) ∙ version_is ∙ known in
     let behind : (m : ℕ) (old new : List ℕ) (place : ℕ) → place + m ≤ 32 → SameOutside m old new place → words_at count new 32 ≡ words_at count old 32 =
     λ m old new place low same. words_at-kept count m old new 32 place same (inr low) in
     let covered : slice_range b6 8 (end_in b6) ≡ slice_range b5 8 (32 + 8 * count) =
@@ -289,11 +293,11 @@ written_fields start magic s count sum b1 b2 b3 b4 b5 b6 counted fits known word
       fits = fits;
       magic = o6.numbers 8 8 (inr (omega arith)) ∙ o5.numbers 8 8 (inl (omega arith)) ∙ o4.numbers 8 8 (inl (omega arith)) ∙ o3.numbers 8 8 (inl (omega arith)) ∙ magic_is;
       seq = o6.numbers 8 16 (inr (omega arith)) ∙ o5.numbers 8 16 (inl (omega arith)) ∙ o4.numbers 8 16 (inl (omega arith)) ∙ seq_is;
-      version = o6.numbers 4 24 (inr (omega arith)) ∙ o5.numbers 4 24 (inl (omega arith)) ∙ version_is ∙ known;
+      version = at_version;
       count = at_end ∙ counted;
       words =
           ap (λ n. words_at n b6 32) at_end
           ∙ behind 8 b5 b6 0 (omega arith) o6 ∙ behind 4 b4 b5 28 (omega arith) o5 ∙ behind 4 b3 b4 24 (omega arith) o4
           ∙ behind 8 b2 b3 16 (omega arith) o3 ∙ behind 8 b1 b2 8 (omega arith) o2 ∙ words;
-      checksum = checksum_is ∙ sum_is ∙ ap (checksum start) (sym covered);
+      checksum = checksum_is ∙ sum_is ∙ ap (checksum start) (sym covered) ∙ ap (λ v. checksum (start_by v start) (slice_range b6 8 (end_in b6))) (sym at_version);
     }

@@ -1,6 +1,6 @@
 -- A set of keys of a node, as `struct bset` in the kernel's `bcache_ondisk.h` lays it out: a checksum, a magic,
 -- a sequence number, a version, a count of words, and behind these 32 bytes the words of the keys.
-use Rattle.std.specs.Prelude.{◌≡◌, ◌≢◌, ◌⊎◌, ℕ, ◌+◌, ◌*◌, ◌<◌, ◌≤◌, List, length, drop, slice_range, bit_xor, All, AllPairs, Any}
+use Rattle.std.specs.Prelude.{◌≡◌, ◌⊎◌, ◌==◌, if◌then◌else◌, ℕ, ◌+◌, ◌-◌, ◌*◌, ◌^◌, ◌<◌, ◌≤◌, List, length, drop, slice_range, bit_xor, All, AllPairs, Any}
 use Rattle.bc_bytes.specs.Checksum.{checksum}
 use Rattle.bc_bytes.specs.Fields.{number_at}
 use Rattle.bc_key.specs.Key.{start_of, IsExtent}
@@ -14,6 +14,14 @@ use Rattle.bc_set.specs.declared.error.SetError.TheVariants as errors
 use Rattle.bc_set.specs.declared.set.Set.{Set}
 use Rattle.bc_set.specs.declared.set.SetKind.{SetKind}
 use Rattle.bc_set.specs.declared.set.SetKind.TheVariants.{Extents, Children}
+
+-- The formats that are read. Version 0 is older, and only version 1 is written.
+abbrev pub IsVersion : ℕ → Type 0
+IsVersion version = (version ≡ 0) ⊎ (version ≡ 1)
+
+-- what a checksum begins with: by version 0 all ones, and by version 1 the first pointer's word of the key that points to the node
+abbrev pub start_by : ℕ → ℕ → ℕ
+start_by version start = if version == 0 then 2 ^ 64 - 1 else start
 
 -- how many bytes a set takes
 abbrev pub bytes_of : Set → ℕ
@@ -64,14 +72,14 @@ words_in bytes = words_at (count_in bytes) bytes 32
 abbrev pub HasMagic : ℕ → List ℕ → Type 0
 HasMagic set_magic bytes = number_at 8 bytes 8 ≡ bit_xor set_magic 0x9013_5c78_b99e_07f5
 
--- over all bytes behind it, by a start
+-- over all bytes behind it, by the start of the version
 abbrev pub HasChecksum : ℕ → List ℕ → Type 0
-HasChecksum start bytes = number_at 8 bytes 0 ≡ checksum start (slice_range bytes 8 (end_in bytes))
+HasChecksum start bytes = number_at 8 bytes 0 ≡ checksum (start_by (version_in bytes) start) (slice_range bytes 8 (end_in bytes))
 
 pub record HasHeader (set_magic : ℕ) (bytes : List ℕ) : Type 0 where
   pub room : 32 ≤ length bytes
   pub magic : HasMagic set_magic bytes
-  pub version : version_in bytes ≡ 1
+  pub version : IsVersion (version_in bytes)
 
 -- the header is there, all of its words are, and the checksum is theirs
 pub record IsWhole (start set_magic : ℕ) (bytes : List ℕ) : Type 0 where
@@ -83,7 +91,7 @@ pub record IsWhole (start set_magic : ℕ) (bytes : List ℕ) : Type 0 where
 pub record IsSet (start set_magic : ℕ) (kind : SetKind) (bytes : List ℕ) (s : Set) : Type 0 where
   pub whole : IsWhole start set_magic bytes
   pub seq : number_at 8 bytes 16 ≡ s.seq
-  pub version : s.version ≡ 1
+  pub version : version_in bytes ≡ s.version
   pub keys : SpellKeys (words_in bytes) s.keys
   pub proper : AreSetKeys kind s.keys
 
@@ -104,7 +112,7 @@ IsRefused start set_magic kind bytes errors.Short =
     (length bytes < 32) ⊎ (HasHeader set_magic bytes × (length bytes < end_in bytes))
 IsRefused start set_magic kind bytes errors.Magic = (32 ≤ length bytes) × ¬ (HasMagic set_magic bytes)
 IsRefused start set_magic kind bytes errors.Version =
-    (32 ≤ length bytes) × HasMagic set_magic bytes × (version_in bytes ≢ 1)
+    (32 ≤ length bytes) × HasMagic set_magic bytes × ¬ (IsVersion (version_in bytes))
 IsRefused start set_magic kind bytes errors.Checksum =
     HasHeader set_magic bytes × (end_in bytes ≤ length bytes) × ¬ (HasChecksum start bytes)
 IsRefused start set_magic kind bytes errors.Key = IsWhole start set_magic bytes × HasBadKey kind (words_in bytes)

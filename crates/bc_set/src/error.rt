@@ -12,7 +12,7 @@ pub enum SetError {
     Short,
     /// The magic isn't that of a set of this cache set.
     Magic,
-    /// The version isn't 1.
+    /// The version is neither 0 nor 1.
     Version,
     /// The checksum isn't that of the bytes behind it.
     Checksum,

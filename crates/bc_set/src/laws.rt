@@ -1,21 +1,23 @@
 //! What the definitions come to: each law is the contract of a function.
-ghost use Rattle.std.specs.Prelude.{◌≡◌, ◌↔◌, ◌+◌, ◌*◌, ◌<◌, ◌≤◌, ℕ, List, ◌++◌, length, drop, slice_range};
-ghost use Rattle.bc_bytes.specs.Fields.{number_at};
+ghost use Rattle.std.specs.Prelude.{◌≡◌, ◌↔◌, ◌+◌, ◌*◌, ◌<◌, ◌≤◌, ℕ, List, [], ◌∷◌, ◌++◌, length, replicate, slice_range};
 ghost use Rattle.bc_model.specs.Sector.{Image, values_of};
 ghost use Rattle.bc_model.specs.Pattern.{zeros};
 ghost use Rattle.bc_disk.specs.Bytes.{image_of};
 ghost use Rattle.bc_disk.specs.declared.geometry.Geometry.{Geometry};
 ghost use Rattle.bc_record.specs.Sectors.{Has, AgreeOn};
-ghost use Rattle.bc_record.specs.Kind.{AreFound, behind};
+ghost use Rattle.bc_record.specs.Kind.{NoneFound, AreFound, behind};
+ghost use Rattle.bc_record.specs.Codec.{Decided};
 ghost use Rattle.bc_set.specs.declared.error.SetError.{SetError};
 ghost use Rattle.bc_set.specs.declared.set.Set.{Set};
 ghost use Rattle.bc_set.specs.declared.set.SetKind.{SetKind};
 ghost use Rattle.bc_set.specs.SetBytes.{IsSet, IsRefused, StandsAt, bytes_of};
-ghost use Rattle.bc_set.specs.Records.{set_kind, set_sectors, SetFound};
+ghost use Rattle.bc_set.specs.Records.{set_kind, set_sectors, SetFound, numbered_kind, AreNodeSets};
 ghost use Rattle.bc_set.specs.Example.{example_bytes};
 
-/// Bytes begin with one set at most, or they are refused for one reason at most, and never both.
+/// Bytes begin with one set or with none, or they are refused for one reason at most, and never both.
 pub fn one_reading()
+    ensures either { (start magic : ℕ) (kind : SetKind) (bytes : List ℕ)
+        → Decided ((s : Set) × IsSet start magic kind bytes s) }
     ensures one_set { (start magic : ℕ) (kind : SetKind) (bytes : List ℕ) (s t : Set)
         → IsSet start magic kind bytes s → IsSet start magic kind bytes t → s ≡ t }
     ensures never_both { (start magic : ℕ) (kind : SetKind) (bytes : List ℕ) (s : Set)
@@ -36,10 +38,12 @@ pub fn set_stays()
         → StandsAt start magic kind new place s }
 {}
 
-/// No set stands where the bytes of its version would be zero, and so none where all are.
+/// No set stands where 32 bytes are zero, whatever the magic is: by version 0 the checksum of such a
+/// header isn't zero.
 pub fn zeros_are_no_set()
     ensures { (start magic : ℕ) (kind : SetKind) (bytes : List ℕ) (place : ℕ) (s : Set)
-        → number_at 4 (drop place bytes) 24 ≡ 0 → StandsAt start magic kind bytes place s → ⊥ }
+        → slice_range bytes place (place + 32) ≡ replicate 32 0
+        → StandsAt start magic kind bytes place s → ⊥ }
 {}
 
 /// There is a set: these bytes are one, with one extent.
@@ -80,6 +84,33 @@ pub fn sets_go_on()
         → behind (set_kind g start kind) place es ≤ end
         → AreFound (set_kind g start kind) b end (behind (set_kind g start kind) place es) rest
         → AreFound (set_kind g start kind) b end place (es ++ rest) }
+{}
+
+/// The sets of a node: each image has one list of them and no other, it rests on the node's sectors
+/// alone, and behind sets that stay follow those with their number that are found there, also where
+/// that was written over. A set behind which none is found stands alone.
+pub fn node_sets()
+    ensures exists { (g : Geometry) (start : ℕ) (kind : SetKind) (image : Image)
+        (end place blocks : ℕ) → end ≡ place + g.block * blocks
+        → (ss : List Set) × AreNodeSets g start kind image end place ss }
+    ensures one { (g : Geometry) (start : ℕ) (kind : SetKind) (image : Image) (end place : ℕ)
+        (ss ts : List Set) → AreNodeSets g start kind image end place ss
+        → AreNodeSets g start kind image end place ts → ss ≡ ts }
+    ensures stays { (g : Geometry) (start : ℕ) (kind : SetKind) (a b : Image) (end place : ℕ)
+        (ss : List Set) → AgreeOn a b place end → AreNodeSets g start kind a end place ss
+        → AreNodeSets g start kind b end place ss }
+    ensures goes_on { (g : Geometry) (start : ℕ) (kind : SetKind) (a b : Image)
+        (end place : ℕ) (s : Set) (ss more rest : List Set)
+        → AreNodeSets g start kind a end place (s ∷ ss ++ more)
+        → AgreeOn a b place (behind (set_kind g start kind) place (s ∷ ss))
+        → behind (set_kind g start kind) place (s ∷ ss) ≤ end
+        → AreFound (numbered_kind g start kind s.seq) b end
+        (behind (set_kind g start kind) place (s ∷ ss)) rest
+        → AreNodeSets g start kind b end place (s ∷ ss ++ rest) }
+    ensures alone { (g : Geometry) (start : ℕ) (kind : SetKind) (image : Image)
+        (end place : ℕ) (s : Set) → SetFound g start kind image end place s
+        → NoneFound (set_kind g start kind) image end (place + set_sectors g s)
+        → AreNodeSets g start kind image end place (s ∷ []) }
 {}
 
 /// In the image of bytes a set is found exactly where it stands in the bytes and ends before the end.

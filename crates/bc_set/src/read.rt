@@ -7,7 +7,7 @@ ghost use Rattle.bc_set.specs.SetBytes.{IsSet, IsRefused, IsCause};
 use crate::error::SetError;
 use crate::header::read_header;
 use crate::order::{are_in_order, are_of_kind};
-use crate::set::{HEADER, Set, SetKind, VERSION};
+use crate::set::{HEADER, Set, SetKind};
 use bc_keys::read_keys;
 use std::alloc::Global;
 
@@ -32,15 +32,15 @@ fn set_at_front(
     }
     Ok(Set {
         seq: header.seq,
-        version: VERSION,
+        version: header.version,
         keys,
     })
 }
 
 /// Reads the set at the front of the bytes; what stands behind it doesn't matter.
 ///
-/// `start` is what the checksum starts from: the first pointer's word of the key that points to the
-/// node. `magic` is the first word of the uuid of the cache set. Memory is taken for the keys alone,
+/// `start` is what the checksum of version 1 starts from: the first pointer's word of the key that
+/// points to the node. `magic` is the first word of the uuid of the cache set. Memory is taken for the keys alone,
 /// for half as many as there are words. The refusal is the first by the order of `SetError`.
 pub fn read_set(
     alloc: Global,

@@ -20,13 +20,14 @@ pub struct Set {
     /// The number that all sets of a node have in common. A set with another one is left from an
     /// earlier use of the bucket.
     pub seq: u64,
-    /// The version of the format, 1: the checksum starts from a pointer to the node.
+    /// The version of the format, 0 or 1: by 1 the checksum starts from a pointer to the node, and
+    /// by 0, which is read and never written, from all ones.
     pub version: u32,
     /// The keys, in order.
     pub keys: Keys,
 }
 
-/// The version of the format.
+/// The newest version of the format.
 pub(crate) const VERSION: u32 = 1;
 
 /// How many bytes stand before the words.

@@ -61,7 +61,8 @@ fn headers(rt: HostRuntime) {
     );
     for (place, value, error) in [
         (8, 0, SetError::Magic),
-        (24, 0, SetError::Version),
+        (24, 2, SetError::Version),
+        (24, 0, SetError::Checksum),
         (28, 4, SetError::Short),
         (28, 2, SetError::Checksum),
         (0, 0, SetError::Checksum),

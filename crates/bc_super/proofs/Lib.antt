@@ -6,3 +6,4 @@ pub mod Buckets
 pub mod Standing
 pub mod Texts
 pub mod Told
+pub mod Geometries

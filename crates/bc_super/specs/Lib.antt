@@ -4,3 +4,4 @@ pub mod Reading
 pub mod Writing
 pub mod Layout
 pub mod Show
+pub mod Division

@@ -3,6 +3,7 @@
 
 pub mod backing;
 pub mod cache;
+pub mod division;
 pub mod error;
 pub mod fields;
 pub mod geometry;

@@ -14,7 +14,11 @@ pub record IsEntry (bytes : List ℕ) (entry : UuidEntry) : Type 0 where
   pub flags : number_at 4 bytes 60 ≡ entry.flags
   pub sectors : number_at 8 bytes 64 ≡ entry.sectors
 
--- and nothing else: the bytes behind the fields are 0
+-- Times aren't kept: an entry is written with times of 0, also where other ones were read.
+abbrev pub without_times : UuidEntry → UuidEntry
+without_times entry = record entry { first_reg = 0; last_reg = 0; invalidated = 0 }
+
+-- what is written of an entry, and nothing else: the bytes behind the fields are 0
 pub record IsWrittenEntry (bytes : List ℕ) (entry : UuidEntry) : Type 0 where
-  pub says : IsEntry bytes entry
+  pub says : IsEntry bytes (without_times entry)
   pub rest : (k : ℕ) → 72 ≤ k → slice_index bytes k ≡ 0

@@ -1,6 +1,7 @@
 -- The table that stands in a bucket.
 use Rattle.std.specs.Prelude.{◌≡◌, ◌⊎◌, ℕ, ◌+◌, ◌*◌, ◌<◌, List, length, slice_range, slice_index_or, Result, Ok, OnOk, OnErr}
-use Rattle.bc_model.specs.Sector.{values_of}
+use Rattle.bc_model.specs.Sector.{Image, values_of}
+use Rattle.bc_record.specs.Sectors.{bytes_in}
 use Rattle.bc_disk.specs.Device.{next_count}
 use Rattle.bc_disk.specs.Disk.{DiskFacts, IsRead, IsWritten, IsFailedWrite, IsCounted}
 use Rattle.bc_disk.specs.declared.disk.Failed.{Failed}
@@ -40,6 +41,11 @@ pub record IsTable (g : Geometry) (d : DiskFacts) (bucket : ℕ) (entries : List
   pub read : IsRead (g.bucket * bucket) (values_of bytes) d
   pub many : length entries ≡ entries_in g
   pub holds : HoldsEntries bytes entries
+
+-- the image has this table in the bucket
+pub record TableIn (g : Geometry) (image : Image) (bucket : ℕ) (entries : List UuidEntry) : Type 0 where
+  pub many : length entries ≡ entries_in g
+  pub holds : HoldsEntries (bytes_in image (g.bucket * bucket) g.bucket) entries
 
 -- what a good call answers
 abbrev pub good : Result (Unit {0}) Failed

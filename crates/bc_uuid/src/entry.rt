@@ -17,7 +17,7 @@ pub struct UuidEntry {
     pub first_reg: u32,
     /// When it was last used with it, in seconds; written as 0.
     pub last_reg: u32,
-    /// When it was taken off, in seconds.
+    /// When it was taken off, in seconds; written as 0.
     pub invalidated: u32,
     /// Whether the device is a volume of the cache itself.
     pub flags: u32,
@@ -73,15 +73,12 @@ impl UuidEntry {
         }
     }
 
-    /// Writes the bytes of an entry, of which those that tell nothing are 0.
+    /// Writes the bytes of an entry. The times are 0, and so are the bytes that tell nothing.
     pub fn encode(&self, bytes: &mut [u8])
         requires { length bytes.old ≡ 128 }
         ensures { IsWrittenEntry bytes.new self.now }
     {
         put_names(bytes, &self.uuid, &self.label);
-        put_u32(bytes, 48, self.first_reg);
-        put_u32(bytes, 52, self.last_reg);
-        put_u32(bytes, 56, self.invalidated);
         put_u32(bytes, 60, self.flags);
         put_u64(bytes, 64, self.sectors);
     }

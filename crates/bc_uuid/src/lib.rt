@@ -3,6 +3,7 @@
 
 pub mod entry;
 pub mod error;
+pub mod laws;
 mod table;
 
 pub use entry::UuidEntry;

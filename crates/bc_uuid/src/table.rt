@@ -1,7 +1,8 @@
 //! The table.
-ghost use Rattle.std.specs.Prelude.{◌≡◌, ◌≢◌, ℕ, ◌*◌, ◌<◌, ◌≤◌, length, replicate, slice_index_or, All, IfOk, IfErr, OnOk, OnErr, IfSome, IfNone};
+ghost use Rattle.std.specs.Prelude.{◌≡◌, ◌≢◌, ℕ, ◌*◌, ◌<◌, ◌≤◌, length, replicate, slice_index_or, map, All, IfOk, IfErr, OnOk, OnErr, IfSome, IfNone};
 ghost use Rattle.bc_disk.specs.Disk.{IsKept, IsCounted};
 ghost use Rattle.bc_uuid.specs.declared.entry.UuidEntry.{UuidEntry};
+ghost use Rattle.bc_uuid.specs.Entry.{without_times};
 ghost use Rattle.bc_uuid.specs.Table.{entries_in, IsDevice, HoldsEntries, AreWritten, IsTable, CallsUntil, WritesTable, good};
 
 use crate::entry::{ENTRY, UuidEntry};
@@ -39,7 +40,8 @@ impl Uuids {
         label: &[u8; 32],
     ) -> Result<Uuids, AllocError>
         ensures many { IfOk result (λ t. length t ≡ entries_in g.now) }
-        ensures first { IfOk result (λ t. (d : UuidEntry) → IsDevice uuid.now label.now (slice_index_or t 0 d)) }
+        ensures first { IfOk result (λ t. (d : UuidEntry)
+            → IsDevice uuid.now label.now (slice_index_or t 0 d)) }
         ensures others { IfOk result (λ t. (i : ℕ) (d : UuidEntry) → 0 < i → i < length t
             → IsDevice (replicate 16 0) (replicate 32 0) (slice_index_or t i d)) }
     {
@@ -126,8 +128,8 @@ pub fn read<D: Disk>(
     decode_all(alloc, &bytes, 4 * g.bucket as usize)
 }
 
-/// Writes the table into a bucket, by one call. Takes no memory; what the buffer holds afterwards
-/// isn't said.
+/// Writes the table into a bucket, by one call, with times of 0. Takes no memory; what the buffer
+/// holds afterwards isn't said.
 pub fn write<D: Disk>(
     t: &Uuids,
     disk: &mut D,
@@ -140,7 +142,8 @@ pub fn write<D: Disk>(
     requires many { length t.now ≡ entries_in g.now }
     requires whole { length buffer.old ≡ 512 * g.now.bucket }
     ensures written { WritesTable g.now bucket t.now result (D.facts disk.old) (D.facts disk.new) }
-    ensures table { OnOk result (IsTable g.now (D.facts disk.new) bucket t.now) }
+    ensures table { OnOk result
+        (IsTable g.now (D.facts disk.new) bucket (map without_times t.now)) }
 {
     encode_all(&t.entries, buffer);
     disk.write(u64::from(g.bucket) * u64::from(bucket), buffer)

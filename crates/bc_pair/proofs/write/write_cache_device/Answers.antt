@@ -125,5 +125,5 @@ returns-clause-table g c =
     let three = g.C.Disk.facts c.barrier.new.self in
     let new = g.C.Disk.facts c.write_cache.new.disk in
     let wrote = c.in_ok-write.ensures.written in
-    on_ok_weaker c.write_cache.result (λ stored. table_found l old.sectors c.requires.room wrote.bytes wrote.whole stored.0 stored.1.whole c.args.table.now c.requires.many wrote.holds old new
+    on_ok_weaker c.write_cache.result (λ stored b of. table_found l old.sectors c.requires.room wrote.bytes wrote.whole stored.0 stored.1.whole b c.args.table.now c.requires.many of wrote.holds old new
     (whole_becomes l old.sectors c.requires.room wrote.bytes stored.0 old one two three new c.in_ok-zero_journal.ensures.ok wrote.ok c.in_ok-barrier.ensures.ok stored.2)) c.write_cache.ensures.ok

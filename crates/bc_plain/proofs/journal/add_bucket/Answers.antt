@@ -1,12 +1,13 @@
-use Rattle.std.proofs.Common.{◌+◌, ◌-◌, ◌<◌, List, [], ◌∷◌, ◌++◌, subst, sym, ap, ◌∙◌, arith, append_assoc}
+use Rattle.std.proofs.Common.{◌+◌, ◌-◌, ◌<◌, List, [], ◌∷◌, ◌++◌, subst, sym, ap, ◌∙◌, refl, arith}
 use Rattle.std.proofs.lemmas.List.{append-nil}
 use Rattle.bc_disk.specs.Bytes.{image_of}
 use Rattle.bc_record.specs.Kind.{AreFound}
 use Rattle.bc_record.proofs.Blocks.{bucket_blocks}
 use Rattle.bc_jset.specs.declared.entry.JEntry.{JEntry}
 use Rattle.bc_jset.specs.Records.{entry_kind}
-use Rattle.bc_jset.specs.Entries.{bucket_start, bucket_end}
-use Rattle.bc_plain.proofs.Listed.{bucket_within, device_small, taken, lists_more}
+use Rattle.bc_record.specs.Places.{at_place}
+use Rattle.bc_jset.specs.Entries.{FoundEntry, bucket_start, bucket_end}
+use Rattle.bc_plain.proofs.Listed.{placed_more, behind_more, bucket_within, device_small, taken, lists_more}
 use Rattle.bc_plain.proofs.journal.add_bucket.Goals as goal
 
 pub loop-entry-init : goal.loop-entry-init
@@ -18,6 +19,7 @@ loop-entry-init c =
       whole = ap (λ m. bucket_start g c.args.i + m) blocks.1;
       here = [];
       all = sym (append-nil c.args.all.now.items);
+      next = refl;
       lists = λ rest p. p;
     }
 
@@ -47,7 +49,10 @@ loop-entry-preserved c =
       blocks = more.left;
       whole = more.whole;
       here = so.here ++ c.in-Some.entry ∷ [];
-      all = c.in_ok-push.ensures.items ∙ ap (λ (xs : List JEntry). xs ++ c.in-Some.entry ∷ []) so.all ∙ append_assoc c.args.all.now.items so.here (c.in-Some.entry ∷ []);
+      all =
+          c.in_ok-push.ensures.items ∙ ap (λ (xs : List FoundEntry). xs ++ at_place c.loop-entry.place c.in-Some.entry ∷ []) so.all
+          ∙ placed_more (entry_kind g) (bucket_start g c.args.i) c.loop-entry.place c.args.all.now.items so.here c.in-Some.entry so.next;
+      next = ap (λ n. c.loop-entry.place + n) found.1 ∙ behind_more (entry_kind g) (bucket_start g c.args.i) c.loop-entry.place so.here c.in-Some.entry so.next;
       lists = lists_more (entry_kind g) image (bucket_end g c.args.i) (bucket_start g c.args.i) c.loop-entry.place (c.loop-entry.place + c.in-Some.sectors) so.here c.in-Some.entry so.lists found.0 (ap (λ n. c.loop-entry.place + n) found.1);
     }
 

@@ -1,5 +1,7 @@
 use Rattle.std.proofs.Common.{◌≡◌, ℕ, ◌+◌, ◌-◌, ◌*◌, List, ◌++◌}
 use Rattle.bc_disk.specs.Bytes.{image_of}
+use Rattle.bc_record.specs.Kind.{behind}
+use Rattle.bc_record.specs.Places.{placed}
 use Rattle.bc_jset.specs.declared.entry.JEntry.{JEntry}
 use Rattle.bc_jset.specs.Records.{entry_kind}
 use Rattle.bc_plain.proofs.Listed.{ListsOn}
@@ -10,7 +12,8 @@ invariant-loop-entry l = record {
   blocks : ℕ;
   whole : l.end ≡ l.place + l.g.block * blocks;
   here : List JEntry;
-  all : l.all.items ≡ l.initial.all.items ++ here;
+  all : l.all.items ≡ l.initial.all.items ++ placed (entry_kind l.g) l.start here;
+  next : l.place ≡ behind (entry_kind l.g) l.start here;
   lists : ListsOn (entry_kind l.g) (image_of l.image) l.end l.start here l.place;
 }
 

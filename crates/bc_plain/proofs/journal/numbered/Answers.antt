@@ -1,6 +1,5 @@
 use Rattle.std.proofs.Common.{◌≡◌, ℕ, suc, ◌+◌, ◌<◌, Some, List, ◌++◌, subst, sym, ap, ◌∙◌, arith}
-use Rattle.bc_jset.specs.declared.entry.JEntry.{JEntry}
-use Rattle.bc_jset.specs.Entries.{first_with, AreNumbered}
+use Rattle.bc_jset.specs.Entries.{FoundEntry, first_with, AreNumbered}
 use Rattle.bc_plain.proofs.Listed.{numbered_more, needs_more, none_numbered}
 use Rattle.bc_plain.proofs.journal.numbered.Goals as goal
 
@@ -16,13 +15,13 @@ loop-entry-preserved c =
     let one : suc c.loop-entry.number ≡ c.loop-entry.number + 1 = omega arith in
     let all = c.args.all.now in
     let list = c.loop-entry.list.items in
-    let found : first_with c.loop-entry.number all ≡ Some c.in_ok-copy.field-0 = c.in-Some.ensures ∙ ap (λ (e : JEntry). Some e) (sym c.in_ok-copy.ensures) in
+    let found : first_with c.loop-entry.number all ≡ Some c.in_ok-copy.field-0 = c.in-Some.ensures ∙ ap (λ (e : FoundEntry). Some e) (sym c.in_ok-copy.ensures) in
     let below : c.loop-entry.number < c.args.high = omega (arith, so.high, c.if-number-high.false) in
     record {
       low = omega (arith, so.low);
       high = omega (arith, below);
       lists = λ rest next more.
-          subst (λ (xs : List JEntry). AreNumbered all c.args.low (xs ++ rest) next) (sym c.in_ok-push.ensures.items)
+          subst (λ (xs : List FoundEntry). AreNumbered all c.args.low (xs ++ rest) next) (sym c.in_ok-push.ensures.items)
           (numbered_more all c.args.low c.loop-entry.number list c.in_ok-copy.field-0 so.lists found rest next (subst (λ (n : ℕ). AreNumbered all n rest next) (sym one) more));
       needs = λ es p.
           let rest = so.needs es p in

@@ -1,0 +1,13 @@
+pub mod Unique
+pub mod Stays
+pub mod Torn
+pub mod Formatted
+pub mod Fresh
+pub mod Places
+pub mod Children
+pub mod Examples
+pub mod Views
+pub mod Lacks
+pub mod Supers
+pub mod NewPair
+pub mod TornShown

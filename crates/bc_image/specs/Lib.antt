@@ -1,0 +1,12 @@
+pub mod Pair
+pub mod Pointers
+pub mod Children
+pub mod Tree
+pub mod Reading
+pub mod Shown
+pub mod Rests
+pub mod Uses
+pub mod Sound
+pub mod Formatted
+pub mod Parts
+pub mod NewPair
