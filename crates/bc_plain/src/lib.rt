@@ -3,6 +3,9 @@
 #![tactic(auto)]
 
 pub mod device;
+pub mod extent;
+#[cfg(test)]
+mod extent_tests;
 pub mod history;
 mod image;
 pub mod journal;
