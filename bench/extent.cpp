@@ -1,10 +1,10 @@
-// The inserts of crates/bc_extent_bench into an ordered map: the same extents, with the same cuts of those that were there.
-// Run as: extent KEYS INSERTS
-#include <chrono>
+// The calls of crates/bc_extent_bench of an ordered map: the same extents, with the same cuts of those that were there.
+// Run as: extent KEYS CALLS
 #include <cstdint>
 #include <cstdio>
 #include <cstdlib>
 #include <map>
+#include <time.h>
 
 struct Extent {
     uint64_t end;
@@ -33,7 +33,8 @@ static Extent tail(uint64_t first, const Extent &whole, uint64_t from) {
     return Extent{whole.end, whole.offset + (from - first), whole.dirty};
 }
 
-static void insert(Extents &map, uint64_t first, uint64_t end, uint64_t offset) {
+// Takes the sectors out, and says what comes behind them.
+static Extents::iterator erase(Extents &map, uint64_t first, uint64_t end) {
     auto at = map.lower_bound(first);
     if (at != map.begin()) {
         auto before = std::prev(at);
@@ -48,31 +49,95 @@ static void insert(Extents &map, uint64_t first, uint64_t end, uint64_t offset) 
             map.emplace_hint(std::next(at), end, tail(at->first, at->second, end));
         at = map.erase(at);
     }
+    return at;
+}
+
+static void insert(Extents &map, uint64_t first, uint64_t end, uint64_t offset) {
+    auto at = erase(map, first, end);
     map.emplace_hint(at, first, Extent{end, offset, true});
+}
+
+// The extent that covers the sector.
+static Extents::iterator lookup(Extents &map, uint64_t sector) {
+    auto at = map.upper_bound(sector);
+    if (at == map.begin())
+        return map.end();
+    at = std::prev(at);
+    return at->second.end > sector ? at : map.end();
+}
+
+static bool replace(Extents &map, uint64_t first, const Extent &old, const Extent &other) {
+    auto at = map.find(first);
+    if (at == map.end() || at->second.end != old.end || at->second.offset != old.offset || at->second.dirty != old.dirty)
+        return false;
+    at->second = other;
+    return true;
+}
+
+static void insert_one(Extents &map, uint64_t places, uint64_t number) {
+    uint64_t first = below(places);
+    uint64_t size = 1 + below(LONGEST);
+    insert(map, first, first + size, LONGEST * number);
+}
+
+static void replace_one(Extents &map, uint64_t places) {
+    auto at = lookup(map, below(places));
+    if (at == map.end())
+        return;
+    Extent old = at->second;
+    Extent other = old;
+    other.dirty = !old.dirty;
+    replace(map, at->first, old, other);
+}
+
+static void erase_one(Extents &map, uint64_t places) {
+    uint64_t first = below(places);
+    erase(map, first, first + 1 + below(LONGEST));
+}
+
+static long long micros() {
+    timespec now;
+    clock_gettime(CLOCK_PROCESS_CPUTIME_ID, &now);
+    return now.tv_sec * 1000000LL + now.tv_nsec / 1000;
+}
+
+// The microseconds of processor time that the calls take.
+template <typename Calls> static long long micros_of(Calls calls) {
+    long long start = micros();
+    calls();
+    return micros() - start;
 }
 
 int main(int count, char **words) {
     if (count != 3)
         return 2;
     uint64_t keys = strtoull(words[1], nullptr, 10);
-    uint64_t inserts = strtoull(words[2], nullptr, 10);
+    uint64_t calls = strtoull(words[2], nullptr, 10);
     Extents map;
     for (uint64_t i = 0; i < keys; i++)
         insert(map, first_sector(i), first_sector(i + 1), LONGEST * i);
-    uint64_t places = first_sector(keys) - LONGEST;
+    uint64_t all = first_sector(keys);
+    uint64_t places = all - LONGEST;
 
-    auto start = std::chrono::steady_clock::now();
-    for (uint64_t n = 0; n < inserts; n++) {
-        uint64_t first = below(places);
-        uint64_t size = 1 + below(LONGEST);
-        insert(map, first, first + size, LONGEST * (keys + n));
-    }
-    auto spent = std::chrono::steady_clock::now() - start;
+    long long inserted = micros_of([&] {
+        for (uint64_t n = 0; n < calls; n++)
+            insert_one(map, places, keys + n);
+    });
+    long long replaced = micros_of([&] {
+        for (uint64_t n = 0; n < calls; n++)
+            replace_one(map, all);
+    });
+    long long erased = micros_of([&] {
+        for (uint64_t n = 0; n < calls; n++) {
+            erase_one(map, places);
+            insert_one(map, places, keys + n);
+        }
+    });
 
     uint64_t sum = 0;
     for (auto &[first, extent] : map)
-        for (uint64_t word : {first, extent.end, extent.offset})
+        for (uint64_t word : {first, extent.end, extent.offset, uint64_t(extent.dirty)})
             sum = sum * 31 + word;
     printf("%zu keys, sum %llu\n", map.size(), (unsigned long long)sum);
-    printf("%lld us\n", (long long)std::chrono::duration_cast<std::chrono::microseconds>(spent).count());
+    printf("%lld us\n%lld us\n%lld us\n", inserted, replaced, erased);
 }

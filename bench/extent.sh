@@ -1,26 +1,37 @@
 #!/usr/bin/env bash
-# The extent map beside an ordered map of C++, std::map, in which the same inserts make the same cuts: a million random
-# extents of 1 to 8 sectors, into maps of 1,000, 10,000 and 100,000 keys. Both have to end with the same keys.
+# The extent map beside an ordered map of C++, std::map, in which the same calls make the same cuts: a million random inserts of
+# extents of 1 to 8 sectors, as many keys looked up and replaced, and as many erases, each with an insert, in maps of 1,000, 10,000
+# and 100,000 keys. Both have to end with the same keys.
 #
-# For each number of keys it prints the nanoseconds of an insert in both, and their ratio. What is timed are the inserts
-# alone, of a program that was proved and built before. A word on the command line gives another number of inserts: with a
-# million the last line takes ten minutes, since an insert moves the keys behind its place.
+# For each number of keys it prints the nanoseconds of processor time of a call in both, and their ratio, and at the end the bytes
+# that a key takes in both: the memory that a map of 100,000 keys has above one of 4. What is timed are the calls alone, of a program
+# that was proved and built before. A word on the command line gives another number of calls.
 set -euo pipefail
 cd "$(dirname "$0")/.."
 
-inserts=${1:-1000000}
+calls=${1:-1000000}
 folder=$(mktemp -d)
 trap 'rm -rf "$folder"' EXIT
 "${CXX:-c++}" -O2 -Wall -Wextra -std=c++17 -o "$folder/extent" bench/extent.cpp
+"${CC:-cc}" -O2 -Wall -Wextra -o "$folder/measure" bench/measure.c
 cd crates/bc_extent_bench
 rt run > /dev/null 2> "$folder/proof" || { cat "$folder/proof" >&2; exit 1; }
+proved=$PWD/out/bc_extent_bench
 
-echo "   keys    inserts  proved ns  C++ ns   ratio"
+echo "   keys call             proved ns  C++ ns   ratio"
 for keys in 1000 10000 100000; do
-    ./out/bc_extent_bench "$keys" "$inserts" > "$folder/proved"
-    "$folder/extent" "$keys" "$inserts" > "$folder/plain"
+    "$proved" "$keys" "$calls" > "$folder/proved"
+    "$folder/extent" "$keys" "$calls" > "$folder/plain"
     cmp <(head -n 1 "$folder/proved") <(head -n 1 "$folder/plain")
-    awk -v keys="$keys" -v inserts="$inserts" 'FNR == 2 { micros[++files] = $1 } END {
-        printf "%7d %10d %10.0f %7.0f %7.1f\n", keys, inserts, 1000 * micros[1] / inserts, 1000 * micros[2] / inserts, micros[1] / micros[2]
-    }' "$folder/proved" "$folder/plain"
+    paste <(tail -n 3 "$folder/proved") <(tail -n 3 "$folder/plain") | awk -v keys="$keys" -v calls="$calls" '
+        BEGIN { split("insert,look up and replace,erase and insert", name, ",") }
+        { printf "%7d %-19s %6.0f %7.0f %7.2f\n", keys, name[NR], 1000 * $1 / calls, 1000 * $3 / calls, $1 / $3 }'
 done
+
+# kilobytes PROGRAM KEYS says how much memory the program has at most.
+kilobytes() {
+    "$folder/measure" "$1" "$2" 1 2>&1 > /dev/null | awk '{ print $NF }'
+}
+for program in "$proved" "$folder/extent"; do
+    echo $(((1024 * ($(kilobytes "$program" 100000) - $(kilobytes "$program" 4))) / 100000))
+done | paste -s | awk '{ printf "bytes a key: %d, in C++ %d\n", $1, $2 }'

@@ -1,9 +1,8 @@
 -- The two sides of a range, and the keys between them.
-use Rattle.std.proofs.Common.{◌≡◌, inl, inr, ℕ, ◌+◌, ◌-◌, ◌<◌, ◌≤◌, List, [], ◌∷◌, ◌++◌, length, Option, Some, None, sym, ap, ◌∙◌, arith}
+use Rattle.std.proofs.Common.{inl, inr, ℕ, ◌+◌, ◌-◌, ◌<◌, ◌≤◌, List, [], ◌∷◌, length, Option, Some, None, arith}
 use Rattle.std.specs.Prelude.{option_to_list, IfSome}
 use Rattle.std.specs.List.{AllWithin}
 use Rattle.std.proofs.lemmas.Bool.{cases_lt}
-use Rattle.std.proofs.lemmas.List.{append_assoc}
 use Rattle.bc_key.specs.declared.key.Key.{Key}
 use Rattle.bc_key.specs.Key.{start_of}
 use Rattle.bc_extent.specs.Extents.{IsInOrder}
@@ -65,19 +64,3 @@ module _ (keys : List Key) (order : IsInOrder keys) (first end below above : ℕ
       let one = length-option left in
       let other = length-option right in
       omega arith
-
--- the three parts, added one after another
-pub added : (none one two all : List Key) (left key right : Option Key) → none ≡ [] → one ≡ none ++ option_to_list left → two ≡ one ++ option_to_list key → all ≡ two ++ option_to_list right → all ≡ option_to_list left ++ (option_to_list key ++ option_to_list right)
-added none one two all left key right is first second third =
-    third ∙ ap (λ xs. xs ++ option_to_list right) (second ∙ ap (λ xs. xs ++ option_to_list key) (first ∙ ap (λ xs. xs ++ option_to_list left) is))
-    ∙ append_assoc (option_to_list left) (option_to_list key) (option_to_list right)
-
--- they stand behind the left keys and before the right ones
-pub regrouped : (before behind all : List Key) (left key right : Option Key) → all ≡ option_to_list left ++ (option_to_list key ++ option_to_list right) → (before ++ option_to_list left) ++ (option_to_list key ++ (option_to_list right ++ behind)) ≡ before ++ (all ++ behind)
-regrouped before behind all left key right is =
-    append_assoc before (option_to_list left) (option_to_list key ++ (option_to_list right ++ behind))
-    ∙ ap (λ xs. before ++ xs) (
-    ap (λ xs. option_to_list left ++ xs) (sym (append_assoc (option_to_list key) (option_to_list right) behind))
-    ∙ sym (append_assoc (option_to_list left) (option_to_list key ++ option_to_list right) behind)
-    ∙ ap (λ xs. xs ++ behind) (sym is)
-    )

@@ -1,3 +1,7 @@
+pub mod Looks
+pub mod Joins
+pub mod Slots
+pub mod Turns
 pub mod LastKeys
 pub mod Example
 pub mod Shown

@@ -2,3 +2,9 @@ pub mod LastKey
 pub mod Extents
 pub mod Sides
 pub mod Inserts
+pub mod Calls
+pub mod PtrLaws
+pub mod PtrWord
+pub mod Slot
+pub mod Turned
+pub mod Rings

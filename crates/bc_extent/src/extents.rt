@@ -1,34 +1,82 @@
-ghost use Rattle.std.specs.Prelude.{◌≡◌, ◌↔◌, ℕ, ◌+◌, ◌<◌, ◌≤◌, ◌++◌, [], ◌∷◌, All, Contains, IsTrue, IsNone, IfSome, OnOk, OnErr};
+ghost use Rattle.std.specs.Prelude.{◌≡◌, ◌↔◌, ℕ, ◌+◌, ◌<◌, ◌≤◌, ◌++◌, [], ◌∷◌, ◌*◌, length, slice_get, slice_set, slice_index_or, vec_len, All, Contains, IsTrue, IsNone, IfSome, OnOk, OnErr};
 ghost use Rattle.std.specs.Bool.{OnTrue, OnFalse};
 ghost use Rattle.bc_key.specs.Key.{IsExtent, Covers};
 ghost use Rattle.bc_extent.specs.LastKey.{last_key};
-ghost use Rattle.bc_extent.specs.Extents.{IsInOrder, Shows, room_of, erased};
+ghost use Rattle.bc_extent.specs.Extents.{IsInOrder, Shows, erased};
 
 use crate::change::overlay;
 use crate::places::{key_at, place_of};
+use crate::rows::Rows;
+use crate::slot::Slot;
 use bc_key::Key;
 use std::alloc::{AllocError, Global};
 use std::marker::Model;
 
+/// Takes memory for boxes, so that there are so many at least.
+fn fill_boxes(boxes: &mut Vec<Box<Key>>, alloc: Global, count: usize) -> Result<(), AllocError>
+    ensures more { vec_len boxes.old ≤ vec_len boxes.new }
+    ensures ok { OnOk result (count ≤ vec_len boxes.new) }
+{
+    while boxes.len() < count {
+        let none = Key::new(0, 0, false, None);
+        let kept = Box::new(alloc, none)?;
+        boxes.push(kept)?;
+    }
+    Ok(())
+}
+
+/// For how many keys there is room yet, of those that there was room for: each needs a place, and
+/// two boxes, since a key that cuts another one may need three.
+fn kept_spare(spare: usize, rows: &Rows, boxes: usize) -> usize
+    ensures fewer { result ≤ spare }
+    ensures places { result ≤ rows.now.spare }
+    ensures boxes { 2 * result ≤ boxes }
+    ensures most { (n : ℕ) → n ≤ spare → n ≤ rows.now.spare → 2 * n ≤ boxes → n ≤ result }
+{
+    spare.min(rows.spare()).min(boxes / 2)
+}
+
+/// Puts another key in the place of one.
+fn replace_at(rows: &mut Rows, place: usize, key: &Key)
+    requires within { place < length rows.old.keys }
+    requires several { 1 < key.now.count → 1 < (slice_index_or rows.old.keys place key.now).count }
+    ensures keys { rows.new.keys ≡ slice_set rows.old.keys place key.now }
+    ensures spare { rows.new.spare ≡ rows.old.spare }
+{
+    if key.count <= 1 {
+        let _ = rows.swap_in(place, Slot::new(key));
+        return;
+    }
+    let mut slot = rows.swap_in(place, Slot::empty());
+    slot.put(key);
+    let _ = rows.swap_in(place, slot);
+}
+
 /// The keys of a backing device's sectors, in the order of their ranges, of which no two overlap. The
 /// inode plays no part.
 ///
-/// A place is found in a number of steps that is logarithmic in the number of keys. An insert or an
-/// erase then moves the keys behind that place.
+/// A place is found in a number of steps that is logarithmic in the number of keys. One key more or
+/// less moves at most 128 keys beside it, and one of each 256 behind them. A key of one pointer or
+/// none takes 33 bytes. What is reserved has room for keys of any pointers: each further key that
+/// `spare` counts takes two boxes of a `Key` besides, which stay for later ones.
 #[derive(Drop)]
 pub struct Extents {
-    keys: Vec<Key>,
+    rows: Rows,
+    boxes: Vec<Box<Key>>,
+    spare: usize,
+    alloc: Global,
 }
 
 impl Model for Extents {
-    ghost use Rattle.std.specs.Prelude.{◌-◌, vec_capacity, vec_len};
+    ghost use Rattle.std.specs.Prelude.{◌*◌, ◌≤◌, vec_len};
     ghost use Rattle.bc_extent.specs.Extents.{Extents, IsInOrder};
 
     ghost Value = { Extents };
 
-    ghost view = { λ e. record { keys = e.keys.items; spare = vec_capacity e.keys - vec_len e.keys } };
+    ghost view = { λ e. record { keys = e.rows.keys; spare = e.spare } };
 
-    ghost invariant = { λ e. IsInOrder e.keys.items };
+    ghost invariant = { λ e. IsInOrder e.rows.keys × (e.spare ≤ e.rows.spare)
+        × (2 * e.spare ≤ vec_len e.boxes) };
 }
 
 impl Extents {
@@ -38,23 +86,41 @@ impl Extents {
         ensures spare { result.spare ≡ 0 }
     {
         Extents {
-            keys: Vec::new(alloc),
+            rows: Rows::new(alloc),
+            boxes: Vec::new(alloc),
+            spare: 0,
+            alloc,
         }
     }
 
-    /// The keys, in order.
-    pub fn keys(&self) -> &[Key]
-        ensures keys { result.now ≡ self.now.keys }
-        ensures order { IsInOrder self.now.keys }
+    /// How many keys there are.
+    pub fn len(&self) -> usize
+        ensures { result ≡ length self.now.keys }
     {
-        &self.keys
+        self.rows.len()
     }
 
-    /// How many more keys have room.
+    /// Whether there is no key.
+    pub fn is_empty(&self) -> bool
+        ensures { IsTrue result ↔ (self.now.keys ≡ []) }
+    {
+        self.rows.len() == 0
+    }
+
+    /// The key at this place, counted from 0, in the order of their ranges.
+    pub fn key(&self, i: usize) -> Key
+        requires { i < length self.now.keys }
+        ensures key { slice_get self.now.keys i ≡ Some result }
+        ensures order { IsInOrder self.now.keys }
+    {
+        self.rows.key(i)
+    }
+
+    /// For how many more keys there is room.
     pub fn spare(&self) -> usize
         ensures { result ≡ self.now.spare }
     {
-        self.keys.capacity() - self.keys.len()
+        self.spare
     }
 
     /// Takes memory where `spare` is below `more`, so that it is `more` at least. Where no memory is
@@ -65,7 +131,12 @@ impl Extents {
         ensures ok { OnOk result (more ≤ self.new.spare) }
         ensures err { OnErr result ((self.new.spare ≡ self.old.spare) × (self.old.spare < more)) }
     {
-        self.keys.reserve(more)
+        if self.spare < more {
+            self.rows.reserve(self.alloc, more)?;
+            fill_boxes(&mut self.boxes, self.alloc, 2 * more)?;
+            self.spare = more;
+        }
+        Ok(())
     }
 
     /// The key that covers the sector.
@@ -74,7 +145,7 @@ impl Extents {
         ensures covers { IfSome result (λ key. Covers key sector) }
         ensures none { IsNone result ↔ All (λ key. ¬ (Covers key sector)) self.now.keys }
     {
-        key_at(&self.keys, sector)
+        key_at(&self.rows, sector)
     }
 
     /// Adds a key, the newest. Of an older key that it overlaps, the sectors outside its range are
@@ -86,10 +157,17 @@ impl Extents {
         ensures shows { Shows (last_key (self.old.keys ++ key.now ∷ [])) self.new.keys }
         ensures order { IsInOrder self.new.keys }
         ensures spare { self.old.spare ≤ self.new.spare + 2 }
-        ensures room { room_of self.new ≡ room_of self.old }
     {
         if key.size > 0 {
-            overlay(&mut self.keys, key.start(), key.end, Some(*key));
+            let spare = self.spare;
+            overlay(
+                &mut self.rows,
+                &mut self.boxes,
+                key.start(),
+                key.end,
+                &Some(*key),
+            );
+            self.spare = kept_spare(spare, &self.rows, self.boxes.len());
         }
     }
 
@@ -102,28 +180,31 @@ impl Extents {
             → All (λ key. ¬ (Covers key sector)) self.new.keys }
         ensures order { IsInOrder self.new.keys }
         ensures spare { self.old.spare ≤ self.new.spare + 1 }
-        ensures room { room_of self.new ≡ room_of self.old }
     {
         // A key ends at 2^64 - 1 at most, so none covers a sector from there on.
         let end = first.saturating_add(u64::from(count));
         if first < end {
-            overlay(&mut self.keys, first, end, None);
+            let spare = self.spare;
+            overlay(&mut self.rows, &mut self.boxes, first, end, &None);
+            self.spare = kept_spare(spare, &self.rows, self.boxes.len());
         }
     }
 
     /// Inserts a key in the place of one with the same range, and says whether that key, unchanged,
-    /// was there. Where it wasn't, nothing changes. Takes no memory.
+    /// was there. Where it wasn't, nothing changes. Takes no memory, and so a key of several
+    /// pointers may only come in the place of another such key.
     pub fn replace(&mut self, old: &Key, new: &Key) -> bool
         requires end { new.now.end ≡ old.now.end }
         requires size { new.now.size ≡ old.now.size }
+        requires several { 1 < new.now.count → 1 < old.now.count }
         ensures found { IsTrue result ↔ Contains self.old.keys old.now }
         ensures shows { OnTrue result (Shows (last_key (self.old.keys ++ new.now ∷ [])) self.new.keys) }
         ensures same { OnFalse result (self.new.keys ≡ self.old.keys) }
         ensures order { IsInOrder self.new.keys }
         ensures spare { self.new.spare ≡ self.old.spare }
     {
-        if let Some(place) = place_of(&self.keys, old) {
-            self.keys[place] = *new;
+        if let Some(place) = place_of(&self.rows, old) {
+            replace_at(&mut self.rows, place, new);
             true
         } else {
             false

@@ -2,15 +2,15 @@
 //! older ones, so that the keys stand in order without overlaps.
 #![tactic(auto)]
 
+mod carry;
 mod change;
 mod extents;
+mod gap;
 pub mod laws;
-mod parts;
 mod places;
+mod ring;
+mod rows;
 mod sides;
-mod splice;
+mod slot;
 
 pub use extents::Extents;
-
-#[cfg(test)]
-mod tests;

@@ -1,5 +1,4 @@
-//! Places in a list of keys in order, each found in a number of steps that is logarithmic in their
-//! number.
+//! Places in a row of keys in order.
 
 ghost use Rattle.std.specs.Prelude.{◌≡◌, ◌<◌, ◌≤◌, length, slice_index_or, Contains, IfSome, IfNone};
 ghost use Rattle.std.specs.List.{AllWithin};
@@ -7,50 +6,71 @@ ghost use Rattle.bc_key.specs.Key.{start_of};
 ghost use Rattle.bc_extent.specs.LastKey.{last_key};
 ghost use Rattle.bc_extent.specs.Extents.{IsInOrder};
 
+use crate::rows::Rows;
 use bc_key::Key;
 
-/// How many keys end at the sector or before it. They are the first ones.
-pub fn count_ended(keys: &[Key], sector: u64) -> usize
-    requires { IsInOrder keys.now }
-    ensures within { result ≤ length keys.now }
-    ensures ended { AllWithin (λ key. key.end ≤ sector) keys.now 0 result }
-    ensures later { AllWithin (λ key. sector < key.end) keys.now result (length keys.now) }
+/// How many keys end at the sector or before it. They are the first ones. It takes a number of steps
+/// that is logarithmic in the number of keys.
+pub fn count_ended(rows: &Rows, sector: u64) -> usize
+    requires { IsInOrder rows.now.keys }
+    ensures within { result ≤ length rows.now.keys }
+    ensures ended { AllWithin (λ key. key.end ≤ sector) rows.now.keys 0 result }
+    ensures later { AllWithin (λ key. sector < key.end) rows.now.keys result (length rows.now.keys) }
 {
-    keys.partition_point(|key| key.end <= sector)
+    let mut low = 0;
+    let mut high = rows.len();
+    while low < high {
+        let middle = low + (high - low) / 2;
+        if rows.end(middle) <= sector {
+            low = middle + 1;
+        } else {
+            high = middle;
+        }
+    }
+    low
 }
 
-/// How many keys begin before the sector. They are the first ones.
-pub fn count_begun(keys: &[Key], sector: u64) -> usize
-    requires { IsInOrder keys.now }
-    ensures within { result ≤ length keys.now }
-    ensures begun { AllWithin (λ key. start_of key < sector) keys.now 0 result }
-    ensures later { AllWithin (λ key. sector ≤ start_of key) keys.now result (length keys.now) }
+/// How many keys begin before the sector, where those up to `from` do. They are the first ones. It
+/// takes a step for each of them from there on.
+pub fn count_begun(rows: &Rows, from: usize, sector: u64) -> usize
+    requires order { IsInOrder rows.now.keys }
+    requires within { from ≤ length rows.now.keys }
+    requires begun { AllWithin (λ key. start_of key < sector) rows.now.keys 0 from }
+    ensures from { from ≤ result }
+    ensures within { result ≤ length rows.now.keys }
+    ensures begun { AllWithin (λ key. start_of key < sector) rows.now.keys 0 result }
+    ensures later { AllWithin (λ key. sector ≤ start_of key) rows.now.keys result (length rows.now.keys) }
 {
-    keys.partition_point(|key| key.start() < sector)
+    let count = rows.len();
+    let mut place = from;
+    while place < count && rows.start(place) < sector {
+        place += 1;
+    }
+    place
 }
 
 /// The key that covers the sector.
-pub fn key_at(keys: &[Key], sector: u64) -> Option<Key>
-    requires { IsInOrder keys.now }
-    ensures { result ≡ last_key keys.now sector }
+pub fn key_at(rows: &Rows, sector: u64) -> Option<Key>
+    requires { IsInOrder rows.now.keys }
+    ensures { result ≡ last_key rows.now.keys sector }
 {
-    let place = count_ended(keys, sector);
-    if place < keys.len() && keys[place].start() <= sector {
-        Some(keys[place])
+    let place = count_ended(rows, sector);
+    if place < rows.len() && rows.start(place) <= sector {
+        Some(rows.key(place))
     } else {
         None
     }
 }
 
-/// Where this key stands in the list.
-pub fn place_of(keys: &[Key], key: &Key) -> Option<usize>
-    requires { IsInOrder keys.now }
-    ensures found { IfSome result (λ i. (i < length keys.now)
-        × (slice_index_or keys.now i key.now ≡ key.now)) }
-    ensures none { IfNone result (¬ (Contains keys.now key.now)) }
+/// Where this key stands in the row.
+pub fn place_of(rows: &Rows, key: &Key) -> Option<usize>
+    requires { IsInOrder rows.now.keys }
+    ensures found { IfSome result (λ i. (i < length rows.now.keys)
+        × (slice_index_or rows.now.keys i key.now ≡ key.now)) }
+    ensures none { IfNone result (¬ (Contains rows.now.keys key.now)) }
 {
-    let place = count_ended(keys, key.start());
-    if place < keys.len() && keys[place] == *key {
+    let place = count_ended(rows, key.start());
+    if place < rows.len() && rows.key(place) == *key {
         Some(place)
     } else {
         None

@@ -7,6 +7,7 @@ ghost use Rattle.bc_extent.specs.Extents.{IsRange, IsInOrder, IsPart};
 ghost use Rattle.bc_extent.specs.Sides.{IsBelow, IsAbove, HoldsWithin};
 
 use crate::places::{count_begun, count_ended};
+use crate::rows::Rows;
 use bc_key::{Key, cut_back, cut_front};
 
 /// What lies on one side of a sector: all of the keys up to a place, or from it on, and a part of
@@ -46,34 +47,39 @@ fn part_above(key: &Key, sector: u64) -> Key
 }
 
 /// What lies below the sector.
-pub fn side_below(keys: &[Key], sector: u64) -> Side
-    requires { IsInOrder keys.now }
-    ensures place { result.place ≤ length keys.now }
-    ensures below { IsBelow sector keys.now (take result.place keys.now ++ option_to_list result.part) }
-    ensures ended { AllWithin (λ key. key.end ≤ sector) keys.now 0 result.place }
-    ensures cut { IfSome result.part (λ _. HoldsWithin (λ key. start_of key < sector) keys.now result.place) }
+pub fn side_below(rows: &Rows, sector: u64) -> Side
+    requires { IsInOrder rows.now.keys }
+    ensures place { result.place ≤ length rows.now.keys }
+    ensures below { IsBelow sector rows.now.keys
+        (take result.place rows.now.keys ++ option_to_list result.part) }
+    ensures ended { AllWithin (λ key. key.end ≤ sector) rows.now.keys 0 result.place }
+    ensures cut { IfSome result.part (λ _. HoldsWithin (λ key. start_of key < sector) rows.now.keys result.place) }
 {
-    let place = count_ended(keys, sector);
+    let place = count_ended(rows, sector);
     let mut part = None;
-    if place < keys.len() && keys[place].start() < sector {
-        part = Some(part_below(&keys[place], sector));
+    if place < rows.len() && rows.start(place) < sector {
+        part = Some(part_below(&rows.key(place), sector));
     }
     Side { place, part }
 }
 
-/// What lies from the sector on.
-pub fn side_above(keys: &[Key], sector: u64) -> Side
-    requires { IsInOrder keys.now }
-    ensures place { result.place ≤ length keys.now }
-    ensures above { IsAbove sector keys.now (option_to_list result.part ++ drop result.place keys.now) }
-    ensures later { AllWithin (λ key. sector ≤ start_of key) keys.now result.place (length keys.now) }
+/// What lies from the sector on, where the keys up to `from` end before it.
+pub fn side_above(rows: &Rows, from: usize, sector: u64) -> Side
+    requires order { IsInOrder rows.now.keys }
+    requires within { from ≤ length rows.now.keys }
+    requires ended { AllWithin (λ key. key.end ≤ sector) rows.now.keys 0 from }
+    ensures from { from ≤ result.place }
+    ensures place { result.place ≤ length rows.now.keys }
+    ensures above { IsAbove sector rows.now.keys
+        (option_to_list result.part ++ drop result.place rows.now.keys) }
+    ensures later { AllWithin (λ key. sector ≤ start_of key) rows.now.keys result.place (length rows.now.keys) }
     ensures cut { IfSome result.part (λ _. (0 < result.place)
-        × HoldsWithin (λ key. sector < key.end) keys.now (result.place - 1)) }
+        × HoldsWithin (λ key. sector < key.end) rows.now.keys (result.place - 1)) }
 {
-    let place = count_begun(keys, sector);
+    let place = count_begun(rows, from, sector);
     let mut part = None;
-    if place > 0 && keys[place - 1].end > sector {
-        part = Some(part_above(&keys[place - 1], sector));
+    if place > 0 && rows.end(place - 1) > sector {
+        part = Some(part_above(&rows.key(place - 1), sector));
     }
     Side { place, part }
 }

@@ -1,5 +1,6 @@
-//! Measures what an insert into a large extent map costs: random small extents over sectors that a
-//! given number of keys cover. `bench/extent.cpp` makes the same inserts into an ordered map.
+//! Measures what the calls of a large extent map cost: inserts of random small extents over sectors
+//! that a given number of keys cover, keys replaced by what they are without their dirty bit, and
+//! erases, each with an insert. `bench/extent.cpp` makes the same calls of an ordered map.
 #![tactic(auto)]
 
 ghost use Rattle.std.specs.Prelude.{◌≡◌, ℕ, ◌+◌, ◌*◌, ◌<◌, ◌≤◌, ◌^◌, ◌++◌, [], ◌∷◌, OnOk};
@@ -11,8 +12,7 @@ use bc_extent::Extents;
 use bc_key::{Key, Ptr};
 use std::alloc::{AllocError, Global};
 use std::process::ExitCode;
-use std::rt::Clock;
-use std::time::Instant;
+use std::time::{CpuClock, Duration};
 use std::{env, io};
 
 /// How many sectors an inserted extent has at most.
@@ -23,15 +23,15 @@ const LONGEST: u64 = 8;
 struct Work {
     /// How many keys the map has at first, and about so many afterwards too.
     keys: u32,
-    /// How many extents are inserted.
-    inserts: u32,
+    /// How many extents are inserted, keys replaced, and ranges erased.
+    calls: u32,
     ghost some_keys: { 4 ≤ keys },
 }
 
 /// What a run with no words does.
 const SMALL: Work = Work {
     keys: 1000,
-    inserts: 1000,
+    calls: 1000,
 };
 
 /// Numbers that look random.
@@ -98,10 +98,35 @@ fn filled(alloc: Global, keys: u32) -> Result<Extents, AllocError> {
 }
 
 // Inserts so many extents of 1 to 8 sectors, somewhere in the sectors of the first keys.
-fn insert_all(map: &mut Extents, work: Work) -> Result<(), AllocError> {
-    let mut random = Random(7);
+fn insert_all(map: &mut Extents, random: &mut Random, work: Work) -> Result<(), AllocError> {
     let places = first_sector(work.keys) - LONGEST;
-    for n in 0..work.inserts {
+    for n in 0..work.calls {
+        let first = random.below(places);
+        let size = 1 + random.below(LONGEST) as u16;
+        let number = u64::from(work.keys) + u64::from(n);
+        add(map, &extent(first, size, number))?;
+    }
+    Ok(())
+}
+
+// Looks up so many sectors, and replaces the key of each by one of the other state.
+fn replace_all(map: &mut Extents, random: &mut Random, work: Work) {
+    let places = first_sector(work.keys);
+    for _ in 0..work.calls {
+        if let Some(key) = map.lookup(random.below(places)) {
+            let mut other = key;
+            other.dirty = !key.dirty;
+            map.replace(&key, &other);
+        }
+    }
+}
+
+// Erases so many ranges of 1 to 8 sectors, and inserts an extent after each.
+fn erase_all(map: &mut Extents, random: &mut Random, work: Work) -> Result<(), AllocError> {
+    let places = first_sector(work.keys) - LONGEST;
+    for n in 0..work.calls {
+        map.reserve(1)?;
+        map.erase(random.below(places), 1 + random.below(LONGEST) as u32);
         let first = random.below(places);
         let size = 1 + random.below(LONGEST) as u16;
         let number = u64::from(work.keys) + u64::from(n);
@@ -111,10 +136,16 @@ fn insert_all(map: &mut Extents, work: Work) -> Result<(), AllocError> {
 }
 
 // A number that tells the keys from others.
-fn sum_of(keys: &[Key]) -> u64 {
+fn sum_of(map: &Extents) -> u64 {
     let mut sum = 0u64;
-    for key in keys {
-        for word in [key.start(), key.end, key.ptrs[0].offset] {
+    for i in 0..map.len() {
+        let key = map.key(i);
+        for word in [
+            key.start(),
+            key.end,
+            key.ptrs[0].offset,
+            u64::from(key.dirty),
+        ] {
             sum = sum.wrapping_mul(31).wrapping_add(word);
         }
     }
@@ -125,28 +156,36 @@ fn sum_of(keys: &[Key]) -> u64 {
 fn work_of(arguments: &[String]) -> Option<Work> {
     match arguments {
         [] => Some(SMALL),
-        [keys, inserts] => {
+        [keys, calls] => {
             let keys = keys.parse::<u32>().ok()?;
-            let inserts = inserts.parse::<u32>().ok()?;
+            let calls = calls.parse::<u32>().ok()?;
             if keys < 4 {
                 return None;
             }
-            Some(Work { keys, inserts })
+            Some(Work { keys, calls })
         }
         _ => None,
     }
 }
 
-// Does the work, and prints how many keys are left, their sum and the microseconds of the inserts.
-fn run<R: Clock + Print + AllocGlobal>(rt: &R, work: Work, timed: bool) -> io::Result<ExitCode> {
+// Does the work, and prints how many keys are left, their sum and the microseconds of processor time of
+// the inserts, of the replaces and of the erases.
+fn run<R: CpuClock + Print + AllocGlobal>(rt: &R, work: Work, timed: bool) -> io::Result<ExitCode> {
     let mut map = filled(rt.alloc(), work.keys)?;
-    let start = Instant::now(rt)?;
-    insert_all(&mut map, work)?;
-    let spent = start.elapsed(rt)?;
-    let keys = map.keys();
-    println!(rt; "{} keys, sum {}", keys.len(), sum_of(keys))?;
+    let mut random = Random(7);
+    let begun = rt.process_cpu_time()?;
+    insert_all(&mut map, &mut random, work)?;
+    let inserted = rt.process_cpu_time()?;
+    replace_all(&mut map, &mut random, work);
+    let replaced = rt.process_cpu_time()?;
+    erase_all(&mut map, &mut random, work)?;
+    let erased = rt.process_cpu_time()?;
+    println!(rt; "{} keys, sum {}", map.len(), sum_of(&map))?;
     if timed {
-        println!(rt; "{} us", spent.as_micros())?;
+        for (from, to) in [(begun, inserted), (inserted, replaced), (replaced, erased)] {
+            let spent = to.checked_sub(from).unwrap_or(Duration::ZERO);
+            println!(rt; "{} us", spent.as_micros())?;
+        }
     }
     Ok(ExitCode::SUCCESS)
 }
@@ -156,7 +195,7 @@ fn main(rt: HostRuntime) -> io::Result<ExitCode> {
     match work_of(&arguments) {
         Some(work) => run(&rt, work, !arguments.is_empty()),
         None => {
-            eprintln!(rt; "usage: bc_extent_bench [KEYS INSERTS]")?;
+            eprintln!(rt; "usage: bc_extent_bench [KEYS CALLS]")?;
             Ok(ExitCode::from(2))
         }
     }

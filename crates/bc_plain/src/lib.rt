@@ -5,6 +5,9 @@
 #[cfg(test)]
 mod candidates;
 pub mod device;
+pub mod extent;
+#[cfg(test)]
+mod extent_tests;
 pub mod flight;
 pub mod history;
 mod image;

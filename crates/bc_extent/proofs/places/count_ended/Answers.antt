@@ -1,17 +1,34 @@
-use Rattle.std.proofs.Common.{◌≡◌, true, false, leb, leb-true, leb-false, rules}
-use Rattle.std.specs.List.Sorted.{IsPartitionPoint}
-use Rattle.std.proofs.lemmas.List.Sorted.{IsPartitionPoint-from_clause, IsPartitionedBy-leb}
-use Rattle.bc_key.specs.declared.key.Key.{Key}
+use Rattle.std.proofs.Common.{◌<◌, ◌+◌, ◌-◌, ◌/◌, length, arith}
 use Rattle.bc_extent.proofs.LastKeys.{ends_rise}
 use Rattle.bc_extent.proofs.places.count_ended.Goals as goal
 
-point : (c : goal.After-partition_point) → IsPartitionPoint (λ (key : Key). leb key.end c.args.sector ≡ true) (λ key. leb key.end c.args.sector ≡ false) c.args.keys.now c.partition_point.result
-point c =
-    let parted = IsPartitionedBy-leb (λ (key : Key). key.end) c.args.keys.now c.args.sector (ends_rise c.args.keys.now c.requires) in
-    IsPartitionPoint-from_clause (λ key. leb key.end c.args.sector) _ _ c.partition_point.ensures.partitioned parted (λ a r q k. search rules)
+pub loop-low-preserved-then-end-sector : goal.loop-low-preserved-then-end-sector
+loop-low-preserved-then-end-sector c =
+    let keys = c.args.rows.now.keys in
+    let low = c.loop-low.low in
+    let high = c.loop-low.high in
+    let keeps = c.loop-low.invariant in
+    let some = c.loop-low-test.true in
+    let middle = low + (high - low) / 2 in
+    let inside : middle < length keys = omega (arith, keeps.high) in
+    record {
+      low = omega arith;
+      high = keeps.high;
+      ended = λ k d from below. let rise = ends_rise keys c.requires k middle d (omega arith) inside in omega (arith, rise, c.end.ensures d, c.if-end-sector.true);
+      later = keeps.later;
+    }
 
-pub returns-clause-ended : goal.returns-clause-ended
-returns-clause-ended c = λ k d from below. leb-true _ _ ((point c).0 k d from below)
-
-pub returns-clause-later : goal.returns-clause-later
-returns-clause-later c = λ k d from below. leb-false _ _ ((point c).1 k d from below)
+pub loop-low-preserved : goal.loop-low-preserved
+loop-low-preserved c =
+    let keys = c.args.rows.now.keys in
+    let low = c.loop-low.low in
+    let high = c.loop-low.high in
+    let keeps = c.loop-low.invariant in
+    let some = c.loop-low-test.true in
+    let middle = low + (high - low) / 2 in
+    record {
+      low = omega arith;
+      high = omega (arith, keeps.high);
+      ended = keeps.ended;
+      later = λ k d from below. let rise = ends_rise keys c.requires middle k d from below in omega (arith, rise, c.end.ensures d, c.if-end-sector.false);
+    }

@@ -1,0 +1,11 @@
+use Rattle.std.proofs.Common.{◌≡◌, ◌≤◌, ◌-◌}
+use Rattle.bc_extent.proofs.rows.Rows.reserve.Given as goal
+
+abbrev pub invariant-loop-alloc : goal.invariant-loop-alloc
+invariant-loop-alloc l = record {
+  keys : l.self.keys ≡ l.fn.self.keys;
+  raised : l.fn.self.spare ≤ l.self.spare;
+}
+
+abbrev pub decreases-loop-alloc : goal.decreases-loop-alloc
+decreases-loop-alloc l = l.more - l.self.spare

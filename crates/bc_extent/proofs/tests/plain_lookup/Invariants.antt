@@ -1,6 +1,0 @@
-use Rattle.std.proofs.Common.{◌≡◌, take}
-use Rattle.bc_extent.specs.LastKey.{last_key}
-use Rattle.bc_extent.proofs.tests.plain_lookup.Given as goal
-
-abbrev pub invariant-loop-key : goal.invariant-loop-key
-invariant-loop-key l = l.last ≡ last_key (take l.key-index l.keys) l.sector
