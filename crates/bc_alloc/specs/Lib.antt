@@ -1,0 +1,6 @@
+pub mod Reserve
+pub mod Reserves
+pub mod Inside
+pub mod Buckets
+pub mod Victims
+pub mod Choice

@@ -1,0 +1,4 @@
+pub mod Bucket
+pub mod Buckets
+pub mod Walk
+pub mod Meaning
