@@ -36,7 +36,7 @@ second_checksum : HasChecksum (sector_with second_numbers)
 unfolding number_at checksum dividend message remainder
 second_checksum = refl
 
-first_is_entry : IsEntry 1 (sector_with first_numbers) first_entry
+pub first_is_entry : IsEntry 1 (sector_with first_numbers) first_entry
 unfolding number_at words_at
 first_is_entry = record {
   whole = record { header = record { room = lit≤ tt; magic = refl; version = refl }; few = lit≤ tt; long = lit≤ tt; checksum = first_checksum };
@@ -51,7 +51,7 @@ first_is_entry = record {
   extents = example_is_entry.extents;
 }
 
-second_is_entry : IsEntry 1 (sector_with second_numbers) second_entry
+pub second_is_entry : IsEntry 1 (sector_with second_numbers) second_entry
 unfolding number_at words_at
 second_is_entry = record {
   whole = record { header = record { room = lit≤ tt; magic = refl; version = refl }; few = lit≤ tt; long = lit≤ tt; checksum = second_checksum };
@@ -67,7 +67,7 @@ second_is_entry = record {
 }
 
 -- an entry that begins a sector is found there
-found_in_sector : (image : Image) (end place : ℕ) (value : List ℕ) (e : JEntry) → image place ≡ value → length value ≡ 512 → bytes_of e ≤ 512 → 0 < end - place → IsEntry 1 value e → EntryFound example_geometry image end place e
+pub found_in_sector : (image : Image) (end place : ℕ) (value : List ℕ) (e : JEntry) → image place ≡ value → length value ≡ 512 → bytes_of e ≤ 512 → 0 < end - place → IsEntry 1 value e → EntryFound example_geometry image end place e
 unfolding bytes_in
 found_in_sector image end place value e here whole small some is =
     entry_stays 1 value (bytes_to image end place) e is
