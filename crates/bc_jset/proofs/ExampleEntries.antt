@@ -37,7 +37,7 @@ second_checksum : HasChecksum (sector_with second_numbers)
 unfolding number_at checksum dividend message remainder
 second_checksum = refl
 
-first_is_entry : IsEntry 1 (sector_with first_numbers) first_entry
+pub first_is_entry : IsEntry 1 (sector_with first_numbers) first_entry
 unfolding number_at words_at
 first_is_entry = record {
   whole = record { header = record { room = lit≤ tt; magic = refl; version = refl }; few = lit≤ tt; long = lit≤ tt; checksum = first_checksum };

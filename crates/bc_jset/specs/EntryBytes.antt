@@ -19,6 +19,10 @@ use Rattle.bc_jset.specs.declared.error.JsetError.TheVariants as errors
 abbrev pub bytes_of : JEntry → ℕ
 bytes_of e = 240 + 8 * length (words_of_all e.keys)
 
+-- the entry with other keys
+abbrev pub with_keys : JEntry → List Key → JEntry
+with_keys e keys = record { seq = e.seq; last_seq = e.last_seq; uuid_bucket = e.uuid_bucket; root = e.root; level = e.level; prio = e.prio; keys = keys }
+
 -- the most words of keys
 abbrev pub most_words : ℕ
 most_words = 4066

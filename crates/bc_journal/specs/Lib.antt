@@ -1,0 +1,5 @@
+pub mod Ring
+pub mod Sealed
+pub mod Journal
+pub mod Images
+pub mod Example
