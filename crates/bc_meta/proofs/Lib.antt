@@ -1,0 +1,17 @@
+pub mod Lists
+pub mod Tree
+pub mod Good
+pub mod Ring
+pub mod Keep
+pub mod Left
+pub mod Runs
+pub mod Scan
+pub mod Firm
+pub mod Place
+pub mod Steps
+pub mod Reopen
+pub mod Chains
+pub mod Calm
+pub mod Acts
+pub mod Example
+pub mod Teeth

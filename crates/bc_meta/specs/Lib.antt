@@ -1,0 +1,12 @@
+pub mod Keys
+pub mod Facts
+pub mod Entries
+pub mod Tree
+pub mod Layout
+pub mod Chain
+pub mod Events
+pub mod Records
+pub mod Places
+pub mod Acts
+pub mod Laws
+pub mod Example
