@@ -74,7 +74,10 @@ ids=(--set 5e70000000000000000000000000005e --cuuid ca00000000000000000000000000
 try_words 'format with no further word' 2 usage cache.img backing.img format
 try_words 'a set of zeros' 2 usage cache.img backing.img format --set 00000000000000000000000000000000 "${ids[@]:2}" --block 1 --bucket 64
 try_words 'upper-case digits' 2 usage cache.img backing.img format --set 5E70000000000000000000000000005E "${ids[@]:2}" --block 1 --bucket 64
-try_words 'the options in another order' 2 usage cache.img backing.img format "${ids[@]}" --bucket 64 --block 1
+try_words 'an option twice' 2 usage cache.img backing.img format "${ids[@]}" --block 1 --bucket 64 --block=1
+try_words 'an option without its value' 2 usage cache.img backing.img format "${ids[@]}" --bucket 64 --block
+try_words 'an unknown mode' 2 usage cache.img backing.img serve --mode fast
+try_words 'a cutoff one too large' 2 usage cache.img backing.img serve --cutoff=1099511627777
 try_words 'a block of three sectors' 2 usage cache.img backing.img format "${ids[@]}" --block 3 --bucket 64
 try_words 'a bucket beyond any number' 2 usage cache.img backing.img format "${ids[@]}" --block 1 --bucket 18446744073709551680
 try_words 'a further word behind format' 2 usage cache.img backing.img format "${ids[@]}" --block 1 --bucket 64 now
@@ -84,11 +87,13 @@ try_words 'adopt over an empty cache file' 4 'superblock cache 9' cache.img back
 try_words 'show over an empty cache file' 4 'superblock cache 9' cache.img backing.img show
 
 try_trace 'an unknown letter behind a write' 3 'trace 2 2' '1 w 0 1 1\n1 x 0 1\n'
-try_trace 'an empty line' 3 'trace 1 2' '\n1 w 0 1 1\n'
-try_trace 'a stamp of zero behind a write' 3 'trace 2 2' '1 w 0 1 1\n1 w 0 1 0\n'
-try_trace 'a line of 81 bytes behind a write' 3 'trace 2 2' "1 w 0 1 1\n1 r 0 1$(printf '%74s' '')\n"
+try_trace 'a comment behind a space' 3 'trace 1 3' ' # no comment\n1 w 0 1 1\n'
+try_trace 'a forced write behind a write' 3 'trace 2 2' '1 w 0 1 1\n1 W 0 1 1\n'
+try_trace 'another worker behind a write' 3 'trace 2 5' '1 w 0 1 1\n2 w 0 1 1\n'
+try_trace 'a stamp of zero behind a write' 3 'trace 2 4' '1 w 0 1 1\n1 w 0 1 0\n'
+try_trace 'a line of 81 bytes behind a write' 3 'trace 2 1' "1 w 0 1 1\n1 r 0 1$(printf '%74s' '')\n"
 { echo '1 w 0 1 1'; seq 262144 | sed 's/.*/1 f/'; } > trace
-try_from trace printed 'a line too many' 3 'trace 262145 2' cache.img backing.img serve
+try_from trace printed 'a line too many' 3 'trace 262145 6' cache.img backing.img serve
 seq 262144 | sed 's/.*/1 w 0 1 1/' > trace
 memory=8000
 try_from trace printed 'a trace beyond the memory' 9 memory cache.img backing.img serve
@@ -126,7 +131,7 @@ change 0 '\x70\x25\x78\xac\xd9\x2c\x7f\x5c'
 try_trace 'a version that is not read' 4 'superblock backing 3' '1 w 0 1 1\n'
 change 24 '\x00'
 try_trace 'no superblock' 4 'superblock backing 1' '1 w 0 1 1\n'
-try_trace 'no superblock, and a trace that is refused' 3 'trace 1 2' 'w 0 1 1\n'
+try_trace 'no superblock, and a trace that is refused' 3 'trace 1 3' 'w 0 1 1\n'
 
 new_files 16
 truncate -s 4M cache.img

@@ -7,9 +7,12 @@ use Rattle.std.proofs.Math.Seq.{take-add}
 use Rattle.std.proofs.lemmas.List.{take_more, take_all, take-append-drop}
 use Rattle.bc_disk.specs.Stream.{StreamFacts}
 use Rattle.bc_script.specs.declared.answer.Answer.{Answer}
+use Rattle.bc_script.specs.declared.answer.Answer.TheVariants.{Silent, Done, Runs, Refused}
+use Rattle.bc_script.specs.Answer.{IsText}
+use Rattle.bc_script.specs.Trace.{ended}
 use Rattle.bc_output.specs.declared.put.WriteFault.{WriteFault}
 use Rattle.bc_output.specs.Put.{Takes, IsWriteFault}
-use Rattle.bc_output.specs.Lines.{IsLineOf, AreLines, StandsFor, StandForAll, IsCut, memory_line}
+use Rattle.bc_output.specs.Lines.{IsFirstLoud, IsLineOf, AreLines, StandsFor, StandForAll, IsCut, memory_line}
 use Rattle.bc_output.proofs.Taken.{takes_more}
 
 or_none : (b : Bool) → b ≡ (b || false)
@@ -92,9 +95,27 @@ line_more answers i answer text line inside is all one =
     subst (λ (these : List Answer). StandForAll false these (text ++ line)) (sym (take_more answers i answer inside ∙ ap (λ (a : Answer). take i answers ++ a ∷ []) (sym is))) (one_more false false (take i answers) answer text line all one)
 
 -- no memory for the first
-pub memory_first : (answers : List Answer) → 0 < length answers → StandForAll true (take 1 answers) memory_line
-memory_first [] some = absurd (omega arith)
-memory_first (answer ∷ answers) some = (true, false, memory_line, [], refl, (refl, refl), refl, sym (append-nil memory_line))
+pub memory_first : (answers : List Answer) → 0 < length answers → IsFirstLoud answers → StandForAll true (take 1 answers) memory_line
+memory_first [] some loud = absurd (omega arith)
+memory_first (answer ∷ answers) some loud = (true, false, memory_line, [], (refl, loud), (refl, refl), refl, sym (append-nil memory_line))
+
+-- the line of an answer for which something is printed
+pub loud_line : (answer : Answer) (text : List ℕ) → (answer ≡ Silent → ⊥) → IsText answer text → IsLineOf answer (ended text)
+loud_line Silent text loud is = absurd (loud refl)
+loud_line Done text loud is = (text, is, refl)
+loud_line (Runs first values) text loud is = (text, is, refl)
+loud_line (Refused refusal) text loud is = (text, is, refl)
+
+pub silent_line : (answer : Answer) → answer ≡ Silent → IsLineOf answer []
+silent_line Silent is = refl
+silent_line Done is = cc
+silent_line (Runs first values) is = cc
+silent_line (Refused refusal) is = cc
+
+-- the first of these answers, where it stands
+pub first_loud : (answers : List Answer) (answer : Answer) → answer ≡ get_or answers 0 answer → (answer ≡ Silent → ⊥) → IsFirstLoud answers
+first_loud [] answer is loud = tt
+first_loud (a ∷ as_) answer is loud = λ e. loud (is ∙ e)
 
 -- so many of those behind a place
 next_ones : (answers : List Answer) (i n : ℕ) → take (i + n) answers ≡ take i answers ++ take n (drop i answers)

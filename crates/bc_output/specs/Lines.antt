@@ -2,13 +2,15 @@
 use Rattle.std.specs.Prelude.{◌≡◌, ℕ, Bool, true, false, ◌||◌, List, [], ◌∷◌, ◌++◌, codes}
 use Rattle.bc_disk.specs.Stream.{StreamFacts}
 use Rattle.bc_script.specs.declared.answer.Answer.{Answer}
+use Rattle.bc_script.specs.declared.answer.Answer.TheVariants.{Silent}
 use Rattle.bc_script.specs.Answer.{IsText}
 use Rattle.bc_script.specs.Trace.{ended}
 use Rattle.bc_output.specs.declared.put.WriteFault.{WriteFault}
 use Rattle.bc_output.specs.Put.{Takes, IsWriteFault}
 
--- the line of an answer: its text and a newline
+-- the line of an answer: its text and a newline, and nothing where nothing was asked for
 abbrev pub IsLineOf : Answer → List ℕ → Type 0
+IsLineOf Silent line = line ≡ []
 IsLineOf answer line = (text : List ℕ) × IsText answer text × (line ≡ ended text)
 
 -- the lines of these answers, one behind the other
@@ -23,7 +25,12 @@ memory_line = ended (codes "memory")
 -- what is put for an answer: its line, or, where no memory was found for it, the other one
 abbrev pub StandsFor : Bool → Answer → List ℕ → Type 0
 StandsFor false answer line = IsLineOf answer line
-StandsFor true answer line = line ≡ memory_line
+StandsFor true answer line = (line ≡ memory_line) × (answer ≡ Silent → ⊥)
+
+-- something is printed for the first of these answers
+abbrev pub IsFirstLoud : List Answer → Type 0
+IsFirstLoud [] = Unit {0}
+IsFirstLoud (answer ∷ answers) = answer ≡ Silent → ⊥
 
 -- what is put for these answers, one line behind the other, and whether no memory was found for one of them
 abbrev pub StandForAll : Bool → List Answer → List ℕ → Type 0

@@ -4,7 +4,7 @@ ghost use Rattle.std.specs.Bool.{OnFalse};
 ghost use Rattle.bc_disk.specs.Device.{HasRisen};
 ghost use Rattle.bc_script.specs.Answer.{IsPrintable};
 ghost use Rattle.bc_output.specs.Put.{Takes, IsWriteFault};
-ghost use Rattle.bc_output.specs.Lines.{IsLineOf, AreLines, StandForAll, IsCut};
+ghost use Rattle.bc_output.specs.Lines.{IsFirstLoud, IsLineOf, AreLines, StandForAll, IsCut};
 
 use crate::put::{WriteFault, put_all};
 use bc_disk::stream::Sink;
@@ -36,7 +36,11 @@ fn print_line(answer: &Answer, lines: &mut Vec<u8>) -> Result<(), AllocError>
     requires { IsPrintable answer.now }
     ensures ok { OnOk result ((line : List ℕ) × IsLineOf answer.now line × (lines.new.items ≡ lines.old.items ++ line)) }
     ensures err { OnErr result (lines.new.items ≡ lines.old.items) }
+    ensures loud { OnErr result (answer.now ≡ Answer.Silent → ⊥) }
 {
+    if answer.is_silent() {
+        return Ok(());
+    }
     let before = lines.len();
     print_answer(answer, lines)?;
     if lines.push(b'\n').is_err() {
@@ -52,6 +56,7 @@ fn gather(answers: &[Answer], lines: &mut Vec<u8>) -> usize
     requires { All IsPrintable answers.now }
     ensures count { result ≤ length answers.now }
     ensures lines { StandForAll false (take result answers.now) lines.new.items }
+    ensures loud { result ≡ 0 → IsFirstLoud answers.now }
 {
     lines.clear();
     let mut count = 0;
@@ -97,7 +102,7 @@ fn put_some<K: Sink>(answers: &[Answer], lines: &mut Vec<u8>, out: &mut K) -> Ba
     }
 }
 
-/// Puts the line of each answer in order: its text and a newline. Where no memory is found for a
+/// Puts the line of each answer in order: its text and a newline, and nothing for one that is silent. Where no memory is found for a
 /// text its line is `memory`. Lines are put some at a time; the first write fault ends this, and the
 /// sink has then taken less than all lines up to there.
 pub fn put_answers<K: Sink>(alloc: Global, answers: &[Answer], out: &mut K) -> Printed

@@ -4,7 +4,9 @@ use Rattle.std.proofs.Common.{sym, ◌∙◌, arith, inl, inr}
 use Rattle.bc_prog.specs.Refusal.{status_of as refusal_status}
 use Rattle.bc_prog.specs.declared.refusal.Refusal.{Refusal}
 use Rattle.bc_prog.specs.declared.refusal.Refusal.TheVariants as refusals
+use Rattle.bc_disk.specs.Stream.{StreamFacts}
 use Rattle.bc_top.specs.Stops.{status_of}
+use Rattle.bc_top.specs.Top.{LacksMemory}
 use Rattle.bc_top.specs.declared.stop.Stop.{Stop}
 use Rattle.bc_top.specs.declared.stop.Stop.TheVariants.{Usage, Trace, Source, Fault, Superblock, Image, Memory}
 
@@ -23,7 +25,12 @@ began (Some pass) status stopped run zero = (pass, run)
 began None status stopped run zero = let it = stopped refl in absurd (stops_above_zero it.0 (sym it.1 ∙ zero))
 
 -- a refusal that isn't one of memory
-pub refused : (refusal : Refusal) (status : ℕ) → (refusal ≡ refusals.Memory → ⊥) → status ≡ refusal_status refusal → (status ≡ 2) ⊎ (status ≡ 6)
+pub refused : (refusal : Refusal) (status : ℕ) → (refusal ≡ refusals.Memory → ⊥) → status ≡ refusal_status refusal → (status ≡ 2) ⊎ ((status ≡ 6) ⊎ (status ≡ 9))
 refused refusals.Usage status other ended = inl ended
-refused (refusals.NotOpened device) status other ended = inr ended
+refused (refusals.NotOpened device) status other ended = inr (inl ended)
 refused refusals.Memory status other ended = absurd (other refl)
+
+-- words that spell no command, or for which there was no memory
+pub unknown : {C B : Type 0} {cache cache' : C} {backing backing' : B} {old new : StreamFacts} (status : ℕ) → (status ≡ 2) ⊎ LacksMemory status cache cache' backing backing' old new → (status ≡ 2) ⊎ ((status ≡ 6) ⊎ (status ≡ 9))
+unknown status (inl two) = inl two
+unknown status (inr lacks) = inr (inr lacks.status_is)

@@ -57,7 +57,7 @@ pub fn run<R: Files<File = File> + Wait, S: Source, K: Sink>(
 ) -> u8
     ensures few { length words.now < 3 → IsRefused refusals.Usage result (K.facts out.old) (K.facts out.new) }
     ensures usage { result ≡ 2 → (command : Command) → Says (drop 2 words.now) command → ⊥ }
-    ensures unknown { ((command : Command) → Says (drop 2 words.now) command → ⊥) → (result ≡ 2) ⊎ (result ≡ 6) }
+    ensures unknown { ((command : Command) → Says (drop 2 words.now) command → ⊥) → (result ≡ 2) ⊎ (result ≡ 6) ⊎ (result ≡ 9) }
     ensures done { IsServe (drop 2 words.now) → result ≡ 0 → IsDone (S.facts trace.old) (S.facts trace.new) (K.facts out.old) (K.facts out.new) }
 {
     match open_disks(rt, words) {

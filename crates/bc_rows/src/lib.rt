@@ -4,6 +4,8 @@
 #[cfg(test)]
 mod failing;
 #[cfg(test)]
+mod lines;
+#[cfg(test)]
 mod pair;
 #[cfg(test)]
 mod pairs;

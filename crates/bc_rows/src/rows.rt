@@ -60,7 +60,35 @@ fn printed(rt: HostRuntime) -> Result<(), Fail> {
     let text = "done\ndone\n7x2 8x1 7x1 zerox1\n";
     test_row(&rt, alloc, "serve", trace, text, 0)?;
     test_row(&rt, alloc, "fly", "1 r 0 1\n", "usage\n", 2)?;
-    test_row(&rt, alloc, "serve", "1 f\n1 x\n", "trace 2 2\n", 3)
+    test_row(&rt, alloc, "serve", "1 f\n1 x\n", "trace 2 2\n", 3)?;
+    // Lines that ask for nothing print nothing, and without a cache a round has nothing to do.
+    let trace = "# 1 x\n\n   \n1 w 0 8 7\n - \n1 b\n1 c\n1 m\n01 r 0 008";
+    test_row(
+        &rt,
+        alloc,
+        "serve",
+        trace,
+        "done\ndone\ndone\ndone\n7x8\n",
+        0,
+    )
+}
+
+#[test]
+fn refused_lines(rt: HostRuntime) -> Result<(), Fail> {
+    let alloc = rt.alloc();
+    for (trace, text) in [
+        ("1 w 0 8 7\n\n1 x 0 8\n", "trace 3 2\n"),
+        ("17 r 0 1", "trace 1 5\n"),
+        ("1 w 0 8 0", "trace 1 4\n"),
+        ("1 w 0 0", "trace 1 4\n"),
+        ("1 r z 1", "trace 1 3\n"),
+        ("1 r 0 1 9", "trace 1 2\n"),
+        ("1 f\n2 w 0 8 7\n", "trace 2 5\n"),
+        ("1 f\n1 W 0 8 7\n", "trace 2 2\n"),
+    ] {
+        test_row(&rt, alloc, "serve", trace, text, 3)?;
+    }
+    Ok(())
 }
 
 // Serves over a superblock of version 4, at whose place of the data offset this number stands.

@@ -1,11 +1,12 @@
 pub mod Cases
 pub mod Words
 pub mod Numbers
-pub mod Readings
 pub mod Lines
 pub mod Told
 pub mod Printed
 pub mod Texts
-pub mod Grows
+pub mod Marks
 pub mod OneReading
 pub mod Outcomes
+pub mod Drawn
+pub mod Sums

@@ -1,13 +1,19 @@
 -- The lines of a text, as its bytes come.
 use Rattle.std.proofs.Common.{◌≡◌, ◌≢◌, inl, inr, ℕ, suc, ◌<◌, ◌≤◌, Bool, true, false, ◌==◌, List, [], ◌∷◌, ◌++◌, length, refl, sym, ap, ◌∙◌, subst, arith, if◌then◌else◌, append_assoc, append-nil, length-append}
+use Rattle.std.specs.Prelude.{Ok, Err}
 use Rattle.std.specs.List.{onto_first}
 use Rattle.bc_script.specs.declared.line.Line.{Line}
 use Rattle.bc_script.specs.declared.script.TraceError.{TraceError}
 use Rattle.bc_script.specs.declared.script.TraceError.TheVariants.{Script}
-use Rattle.bc_script.specs.Line.{Spells}
-use Rattle.bc_script.specs.Trace.{HasNoNewline, lines_of, SpellAll, most_lines, IsRefused}
+use Rattle.bc_script.specs.declared.form.Form.{Form}
+use Rattle.bc_script.specs.declared.form.Form.TheVariants.{Quiet}
+use Rattle.bc_script.specs.declared.reason.Reason.{Reason}
+use Rattle.bc_script.specs.declared.reason.Reason.TheVariants.{Length, TooMany}
+use Rattle.bc_script.specs.Line.{◌>>=◌, form_in, is_comment, said_in, words}
+use Rattle.bc_script.specs.Serving.{if_served, line_in}
+use Rattle.bc_script.specs.Trace.{HasNoNewline, lines_of, line_of, phase_after, SpellAll, SpellTo, most_lines, IsRefused}
 use Rattle.bc_script.specs.Draft.{IsSoFar, Stops}
-use Rattle.bc_script.proofs.Cases.{by_test}
+use Rattle.bc_script.proofs.Cases.{by_test, by_le}
 
 -- a byte of the line
 in_line : (b : ℕ) (bs : List ℕ) → b ≢ 10 → lines_of (b ∷ bs) ≡ onto_first b (lines_of bs)
@@ -47,84 +53,93 @@ part_push : (part : List ℕ) (b : ℕ) → HasNoNewline part → b ≢ 10 → H
 part_push [] b h other = (other, tt)
 part_push (x ∷ xs) b h other = (h.0, part_push xs b h.1 other)
 
-spell_push : (front : List (List ℕ)) (lines : List Line) (text : List ℕ) (line : Line) → SpellAll front lines → Spells text line → SpellAll (front ++ text ∷ []) (lines ++ line ∷ [])
-spell_push [] [] text line h spelled = (spelled, tt)
-spell_push [] (l ∷ ls) text line h spelled = absurd h
-spell_push (t ∷ ts) [] text line h spelled = absurd h
-spell_push (t ∷ ts) (l ∷ ls) text line h spelled = (h.0, spell_push ts ls text line h.1 spelled)
+spell_push : (phase end : ℕ) (front : List (List ℕ)) (lines : List Line) (text : List ℕ) (form : Form) → SpellTo phase front lines end → line_in text ≡ Ok form
+    → SpellTo phase (front ++ text ∷ []) (lines ++ line_of end form ∷ []) (phase_after end form)
+spell_push phase end [] [] text form h read =
+    let P : ℕ → Type 0 = λ p. SpellTo p (text ∷ []) (line_of end form ∷ []) (phase_after end form) in
+    subst P (sym h) (form, read, refl, refl)
+spell_push phase end [] (l ∷ ls) text form h read = absurd h
+spell_push phase end (t ∷ ts) [] text form h read = absurd h
+spell_push phase end (t ∷ ts) (l ∷ ls) text form h read = (h.0, h.1, h.2, spell_push (phase_after phase h.0) end ts ls text form h.3 read)
 
-spell_length : (front : List (List ℕ)) (lines : List Line) → SpellAll front lines → length front ≡ length lines
-spell_length [] [] h = refl
-spell_length [] (l ∷ ls) h = absurd h
-spell_length (t ∷ ts) [] h = absurd h
-spell_length (t ∷ ts) (l ∷ ls) h = ap suc (spell_length ts ls h.1)
+pub spell_length : (phase end : ℕ) (front : List (List ℕ)) (lines : List Line) → SpellTo phase front lines end → length front ≡ length lines
+spell_length phase end [] [] h = refl
+spell_length phase end [] (l ∷ ls) h = absurd h
+spell_length phase end (t ∷ ts) [] h = absurd h
+spell_length phase end (t ∷ ts) (l ∷ ls) h = ap suc (spell_length (phase_after phase h.0) end ts ls h.3)
 
 -- one byte of a line comes
-pub pushed : (text : List ℕ) (lines : List Line) (part new left : List ℕ) (b : ℕ) → b ≢ 10 → new ≡ part ++ b ∷ [] → IsSoFar text lines part (b ∷ left) → IsSoFar text lines new left
-pushed text lines part new left b other is h =
-    let P : List ℕ → Type 0 = λ p. IsSoFar text lines p left in
+pub pushed : (text : List ℕ) (lines : List Line) (phase : ℕ) (part new left : List ℕ) (b : ℕ) → b ≢ 10 → new ≡ part ++ b ∷ [] → IsSoFar text lines phase part (b ∷ left) → IsSoFar text lines phase new left
+pushed text lines phase part new left b other is h =
+    let P : List ℕ → Type 0 = λ p. IsSoFar text lines phase p left in
     subst P (sym is) (h.0, h.1 ∙ ap (λ (bs : List ℕ). h.0 ++ lines_of bs) (sym (append_assoc part (b ∷ []) left)), h.2, part_push part b h.3 other)
 
 -- its newline comes
-pub ended : (text : List ℕ) (lines new : List Line) (part now left : List ℕ) (line : Line) → Spells part line → new ≡ lines ++ line ∷ [] → now ≡ [] → IsSoFar text lines part (10 ∷ left) → IsSoFar text new now left
-ended text lines new part now left line spelled is none h =
-    let P : List Line → Type 0 = λ ls. IsSoFar text ls now left in
-    let Q : List ℕ → Type 0 = λ p. IsSoFar text (lines ++ line ∷ []) p left in
-    subst P (sym is) (subst Q (sym none) (
+pub ended : (text : List ℕ) (lines new : List Line) (phase next : ℕ) (part now left : List ℕ) (form : Form) → line_in part ≡ Ok form → new ≡ lines ++ line_of phase form ∷ [] → next ≡ phase_after phase form → now ≡ []
+    → IsSoFar text lines phase part (10 ∷ left) → IsSoFar text new next now left
+ended text lines new phase next part now left form read is after none h =
+    let P : List Line → Type 0 = λ ls. IsSoFar text ls next now left in
+    let R : ℕ → Type 0 = λ p. IsSoFar text (lines ++ line_of phase form ∷ []) p now left in
+    let Q : List ℕ → Type 0 = λ p. IsSoFar text (lines ++ line_of phase form ∷ []) (phase_after phase form) p left in
+    subst P (sym is) (subst R (sym after) (subst Q (sym none) (
       h.0 ++ part ∷ [],
       h.1 ∙ ap (λ (ls : List (List ℕ)). h.0 ++ ls) (cut part left h.3) ∙ sym (append_assoc h.0 (part ∷ []) (lines_of left)),
-      spell_push h.0 lines part line h.2 spelled,
+      spell_push 0 phase h.0 lines part form h.2 read,
       tt,
-    ))
+    )))
 
 -- the end of the text ends the last line too
-pub last_line : (text : List ℕ) (lines : List Line) (part : List ℕ) → 0 < length part → IsSoFar text lines part [] → IsSoFar text lines part (10 ∷ [])
-last_line text lines part some h =
+pub last_line : (text : List ℕ) (lines : List Line) (phase : ℕ) (part : List ℕ) → 0 < length part → IsSoFar text lines phase part [] → IsSoFar text lines phase part (10 ∷ [])
+last_line text lines phase part some h =
     (h.0, h.1 ∙ ap (λ (ls : List (List ℕ)). h.0 ++ ls) (ap (λ (bs : List ℕ). lines_of bs) (append-nil part) ∙ cut_last part h.3 some ∙ sym (cut part [] h.3)), h.2, h.3)
 
-pub whole : (text : List ℕ) (lines : List Line) (part : List ℕ) → part ≡ [] → IsSoFar text lines part [] → SpellAll (lines_of text) lines
-whole text lines part none h =
+pub whole : (text : List ℕ) (lines : List Line) (phase : ℕ) (part : List ℕ) → part ≡ [] → IsSoFar text lines phase part [] → SpellAll (lines_of text) lines
+whole text lines phase part none h =
     let P : List (List ℕ) → Type 0 = λ ls. SpellAll ls lines in
-    subst P (sym (h.1 ∙ ap (λ (bs : List ℕ). h.0 ++ lines_of (bs ++ [])) none ∙ append-nil h.0)) h.2
+    subst P (sym (h.1 ∙ ap (λ (bs : List ℕ). h.0 ++ lines_of (bs ++ [])) none ∙ append-nil h.0)) (phase, h.2)
 
 -- the three ways of refusing a line
 
-refused : (text : List ℕ) (lines : List Line) (front after : List (List ℕ)) (line : List ℕ) (e : TraceError) → lines_of text ≡ front ++ line ∷ after → SpellAll front lines → length lines ≤ most_lines
-    → IsRefused (length lines) line → e ≡ Script (record { line = suc (length lines); why = 2 }) → Stops text e
-refused text lines front after line e is spelled few bad made =
+refused : (text : List ℕ) (lines : List Line) (phase : ℕ) (front after : List (List ℕ)) (line : List ℕ) (why : Reason) (e : TraceError) → lines_of text ≡ front ++ line ∷ after → SpellTo 0 front lines phase
+    → IsRefused (length lines) line why → e ≡ Script (record { line = suc (length lines); why = why }) → Stops text e
+refused text lines phase front after line why e is spelled bad made =
     let P : TraceError → Type 0 = λ e. Stops text e in
-    let same = spell_length front lines spelled in
-    let Q : ℕ → Type 0 = λ n. IsRefused n line in
+    let same = spell_length 0 phase front lines spelled in
+    let Q : ℕ → Type 0 = λ n. IsRefused n line why in
     subst P (sym made) (record {
       before = front;
       spelled = lines;
       refused = line;
       after = after;
       parts = is;
-      spells = spelled;
-      few = omega arith;
+      spells = (phase, spelled);
       cause = subst Q (sym same) bad;
       line = ap suc (sym same);
-      why = refl;
     })
 
-pub refused_line : (text : List ℕ) (lines : List Line) (part left : List ℕ) (e : TraceError) → length lines ≤ most_lines → ((line : Line) → Spells part line → ⊥)
-    → e ≡ Script (record { line = suc (length lines); why = 2 }) → IsSoFar text lines part (10 ∷ left) → Stops text e
-refused_line text lines part left e few none made h =
-    refused text lines h.0 (lines_of left) part e (h.1 ∙ ap (λ (ls : List (List ℕ)). h.0 ++ ls) (cut part left h.3)) h.2 few (inl none) made
+pub refused_line : (text : List ℕ) (lines : List Line) (phase : ℕ) (part left : List ℕ) (why : Reason) (e : TraceError) → length lines < most_lines → line_in part ≡ Err why
+    → e ≡ Script (record { line = suc (length lines); why = why }) → IsSoFar text lines phase part (10 ∷ left) → Stops text e
+refused_line text lines phase part left why e few bad made h =
+    refused text lines phase h.0 (lines_of left) part why e (h.1 ∙ ap (λ (ls : List (List ℕ)). h.0 ++ ls) (cut part left h.3)) h.2 (inr (few, bad)) made
 
-pub refused_long : (text : List ℕ) (lines : List Line) (part left : List ℕ) (b : ℕ) (e : TraceError) → length lines ≤ most_lines → b ≢ 10 → length part ≡ 80
-    → e ≡ Script (record { line = suc (length lines); why = 2 }) → IsSoFar text lines part (b ∷ left) → Stops text e
-refused_long text lines part left b e few other long made h =
-    let next = pushed text lines part (part ++ b ∷ []) left b other refl h in
+-- a line of more bytes
+too_long : (text : List ℕ) → 80 < length text → line_in text ≡ Err Length
+unfolding line_in form_in
+too_long text long = by_le (length text) 80 (λ b. ((if b then (if is_comment text then Ok Quiet else said_in (words text)) else Err Length) >>= if_served) ≡ Err Length)
+    (λ short. absurd (omega arith)) (λ _. refl)
+
+pub refused_long : (text : List ℕ) (lines : List Line) (phase : ℕ) (part left : List ℕ) (b : ℕ) (e : TraceError) → length lines < most_lines → b ≢ 10 → length part ≡ 80
+    → e ≡ Script (record { line = suc (length lines); why = Length }) → IsSoFar text lines phase part (b ∷ left) → Stops text e
+refused_long text lines phase part left b e few other long made h =
+    let next = pushed text lines phase part (part ++ b ∷ []) left b other refl h in
     let count = length-append part (b ∷ []) in
     let o = begun (part ++ b ∷ []) left next.3 (omega arith) in
     let more = length-append (part ++ b ∷ []) o.0 in
-    refused text lines next.0 o.1 ((part ++ b ∷ []) ++ o.0) e (next.1 ∙ ap (λ (ls : List (List ℕ)). next.0 ++ ls) o.2) next.2 few
-    (inl (λ line spelled. let short = spelled.short in omega arith)) made
+    refused text lines phase next.0 o.1 ((part ++ b ∷ []) ++ o.0) Length e (next.1 ∙ ap (λ (ls : List (List ℕ)). next.0 ++ ls) o.2) next.2
+    (inr (few, too_long ((part ++ b ∷ []) ++ o.0) (omega arith))) made
 
-pub refused_many : (text : List ℕ) (lines : List Line) (part left : List ℕ) (b : ℕ) (e : TraceError) → length lines ≡ most_lines → part ≡ []
-    → e ≡ Script (record { line = suc (length lines); why = 2 }) → IsSoFar text lines part (b ∷ left) → Stops text e
-refused_many text lines part left b e full none made h =
+pub refused_many : (text : List ℕ) (lines : List Line) (phase : ℕ) (part left : List ℕ) (b : ℕ) (e : TraceError) → length lines ≡ most_lines → part ≡ []
+    → e ≡ Script (record { line = suc (length lines); why = TooMany }) → IsSoFar text lines phase part (b ∷ left) → Stops text e
+refused_many text lines phase part left b e full none made h =
     let o = some_line b left in
-    refused text lines h.0 o.1 o.0 e (h.1 ∙ ap (λ (bs : List ℕ). h.0 ++ lines_of (bs ++ b ∷ left)) none ∙ ap (λ (ls : List (List ℕ)). h.0 ++ ls) o.2) h.2 (omega arith) (inr full) made
+    refused text lines phase h.0 o.1 o.0 TooMany e (h.1 ∙ ap (λ (bs : List ℕ). h.0 ++ lines_of (bs ++ b ∷ left)) none ∙ ap (λ (ls : List (List ℕ)). h.0 ++ ls) o.2) h.2 (inl (full, refl)) made

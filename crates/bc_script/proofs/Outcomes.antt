@@ -12,13 +12,14 @@ use Rattle.bc_model.specs.declared.history.Entry.TheVariants as entry
 use Rattle.bc_model.proofs.Cases.{by_le, by_test}
 use Rattle.bc_model.proofs.Runs.{at_range, at_miss}
 use Rattle.bc_script.specs.declared.line.Action.{Action}
-use Rattle.bc_script.specs.declared.line.Action.TheVariants.{Write, Read, Flush}
+use Rattle.bc_script.specs.declared.line.Action.TheVariants.{Write, ForcedWrite, Read, Flush, Round}
 use Rattle.bc_script.specs.declared.line.Line.{Line}
+use Rattle.bc_script.specs.declared.line.Line.TheVariants as line
 use Rattle.bc_script.specs.declared.answer.Answer.{Answer}
 use Rattle.bc_script.specs.declared.answer.Answer.TheVariants.{Done, Runs, Refused}
 use Rattle.bc_script.specs.declared.answer.Refusal.TheVariants.{OutOfRange}
-use Rattle.bc_script.specs.Served.{IsInside, IsOutside, writes, ServesAction, ServesWrite, ServesRead, ServesFlush, ServedFrom}
-use Rattle.bc_script.specs.Expected.{IsAnswered, AllAnswered, shown, written, shown_after, answer_of, answers_of}
+use Rattle.bc_script.specs.Served.{IsInside, IsOutside, writes, forced_writes, ServesForced, ServesAction, ServesWrite, ServesRead, ServesFlush, ServesRound, ServesLine, ServedFrom}
+use Rattle.bc_script.specs.Expected.{IsAsked, IsAnswered, AllAnswered, shown, written, shown_behind, shown_after, asked_answer, answer_of, answers_of}
 
 -- pieces that lie one behind the other and make up a range
 abbrev Tiles : ℕ → ℕ → List Piece → Type 0
@@ -83,6 +84,11 @@ writes_shown worker number stamp (p ∷ ps) first count t image s =
     both (inr low) (inr mid) (inr high) =
         written_out stamp (first + p.count) t.1 (written stamp first p.count image) s (inr (let c = t.2 in omega arith)) ∙ written_out stamp first p.count image s (inr mid) ∙ sym (written_out stamp first count image s (inr high))
 
+-- what acknowledges a forced write writes nothing
+forced_shown : (worker number stamp : ℕ) (ps : List Piece) (image : Image) (s : ℕ) → now_of image (forced_writes worker number stamp ps) s ≡ now_of image (writes worker number stamp ps) s
+forced_shown worker number stamp [] image s = refl
+forced_shown worker number stamp (p ∷ ps) image s = forced_shown worker number stamp ps (image_after image (entry.Write worker number p.first (patterns stamp p.first p.count))) s
+
 -- a run of values that are what the sectors show
 gives_shown : (image : Image) (first : ℕ) (values : List Value) → Gives first values (λ s v. v ≡ image s) → values ≡ shown image first (length values)
 gives_shown image first [] h = refl
@@ -127,25 +133,41 @@ shown_same : (a b : Image) → ((s : ℕ) → a s ≡ b s) → (first n : ℕ) �
 shown_same a b same first zero = refl
 shown_same a b same first (suc n) = ap (λ (v : Value). v ∷ shown a (suc first) n) (same first) ∙ ap (λ (vs : List Value). b first ∷ vs) (shown_same a b same (suc first) n)
 
-after_same : (size : ℕ) (action : Action) (a b : Image) → ((s : ℕ) → a s ≡ b s) → (s : ℕ) → shown_after size action a s ≡ shown_after size action b s
-after_same size (Write first count stamp) a b same s = either (nat_le (first + count) size)
+behind_same : (size : ℕ) (action : Action) (a b : Image) → ((s : ℕ) → a s ≡ b s) → (s : ℕ) → shown_behind size action a s ≡ shown_behind size action b s
+behind_same size (Write first count stamp) a b same s = either (nat_le (first + count) size)
   where
     either : (t : Bool) → (if t then written stamp first count a else a) s ≡ (if t then written stamp first count b else b) s
     either true = ap (λ (v : Value). unless (at_run first (patterns stamp first count) s) v) (same s)
     either false = same s
-after_same size (Read first count) a b same s = same s
-after_same size Flush a b same s = same s
+behind_same size (ForcedWrite first count stamp) a b same s = either (nat_le (first + count) size)
+  where
+    either : (t : Bool) → (if t then written stamp first count a else a) s ≡ (if t then written stamp first count b else b) s
+    either true = ap (λ (v : Value). unless (at_run first (patterns stamp first count) s) v) (same s)
+    either false = same s
+behind_same size (Read first count) a b same s = same s
+behind_same size Flush a b same s = same s
+behind_same size (Round round) a b same s = same s
 
-answer_same : (size : ℕ) (action : Action) (a b : Image) → ((s : ℕ) → a s ≡ b s) → answer_of size action a ≡ answer_of size action b
-answer_same size (Write first count stamp) a b same = refl
-answer_same size (Read first count) a b same = ap (λ (vs : List Value). if nat_le (first + count) size then Runs first vs else Refused OutOfRange) (shown_same a b same first count)
-answer_same size Flush a b same = refl
+after_same : (size : ℕ) (l : Line) (a b : Image) → ((s : ℕ) → a s ≡ b s) → (s : ℕ) → shown_after size l a s ≡ shown_after size l b s
+after_same size line.Silent a b same s = same s
+after_same size (line.Request worker phase action) a b same s = behind_same size action a b same s
+
+asked_same : (size : ℕ) (action : Action) (a b : Image) → ((s : ℕ) → a s ≡ b s) → asked_answer size action a ≡ asked_answer size action b
+asked_same size (Write first count stamp) a b same = refl
+asked_same size (ForcedWrite first count stamp) a b same = refl
+asked_same size (Read first count) a b same = ap (λ (vs : List Value). if nat_le (first + count) size then Runs first vs else Refused OutOfRange) (shown_same a b same first count)
+asked_same size Flush a b same = refl
+asked_same size (Round round) a b same = refl
+
+answer_same : (size : ℕ) (l : Line) (a b : Image) → ((s : ℕ) → a s ≡ b s) → answer_of size l a ≡ answer_of size l b
+answer_same size line.Silent a b same = refl
+answer_same size (line.Request worker phase action) a b same = asked_same size action a b same
 
 pub answers_same : (size : ℕ) (lines : List Line) (a b : Image) → ((s : ℕ) → a s ≡ b s) → answers_of size lines a ≡ answers_of size lines b
 answers_same size [] a b same = refl
-answers_same size (line ∷ lines) a b same =
-    ap (λ (x : Answer). x ∷ answers_of size lines (shown_after size line.action a)) (answer_same size line.action a b same)
-    ∙ ap (λ (xs : List Answer). answer_of size line.action b ∷ xs) (answers_same size lines (shown_after size line.action a) (shown_after size line.action b) (after_same size line.action a b same))
+answers_same size (l ∷ lines) a b same =
+    ap (λ (x : Answer). x ∷ answers_of size lines (shown_after size l a)) (answer_same size l a b same)
+    ∙ ap (λ (xs : List Answer). answer_of size l b ∷ xs) (answers_same size lines (shown_after size l a) (shown_after size l b) (after_same size l a b same))
 
 -- what the test of the range says
 is_inside : (size first count : ℕ) → IsInside size first count → nat_le (first + count) size ≡ true
@@ -156,9 +178,9 @@ is_outside size first count outside = by_le (first + count) size (λ t. t ≡ fa
 
 -- one line
 abbrev Follows : ℕ → Action → Answer → List Entry → Image → Type 0
-Follows size action answer own image = (answer ≡ answer_of size action image) × ((s : ℕ) → now_of image own s ≡ shown_after size action image s)
+Follows size action answer own image = (answer ≡ asked_answer size action image) × ((s : ℕ) → now_of image own s ≡ shown_behind size action image s)
 
-follows : (size worker number : ℕ) (action : Action) (answer : Answer) (own : List Entry) (image : Image) → ServesAction size worker number action answer own → IsAnswered size action answer → IsLegalOf image own → Follows size action answer own image
+follows : (size worker number : ℕ) (action : Action) (answer : Answer) (own : List Entry) (image : Image) → ServesAction size worker number action answer own → IsAsked size action answer → IsLegalOf image own → Follows size action answer own image
 follows size worker number (Write first count stamp) answer own image serves (inl done) legal =
     let yes = is_inside size first count done.0 in
     let sv = subst (λ (a : Answer). ServesWrite size worker number first count stamp a own) done.1 serves in (
@@ -169,6 +191,19 @@ follows size worker number (Write first count stamp) answer own image serves (in
 follows size worker number (Write first count stamp) answer own image serves (inr outside) legal =
     let beyond = is_outside size first count outside.0 in
     let sv = subst (λ (a : Answer). ServesWrite size worker number first count stamp a own) outside.1 serves in (
+      outside.1 ∙ sym (ap (λ t. if t then Done else Refused OutOfRange) beyond),
+      (λ s. ap (λ (es : List Entry). now_of image es s) sv.1 ∙ sym (ap (λ (t : Bool). (if t then written stamp first count image else image) s) beyond)),
+    )
+follows size worker number (ForcedWrite first count stamp) answer own image serves (inl done) legal =
+    let yes = is_inside size first count done.0 in
+    let sv = subst (λ (a : Answer). ServesForced size worker number first count stamp a own) done.1 serves in (
+      done.1 ∙ sym (ap (λ t. if t then Done else Refused OutOfRange) yes),
+      (λ s. ap (λ (es : List Entry). now_of image es s) sv.1 ∙ forced_shown worker number stamp (pieces first count) image s ∙ writes_shown worker number stamp (pieces first count) first count (tiles first count) image s
+          ∙ sym (ap (λ (t : Bool). (if t then written stamp first count image else image) s) yes)),
+    )
+follows size worker number (ForcedWrite first count stamp) answer own image serves (inr outside) legal =
+    let beyond = is_outside size first count outside.0 in
+    let sv = subst (λ (a : Answer). ServesForced size worker number first count stamp a own) outside.1 serves in (
       outside.1 ∙ sym (ap (λ t. if t then Done else Refused OutOfRange) beyond),
       (λ s. ap (λ (es : List Entry). now_of image es s) sv.1 ∙ sym (ap (λ (t : Bool). (if t then written stamp first count image else image) s) beyond)),
     )
@@ -188,6 +223,14 @@ follows size worker number (Read first count) answer own image serves (inr outsi
 follows size worker number Flush answer own image serves is legal =
     let sv = subst (λ (a : Answer). ServesFlush worker number a own) is serves in
     (is, (λ s. ap (λ (es : List Entry). now_of image es s) sv))
+follows size worker number (Round round) answer own image serves is legal =
+    let sv = subst (λ (a : Answer). ServesRound a own) is serves in
+    (is, (λ s. ap (λ (es : List Entry). now_of image es s) sv))
+
+line_follows : (size number : ℕ) (l : Line) (answer : Answer) (own : List Entry) (image : Image) → ServesLine size number l answer own → IsAnswered size l answer → IsLegalOf image own
+    → (answer ≡ answer_of size l image) × ((s : ℕ) → now_of image own s ≡ shown_after size l image s)
+line_follows size number line.Silent answer own image serves is legal = (is, (λ s. ap (λ (es : List Entry). now_of image es s) serves.1))
+line_follows size number (line.Request worker phase action) answer own image serves is legal = follows size worker number action answer own image serves is legal
 
 pub outcome_from : (size number : ℕ) (lines : List Line) (answers : List Answer) (history : List Entry) (image : Image) → ServedFrom size number lines answers history → IsLegalOf image history → AllAnswered size lines answers → answers ≡ answers_of size lines image
 outcome_from size number [] [] history image served legal all = refl
@@ -195,6 +238,6 @@ outcome_from size number [] (a ∷ rest) history image served legal all = absurd
 outcome_from size number (l ∷ ls) [] history image served legal all = absurd served
 outcome_from size number (l ∷ ls) (a ∷ rest) history image (own, later, is, serves, behind) legal all =
     let parts = legal_parts image own later (subst (IsLegalOf image) is legal) in
-    let here = follows size l.worker number l.action a own image serves all.0 parts.0 in
+    let here = line_follows size number l a own image serves all.0 parts.0 in
     ap (λ (x : Answer). x ∷ rest) here.0
-    ∙ ap (λ (xs : List Answer). answer_of size l.action image ∷ xs) (outcome_from size (suc number) ls rest later (now_of image own) behind parts.1 all.1 ∙ answers_same size ls (now_of image own) (shown_after size l.action image) here.1)
+    ∙ ap (λ (xs : List Answer). answer_of size l image ∷ xs) (outcome_from size (suc number) ls rest later (now_of image own) behind parts.1 all.1 ∙ answers_same size ls (now_of image own) (shown_after size l image) here.1)

@@ -32,7 +32,7 @@ same (Other a) (Other b) h = absurd (cc)
 pub self_joined : (x y : Seen) → is_joined x y ≡ true → is_joined x x ≡ true
 self_joined x y h = subst (λ (z : Seen). is_joined x z ≡ true) (sym (same x y h)) h
 
-seen_push : (first : ℕ) (vs : List Value) (xs : List Seen) (v : Value) (x : Seen) → AreSeen first vs xs → IsSeen (first + length vs) v x → AreSeen first (vs ++ v ∷ []) (xs ++ x ∷ [])
+pub seen_push : (first : ℕ) (vs : List Value) (xs : List Seen) (v : Value) (x : Seen) → AreSeen first vs xs → IsSeen (first + length vs) v x → AreSeen first (vs ++ v ∷ []) (xs ++ x ∷ [])
 seen_push first [] [] v x h one = let P : ℕ → Type 0 = λ n. IsSeen n v x in (subst P (omega arith) one, tt)
 seen_push first [] (y ∷ ys) v x h one = absurd h
 seen_push first (w ∷ ws) [] v x h one = absurd h

@@ -5,7 +5,7 @@ use Rattle.std.proofs.lemmas.Nat.{from_le_bytes-to_le_bytes_8}
 use Rattle.bc_model.specs.Sector.{Value}
 use Rattle.bc_model.specs.Pattern.{pattern, zeros}
 use Rattle.bc_script.specs.declared.answer.Answer.{Answer}
-use Rattle.bc_script.specs.declared.answer.Answer.TheVariants.{Done, Runs, Refused}
+use Rattle.bc_script.specs.declared.answer.Answer.TheVariants.{Silent, Done, Runs, Refused}
 use Rattle.bc_script.specs.declared.seen.Seen.{Seen}
 use Rattle.bc_script.specs.declared.seen.Seen.TheVariants.{Stamp, Zero, Other}
 use Rattle.bc_script.specs.Runs.{IsSeen, AreSeen, runs_text}
@@ -50,6 +50,7 @@ all_seen first (v ∷ vs) (x ∷ xs) (y ∷ ys) p q =
     ap (λ (z : Seen). z ∷ xs) (one_seen first v x y p.0 q.0) ∙ ap (λ (zs : List Seen). y ∷ zs) (all_seen (suc first) vs xs ys p.1 q.1)
 
 pub text_is_one : (answer : Answer) (a b : List ℕ) → IsText answer a → IsText answer b → a ≡ b
+text_is_one Silent a b p q = p ∙ sym q
 text_is_one Done a b p q = p ∙ sym q
 text_is_one (Runs first values) a b p q = p.2 ∙ ap (λ (xs : List Seen). runs_text xs) (all_seen first values p.0 q.0 p.1 q.1) ∙ sym q.2
 text_is_one (Refused refusal) a b p q = p ∙ sym q

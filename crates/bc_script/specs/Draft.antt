@@ -4,17 +4,18 @@ use Rattle.bc_script.specs.declared.draft.Draft.{Draft}
 use Rattle.bc_script.specs.declared.line.Line.{Line}
 use Rattle.bc_script.specs.declared.script.TraceError.{TraceError}
 use Rattle.bc_script.specs.declared.script.TraceError.TheVariants.{Script, Fault, Memory}
-use Rattle.bc_script.specs.Trace.{lines_of, HasNoNewline, SpellAll, most_lines, IsTrace, IsFirstRefused}
+use Rattle.bc_script.specs.Trace.{lines_of, HasNoNewline, SpellTo, most_lines, IsTrace, IsFirstRefused}
 
--- whole lines, and the front of the next
-pub record IsDraft (lines : List Line) (part : List ℕ) : Type 0 where
+-- whole lines, the phase behind them, and the front of the next line
+pub record IsDraft (lines : List Line) (phase : ℕ) (part : List ℕ) : Type 0 where
   pub trace : IsTrace lines
+  pub risen : phase ≤ length lines
   pub short : length part ≤ 80
   pub full : length lines ≡ most_lines → part ≡ []
 
 -- what is still to be read of the text is the rest of the line that the part begins, and what follows it
-abbrev pub IsSoFar : List ℕ → List Line → List ℕ → List ℕ → Type 0
-IsSoFar text lines part left = (front : List (List ℕ)) × (lines_of text ≡ front ++ lines_of (part ++ left)) × SpellAll front lines × HasNoNewline part
+abbrev pub IsSoFar : List ℕ → List Line → ℕ → List ℕ → List ℕ → Type 0
+IsSoFar text lines phase part left = (front : List (List ℕ)) × (lines_of text ≡ front ++ lines_of (part ++ left)) × SpellTo 0 front lines phase × HasNoNewline part
 
 -- at most so many bytes were read
 abbrev pub bytes_read : List Line → List ℕ → ℕ
@@ -22,10 +23,10 @@ bytes_read lines part = 81 * length lines + length part
 
 -- the same of a draft
 abbrev pub IsValid : Draft → Type 0
-IsValid draft = IsDraft draft.lines.items draft.part.items
+IsValid draft = IsDraft draft.lines.items draft.phase draft.part.items
 
 abbrev pub Continues : List ℕ → Draft → List ℕ → Type 0
-Continues text draft left = IsSoFar text draft.lines.items draft.part.items left
+Continues text draft left = IsSoFar text draft.lines.items draft.phase draft.part.items left
 
 abbrev pub size_of : Draft → ℕ
 size_of draft = bytes_read draft.lines.items draft.part.items

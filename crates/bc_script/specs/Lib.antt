@@ -1,5 +1,7 @@
+pub mod Reason
 pub mod Line
-pub mod Reading
+pub mod Serving
+pub mod Proper
 pub mod Trace
 pub mod Draft
 pub mod Runs
@@ -7,3 +9,5 @@ pub mod Answer
 pub mod Served
 pub mod Example
 pub mod Expected
+pub mod Generator
+pub mod Summary

@@ -4,6 +4,7 @@ ghost use Rattle.bc_script.specs.Trace.{lines_of, SpellAll, IsTrace};
 
 use crate::line::Line;
 use crate::parse::line_of;
+use crate::reason::Reason;
 use crate::script::{Script, ScriptError, TraceError};
 use std::alloc::Global;
 
@@ -16,6 +17,8 @@ const MOST_BYTES: usize = 80;
 #[derive(Drop)]
 pub(crate) struct Draft {
     lines: Vec<Line>,
+    // The phase of the next line.
+    phase: u32,
     part: Vec<u8>,
 }
 
@@ -25,23 +28,25 @@ impl Draft {
     /// Nothing has come.
     pub(crate) fn new(alloc: Global) -> Draft
         ensures lines { result.lines.items ≡ [] }
+        ensures phase { result.phase ≡ 0 }
         ensures part { result.part.items ≡ [] }
     {
         Draft {
             lines: Vec::new(alloc),
+            phase: 0,
             part: Vec::new(alloc),
         }
     }
 
     // The line that is read is refused.
-    fn refusal(&self) -> TraceError
+    fn refusal(&self, why: Reason) -> TraceError
         requires { line_count self.now ≤ 262144 }
         ensures { result ≡ TraceError.Script
-            (record { line = suc (line_count self.now); why = 2 }) }
+            (record { line = suc (line_count self.now); why = why }) }
     {
         TraceError::Script(ScriptError {
             line: self.lines.len() as u32 + 1,
-            why: 2,
+            why,
         })
     }
 
@@ -56,11 +61,11 @@ impl Draft {
             → MatchResult result (λ _. Continues text self.new left) (Stops text) }
     {
         if self.lines.len() == MOST_LINES {
-            return Err(self.refusal());
+            return Err(self.refusal(Reason::TooMany));
         }
         if byte != b'\n' {
             if self.part.len() == MOST_BYTES {
-                return Err(self.refusal());
+                return Err(self.refusal(Reason::Length));
             }
             self.part.push(byte)?;
             return Ok(());
@@ -80,10 +85,12 @@ impl Draft {
         ensures text { (text left : List ℕ) → Continues text self.old (10 ∷ left)
             → MatchResult result (λ _. Continues text self.new left) (Stops text) }
     {
-        let Some(line) = line_of(&self.part) else {
-            return Err(self.refusal());
+        let form = match line_of(&self.part) {
+            Ok(form) => form,
+            Err(why) => return Err(self.refusal(why)),
         };
-        self.lines.push(line)?;
+        self.lines.push(form.in_phase(self.phase))?;
+        self.phase = form.phase_after(self.phase);
         self.part.clear();
         Ok(())
     }

@@ -1,5 +1,5 @@
 //! What the definitions come to: each law is the contract of a function.
-ghost use Rattle.std.specs.Prelude.{◌≡◌, ◌⊎◌, ℕ, suc, ◌∷◌, ◌++◌, [], List, length, reverse};
+ghost use Rattle.std.specs.Prelude.{◌≡◌, ◌≢◌, ◌⊎◌, ◌+◌, ◌-◌, ◌*◌, ◌<◌, ◌≤◌, ℕ, suc, ◌∷◌, ◌++◌, [], List, length, reverse};
 ghost use Rattle.std.specs.List.{flat_map, AllByRecursion};
 ghost use Rattle.bc_model.specs.Sector.{Image};
 ghost use Rattle.bc_model.specs.Pattern.{zeros};
@@ -7,18 +7,13 @@ ghost use Rattle.bc_model.specs.History.{IsLegal};
 ghost use Rattle.bc_model.specs.declared.history.Entry.{Entry};
 ghost use Rattle.bc_script.specs.declared.line.Line.{Line};
 ghost use Rattle.bc_script.specs.declared.answer.Answer.{Answer};
-ghost use Rattle.bc_script.specs.Line.{Spells};
 ghost use Rattle.bc_script.specs.declared.script.ScriptError.{ScriptError};
 ghost use Rattle.bc_script.specs.Trace.{lines_of, ended, HasNoNewline, SpellAll, IsTrace, IsFirstRefused};
 ghost use Rattle.bc_script.specs.Answer.{IsText};
-ghost use Rattle.bc_script.specs.Served.{ServesLine, Served};
+ghost use Rattle.bc_script.specs.Served.{IsOf, ServesLine, Served, ServedFrom};
 ghost use Rattle.bc_script.specs.Expected.{AllAnswered, answers_of};
-ghost use Rattle.bc_script.specs.Example.{example_lines, example_answers, example_history, unfinished_history};
-
-/// A text spells one line at most.
-pub fn one_line()
-    ensures { (text : List ℕ) (a b : Line) → Spells text a → Spells text b → a ≡ b }
-{}
+ghost use Rattle.bc_script.specs.Generator.{drawn_line, generated, heights, region_of, worker_of, Touches};
+ghost use Rattle.bc_script.specs.Example.{ten_heights, ten_lines, example_lines, example_answers, example_history, unfinished_history};
 
 /// The lines of a text, each with a newline behind it, are the text, or the text and the newline
 /// that its last line lacks; and no line has a newline in it.
@@ -33,6 +28,7 @@ pub fn lines_are_the_text()
 pub fn one_reading()
     ensures read { (text : List ℕ) (lines : List Line) (e : ScriptError)
         → SpellAll (lines_of text) lines → IsTrace lines → IsFirstRefused text e → ⊥ }
+    ensures one { (texts : List (List ℕ)) (a b : List Line) → SpellAll texts a → SpellAll texts b → a ≡ b }
     ensures refused { (text : List ℕ) (e f : ScriptError)
         → IsFirstRefused text e → IsFirstRefused text f → e ≡ f }
 {}
@@ -58,11 +54,21 @@ pub fn served_example()
     ensures misses { Served 64 example_lines example_answers unfinished_history → ⊥ }
 {}
 
-/// Where nothing failed, a trace that is served with a legal history has one list of answers: that
-/// of its lines and of what the sectors showed before it.
+/// A trace whose lines have their entries one behind the other is served, and a trace of one worker
+/// is served in no other way.
+pub fn one_worker()
+    ensures meets { (size : ℕ) (lines : List Line) (answers : List Answer) (history : List Entry)
+        → ServedFrom size 1 lines answers history → Served size lines answers history }
+    ensures only { (size worker : ℕ) (lines : List Line) (answers : List Answer) (history : List Entry)
+        → AllByRecursion (IsOf worker) lines
+        → Served size lines answers history → ServedFrom size 1 lines answers history }
+{}
+
+/// Where nothing failed, a trace of one worker that is served with a legal history has one list of
+/// answers: that of its lines and of what the sectors showed before it.
 pub fn one_outcome()
-    ensures { (size : ℕ) (opening : Image) (lines : List Line) (answers : List Answer) (history : List Entry)
-        → Served size lines answers history → IsLegal opening (reverse history)
+    ensures { (size worker : ℕ) (opening : Image) (lines : List Line) (answers : List Answer) (history : List Entry)
+        → AllByRecursion (IsOf worker) lines → Served size lines answers history → IsLegal opening (reverse history)
         → AllAnswered size lines answers → answers ≡ answers_of size lines opening }
 {}
 
@@ -70,4 +76,23 @@ pub fn one_outcome()
 pub fn expected_example()
     ensures answers { answers_of 64 example_lines (λ s. zeros) ≡ example_answers }
     ensures answered { AllAnswered 64 example_lines example_answers }
+{}
+
+/// Lines that are generated for two workers touch no sector in common, and a line touches only
+/// sectors of its worker's region.
+pub fn workers_are_apart()
+    ensures inside { (workers size k x s : ℕ) → 64 ≤ region_of workers size
+        → Touches (drawn_line workers size k x) s
+        → ((worker_of workers k - 1) * region_of workers size ≤ s)
+        × (s < (worker_of workers k - 1) * region_of workers size + region_of workers size) }
+    ensures apart { (workers size k j x y s : ℕ) → 64 ≤ region_of workers size
+        → worker_of workers k ≢ worker_of workers j
+        → Touches (drawn_line workers size k x) s → Touches (drawn_line workers size j y) s → ⊥ }
+{}
+
+/// The numbers that are drawn from 1 on, without their lowest 16 bits, and the lines that they make
+/// for one worker over 64 sectors.
+pub fn generated_example()
+    ensures numbers { heights 1 10 ≡ ten_heights }
+    ensures lines { generated 1 1 64 10 ≡ ten_lines }
 {}

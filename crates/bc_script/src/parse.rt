@@ -1,12 +1,18 @@
 //! Reads the text of one line.
-ghost use Rattle.std.specs.Prelude.{◌≡◌, ◌≤◌, ◌<◌, ◌^◌, ℕ, List, [], ◌∷◌, Some, None, MatchOption, IfSome, IsTrue, not, length, ◌↔◌};
+ghost use Rattle.std.specs.Prelude.{◌≡◌, ◌+◌, ◌≤◌, ◌<◌, ◌^◌, ◌-◌, ℕ, List, [], ◌∷◌, Some, None, Ok, Err, MatchOption, MatchResult, IfOk, IsTrue, not, length, ◌↔◌};
 ghost use Rattle.std.specs.List.{position_or_len};
-ghost use Rattle.bc_script.specs.Line.{is_space, words, Spells};
-ghost use Rattle.bc_script.specs.Reading.{number_in, number_at, letter_at, range_at, at_end, write_in, read_in, action_in, line_in};
+ghost use Rattle.bc_script.specs.Line.{is_space, is_comment, is_phase_end, words, number_in, number_at, field_at, at_end, range_at, stamped_in, write_in, forced_in, read_in, asked_by, action_in, request_in, said_in, form_in};
+ghost use Rattle.bc_script.specs.Proper.{IsProper, IsProperForm, IsRange, IsLine};
+ghost use Rattle.bc_script.specs.Serving.{line_in};
+ghost use Rattle.bc_script.specs.Trace.{line_of};
 ghost use Rattle.bc_script.specs.declared.line.Action.{Action};
-ghost use Rattle.bc_script.specs.declared.line.Line.{Line};
+ghost use Rattle.bc_script.specs.declared.form.Form.{Form};
+ghost use Rattle.bc_script.specs.declared.reason.Reason.{Reason};
 
-use crate::line::{Action, Line};
+use crate::form::Form;
+use crate::line::{Action, Rounds};
+use crate::reason::Reason;
+use crate::serving::if_served;
 
 // The most bytes of a line, its newline not counted.
 const MOST_BYTES: usize = 80;
@@ -14,6 +20,8 @@ const MOST_BYTES: usize = 80;
 const MOST_FIRST: u64 = 1 << 40;
 // The most sectors of a range.
 const MOST_COUNT: u64 = 2048;
+// The greatest number of a worker.
+const MOST_WORKER: u64 = 16;
 
 // How many spaces stand in front.
 fn blank_len(text: &[u8]) -> usize
@@ -54,13 +62,6 @@ fn first_word(text: &[u8]) -> Option<(&[u8], &[u8])>
     Some(text.split_at(end))
 }
 
-// Whether no further word stands.
-fn is_end(text: &[u8]) -> bool
-    ensures { IsTrue result ↔ (words text.now ≡ []) }
-{
-    first_word(text).is_none()
-}
-
 // The number that a word spells.
 fn number_of(word: &[u8]) -> Option<u64>
     ensures { result ≡ number_in word.now }
@@ -79,102 +80,195 @@ fn number_of(word: &[u8]) -> Option<u64>
 }
 
 // The number in the first word, and the text behind it.
-fn first_number(text: &[u8]) -> Option<(u64, &[u8])>
-    ensures { MatchOption result (number_at (words text.now) ≡ None)
-        (λ found. number_at (words text.now) ≡ Some (found.0, words found.1.now)) }
+fn first_number(text: &[u8]) -> Result<(u64, &[u8]), Reason>
+    ensures { MatchResult result
+        (λ found. number_at (words text.now) ≡ Ok (found.0, words found.1.now))
+        (λ why. number_at (words text.now) ≡ Err why) }
 {
-    let (word, rest) = first_word(text)?;
-    let value = number_of(word)?;
-    Some((value, rest))
+    let Some((word, rest)) = first_word(text) else {
+        return Err(Reason::Word);
+    };
+    match number_of(word) {
+        Some(value) => Ok((value, rest)),
+        None => Err(Reason::Number),
+    }
 }
 
-// The letter that is the first word, and the text behind it.
-fn first_letter(text: &[u8]) -> Option<(u8, &[u8])>
-    ensures { MatchOption result (letter_at (words text.now) ≡ None)
-        (λ found. letter_at (words text.now) ≡ Some (found.0, words found.1.now)) }
+// The number in the first word, which is to lie in this range, else the line is refused for that.
+#[tactic(auto, unfolding(crate::specs::Line::field_at))]
+fn first_field(text: &[u8], why: Reason, least: u64, most: u64) -> Result<(u64, &[u8]), Reason>
+    ensures found { MatchResult result
+        (λ found. field_at why least most (words text.now) ≡ Ok (found.0, words found.1.now))
+        (λ e. field_at why least most (words text.now) ≡ Err e) }
+    ensures range { IfOk result (λ found. (least ≤ found.0) × (found.0 ≤ most)) }
 {
-    let (word, rest) = first_word(text)?;
-    match word {
-        [letter] => Some((*letter, rest)),
-        _ => None,
+    let (value, rest) = first_number(text)?;
+    if value < least || value > most {
+        return Err(why);
     }
+    Ok((value, rest))
+}
+
+// What a line asks for that ends here.
+fn ending(text: &[u8], action: Action) -> Result<Action, Reason>
+    ensures { result ≡ at_end (words text.now) action }
+{
+    if first_word(text).is_some() {
+        return Err(Reason::Word);
+    }
+    Ok(action)
 }
 
 // FIRST and COUNT, and the text behind them.
-#[tactic(auto, unfolding(crate::specs::Reading::range_at))]
-fn first_range(text: &[u8]) -> Option<(u64, u32, &[u8])>
-    ensures { MatchOption result (range_at (words text.now) ≡ None)
-        (λ found. range_at (words text.now) ≡ Some (found.0, found.1, words found.2.now)) }
+#[tactic(auto, unfolding(crate::specs::Line::range_at))]
+fn first_range(text: &[u8]) -> Result<(u64, u32, &[u8]), Reason>
+    ensures found { MatchResult result
+        (λ found. range_at (words text.now) ≡ Ok (found.0, found.1, words found.2.now))
+        (λ e. range_at (words text.now) ≡ Err e) }
+    ensures range { IfOk result (λ found. IsRange found.0 found.1) }
 {
-    let (first, rest) = first_number(text)?;
-    let (count, rest) = first_number(rest)?;
-    if first > MOST_FIRST || count < 1 || count > MOST_COUNT {
-        return None;
-    }
-    Some((first, count as u32, rest))
+    let (first, rest) = first_field(text, Reason::Range, 0, MOST_FIRST)?;
+    let (count, rest) = first_field(rest, Reason::Range, 1, MOST_COUNT)?;
+    Ok((first, count as u32, rest))
 }
 
-#[tactic(auto, unfolding(crate::specs::Reading::write_in))]
-fn write_of(text: &[u8]) -> Option<Action>
-    ensures { result ≡ write_in (words text.now) }
+// FIRST, COUNT and STAMP.
+#[tactic(auto, unfolding(crate::specs::Line::stamped_in))]
+fn stamped_of(text: &[u8]) -> Result<(u64, u32, u64), Reason>
+    ensures found { result ≡ stamped_in (words text.now) }
+    ensures range { IfOk result (λ found. IsRange found.0 found.1 × (1 ≤ found.2)) }
 {
     let (first, count, rest) = first_range(text)?;
-    let (stamp, rest) = first_number(rest)?;
-    if stamp < 1 || !is_end(rest) {
-        return None;
+    let (stamp, rest) = first_field(rest, Reason::Range, 1, u64::MAX)?;
+    if first_word(rest).is_some() {
+        return Err(Reason::Word);
     }
-    Some(Action::Write {
+    Ok((first, count, stamp))
+}
+
+#[tactic(auto, unfolding(crate::specs::Line::write_in))]
+fn write_of(text: &[u8]) -> Result<Action, Reason>
+    ensures found { result ≡ write_in (words text.now) }
+    ensures proper { IfOk result IsProper }
+{
+    let (first, count, stamp) = stamped_of(text)?;
+    Ok(Action::Write {
         first,
         count,
         stamp,
     })
 }
 
-#[tactic(auto, unfolding(crate::specs::Reading::read_in))]
-fn read_of(text: &[u8]) -> Option<Action>
-    ensures { result ≡ read_in (words text.now) }
+#[tactic(auto, unfolding(crate::specs::Line::forced_in))]
+fn forced_of(text: &[u8]) -> Result<Action, Reason>
+    ensures found { result ≡ forced_in (words text.now) }
+    ensures proper { IfOk result IsProper }
+{
+    let (first, count, stamp) = stamped_of(text)?;
+    Ok(Action::ForcedWrite {
+        first,
+        count,
+        stamp,
+    })
+}
+
+#[tactic(auto, unfolding(crate::specs::Line::read_in))]
+fn read_of(text: &[u8]) -> Result<Action, Reason>
+    ensures found { result ≡ read_in (words text.now) }
+    ensures proper { IfOk result IsProper }
 {
     let (first, count, rest) = first_range(text)?;
-    if !is_end(rest) {
-        return None;
-    }
-    Some(Action::Read { first, count })
+    ending(rest, Action::Read { first, count })
 }
 
-#[tactic(auto, unfolding(crate::specs::Reading::action_in))]
-fn action_of(text: &[u8]) -> Option<Action>
-    ensures { result ≡ action_in (words text.now) }
+#[tactic(auto, unfolding(crate::specs::Line::asked_by))]
+fn asked_by(letter: u8, text: &[u8]) -> Result<Action, Reason>
+    ensures found { result ≡ asked_by letter (words text.now) }
+    ensures proper { IfOk result IsProper }
 {
-    let (letter, rest) = first_letter(text)?;
     match letter {
-        b'w' => write_of(rest),
-        b'r' => read_of(rest),
-        b'f' if is_end(rest) => Some(Action::Flush),
-        _ => None,
+        b'w' => write_of(text),
+        b'W' => forced_of(text),
+        b'r' => read_of(text),
+        b'f' => ending(text, Action::Flush),
+        b'b' => ending(text, Action::Round(Rounds::Writeback)),
+        b'c' => ending(text, Action::Round(Rounds::Tracing)),
+        b'm' => ending(text, Action::Round(Rounds::Moving)),
+        _ => Err(Reason::Word),
     }
 }
 
-#[tactic(auto, unfolding(crate::specs::Reading::line_in))]
-fn read_line(text: &[u8]) -> Option<Line>
-    ensures { result ≡ line_in text.now }
+// What the words behind the worker's ask for.
+fn action_of(text: &[u8]) -> Result<Action, Reason>
+    ensures found { result ≡ action_in (words text.now) }
+    ensures proper { IfOk result IsProper }
+{
+    let Some((word, rest)) = first_word(text) else {
+        return Err(Reason::Word);
+    };
+    match word {
+        [letter] => asked_by(*letter, rest),
+        _ => Err(Reason::Word),
+    }
+}
+
+#[tactic(auto, unfolding(crate::specs::Line::request_in))]
+fn request_of(text: &[u8]) -> Result<Form, Reason>
+    ensures found { result ≡ request_in (words text.now) }
+    ensures proper { IfOk result IsProperForm }
+{
+    let (worker, rest) = first_field(text, Reason::Worker, 1, MOST_WORKER)?;
+    let action = action_of(rest)?;
+    Ok(Form::Asked {
+        worker: worker as u8,
+        action,
+    })
+}
+
+// What the words of a line that is no comment say.
+fn said_of(text: &[u8]) -> Result<Form, Reason>
+    ensures found { result ≡ said_in (words text.now) }
+    ensures proper { IfOk result IsProperForm }
+{
+    let Some((word, rest)) = first_word(text) else {
+        return Ok(Form::Quiet);
+    };
+    if word == b"-".as_slice() && first_word(rest).is_none() {
+        return Ok(Form::PhaseEnd);
+    }
+    request_of(text)
+}
+
+// Whether a text is a comment.
+fn is_comment(text: &[u8]) -> bool
+    ensures { result ≡ is_comment text.now }
+{
+    match text {
+        [first, ..] => *first == b'#',
+        [] => false,
+    }
+}
+
+// What the text of a line says, by the whole grammar.
+#[tactic(auto, unfolding(crate::specs::Line::form_in))]
+fn form_of(text: &[u8]) -> Result<Form, Reason>
+    ensures found { result ≡ form_in text.now }
+    ensures proper { IfOk result IsProperForm }
 {
     if text.len() > MOST_BYTES {
-        return None;
+        return Err(Reason::Length);
     }
-    let (worker, rest) = first_number(text)?;
-    if worker != 1 {
-        return None;
+    if is_comment(text) {
+        return Ok(Form::Quiet);
     }
-    let action = action_of(rest)?;
-    Some(Line { worker: 1, action })
+    said_of(text)
 }
 
-/// The line that a text without its newline spells, if it spells one.
-pub(crate) fn line_of(text: &[u8]) -> Option<Line>
-    // What is read is spelled so.
-    ensures found { IfSome result (λ line. Spells text.now line) }
-    // What is spelled so is read.
-    ensures only { (line : Line) → Spells text.now line → result ≡ Some line }
+/// What the text of a line says, without its newline, where it is served.
+#[tactic(auto, unfolding(crate::specs::Serving::line_in))]
+pub(crate) fn line_of(text: &[u8]) -> Result<Form, Reason>
+    ensures found { result ≡ line_in text.now }
+    ensures proper { IfOk result (λ form. (phase : ℕ) → IsLine (line_of phase form)) }
 {
-    read_line(text)
+    if_served(form_of(text)?)
 }

@@ -3,10 +3,10 @@ ghost use Rattle.std.specs.Prelude.{◌≡◌, ◌+◌, ◌<◌, ◌≤◌, ◌^
 ghost use Rattle.std.specs.Char.{digit_char};
 ghost use Rattle.std.specs.Fmt.{decimal};
 ghost use Rattle.bc_script.specs.Runs.{AreSeen, hex, seen_text, runs_text};
-ghost use Rattle.bc_script.specs.Answer.{device_text, refusal_text, IsText, IsPrintable, AppendsText};
+ghost use Rattle.bc_script.specs.Answer.{asked_text, device_text, numbers_text, refusal_text, IsText, IsPrintable, AppendsText};
 ghost use Rattle.bc_script.specs.declared.seen.Seen.{Seen};
 
-use crate::answer::{Answer, Refusal};
+use crate::answer::{Answer, Asked, Refusal};
 use crate::seen::Seen;
 use bc_disk::disk::Device;
 use bc_model::values::Values;
@@ -36,7 +36,7 @@ fn push_hex(text: &mut Vec<u8>, bytes: &[u8]) -> Result<(), AllocError>
 }
 
 // A number in decimal digits.
-fn push_number(text: &mut Vec<u8>, number: u64) -> Result<(), AllocError>
+pub(crate) fn push_number(text: &mut Vec<u8>, number: u64) -> Result<(), AllocError>
     ensures { OnOk result (text.new.items ≡ text.old.items ++ decimal number) }
 {
     let digits = number.to_string(*text.allocator())?;
@@ -98,12 +98,40 @@ fn device_of(device: Device) -> &'static [u8]
     }
 }
 
+fn asked_of(purpose: Asked) -> &'static [u8]
+    ensures { result.now ≡ asked_text purpose }
+{
+    match purpose {
+        Asked::Tree => b"tree",
+        Asked::Moving => b"moving",
+    }
+}
+
+// Two numbers with a space between them.
+fn push_numbers(text: &mut Vec<u8>, first: u64, second: u64) -> Result<(), AllocError>
+    ensures { OnOk result (text.new.items ≡ text.old.items ++ numbers_text first second) }
+{
+    push_number(text, first)?;
+    text.extend_from_slice(b" ")?;
+    push_number(text, second)
+}
+
 fn refusal_of(alloc: Global, refusal: Refusal) -> Result<Vec<u8>, AllocError>
     ensures { IfOk result (λ text. text.items ≡ refusal_text refusal) }
 {
     let mut text = Vec::new(alloc);
     match refusal {
         Refusal::OutOfRange => text.extend_from_slice(b"out-of-range")?,
+        Refusal::NoBucket {
+            purpose,
+            none_len,
+            own_len,
+        } => {
+            text.extend_from_slice(b"no-bucket ")?;
+            text.extend_from_slice(asked_of(purpose))?;
+            text.extend_from_slice(b" ")?;
+            push_numbers(&mut text, none_len as u64, own_len as u64)?;
+        }
         Refusal::Fault(device) => {
             text.extend_from_slice(b"fault ")?;
             text.extend_from_slice(device_of(device))?;
@@ -113,6 +141,11 @@ fn refusal_of(alloc: Global, refusal: Refusal) -> Result<Vec<u8>, AllocError>
             text.extend_from_slice(device_of(device))?;
         }
         Refusal::Memory => text.extend_from_slice(b"memory")?,
+        Refusal::JournalEnd => text.extend_from_slice(b"journal-end")?,
+        Refusal::Node { bucket, why } => {
+            text.extend_from_slice(b"node ")?;
+            push_numbers(&mut text, bucket as u64, why as u64)?;
+        }
     }
     Ok(text)
 }
@@ -122,6 +155,7 @@ fn text_of(alloc: Global, answer: &Answer) -> Result<Vec<u8>, AllocError>
     ensures { IfOk result (λ text. IsText answer.now text.items) }
 {
     match answer {
+        Answer::Silent => Ok(Vec::new(alloc)),
         Answer::Done => Vec::from_slice(alloc, b"done"),
         Answer::Runs { values, .. } if values.is_empty() => Ok(Vec::new(alloc)),
         Answer::Runs { first, values } => runs_of(alloc, *first, values),
@@ -132,10 +166,11 @@ fn text_of(alloc: Global, answer: &Answer) -> Result<Vec<u8>, AllocError>
 /// Puts the text of an answer, without a newline, behind the bytes of `into`; after an error these
 /// are as before.
 ///
-/// It is `done`; the runs of the sectors, with a space between two: `STAMPxCOUNT` for neighbours
+/// Of a line that asked for nothing there is none. Else it is `done`; the runs of the sectors, with a space between two: `STAMPxCOUNT` for neighbours
 /// that hold the patterns of that stamp for their own numbers, `zerox` and a count for zeros, and
-/// `raw:` and 1,024 hexadecimal digits for any other sector; or `out-of-range`, `fault` or `halted`
-/// with the device, and `memory`.
+/// `raw:` and 1,024 hexadecimal digits for any other sector; or why the line was refused:
+/// `out-of-range`, `no-bucket` with the purpose and both lengths, `fault` or `halted` with the
+/// device, `memory`, `journal-end`, or `node` with the bucket and the number of the reason.
 pub fn print_answer(answer: &Answer, into: &mut Vec<u8>) -> Result<(), AllocError>
     requires { IsPrintable answer.now }
     ensures ok { OnOk result (AppendsText answer.now into.old.items into.new.items) }

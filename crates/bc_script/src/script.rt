@@ -3,6 +3,7 @@ ghost use Rattle.std.specs.Prelude.{◌≡◌, ◌↔◌, [], length, IsTrue};
 ghost use Rattle.bc_script.specs.declared.script.TraceError.TheVariants.{Memory};
 
 use crate::line::Line;
+use crate::reason::Reason;
 use std::alloc::{AllocFailed, Global};
 use std::marker::Model;
 
@@ -73,8 +74,8 @@ impl Script {
 pub struct ScriptError {
     /// Its number, counted from 1: at most 262,145.
     pub line: u32,
-    /// Why it is refused: 2, since it has none of the forms.
-    pub why: u8,
+    /// Why it is refused.
+    pub why: Reason,
 }
 
 /// Why no script was read.

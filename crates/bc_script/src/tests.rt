@@ -2,10 +2,12 @@ ghost use Rattle.std.specs.Prelude.{Some};
 ghost use Rattle.bc_disk.specs.Stream.{StreamFacts};
 ghost use Rattle.bc_script.specs.Answer.{IsPrintable};
 
-use crate::answer::{Answer, Refusal};
-use crate::line::{Action, Line};
+use crate::answer::{Answer, Asked, Refusal};
+use crate::generator::generate;
+use crate::line::{Action, Line, Rounds};
 use crate::print::print_answer;
 use crate::script::TraceError;
+use crate::summary::{print_summary, summary_of};
 use crate::trace::read_trace;
 use bc_disk::disk::{Device, Failed};
 use bc_disk::stream::Source;
@@ -49,10 +51,10 @@ fn source_of(text: &[u8], more: u16, fails: bool) -> Stream<'_> {
     }
 }
 
-// The number of the line that is refused.
-fn refused(alloc: Global, text: &[u8]) -> Option<u32> {
+// The number of the line that is refused, and the number of the reason.
+fn refused(alloc: Global, text: &[u8]) -> Option<(u32, u8)> {
     match read_trace(alloc, &mut source_of(text, 5000, false)) {
-        Err(TraceError::Script(e)) if e.why == 2 => Some(e.line),
+        Err(TraceError::Script(e)) => Some((e.line, e.why.number())),
         _ => None,
     }
 }
@@ -61,6 +63,14 @@ fn is_read(alloc: Global, text: &[u8], more: u16, lines: &[Line]) -> bool {
     match read_trace(alloc, &mut source_of(text, more, false)) {
         Ok(script) => *script.lines() == *lines,
         Err(_) => false,
+    }
+}
+
+fn request(phase: u32, action: Action) -> Line {
+    Line::Request {
+        worker: 1,
+        phase,
+        action,
     }
 }
 
@@ -76,33 +86,69 @@ fn lines_are_read(rt: HostRuntime) {
         first: 0,
         count: 10,
     };
-    let lines = [write, read, Action::Flush].map(|action| Line { worker: 1, action });
+    let lines = [write, read, Action::Flush].map(|action| request(0, action));
     assert!(rt; is_read(alloc, b"1 w 0 8 7\n1 r 0 10\n1 f\n", 5000, &lines));
     assert!(rt; is_read(alloc, b" 1  w 0 8 007 \n01 r 0 10\n1 f", 0, &lines));
     assert!(rt; is_read(alloc, b"", 0, &[]));
+    let lines = [
+        Line::Silent,
+        request(0, Action::Round(Rounds::Writeback)),
+        Line::Silent,
+        Line::Silent,
+        request(1, Action::Round(Rounds::Tracing)),
+        Line::Silent,
+        Line::Silent,
+        request(2, Action::Round(Rounds::Moving)),
+    ];
+    assert!(rt; is_read(alloc, b"#1 x\n1 b\n  -\n\n1 c\n- \n  \n1 m", 3, &lines));
     assert_eq!(rt; refused(alloc, b"1 r 1099511627776 2048"), None);
+    assert_eq!(rt; refused(alloc, b"1 w 0 1 18446744073709551615"), None);
 }
 
 #[test]
-fn lines_are_refused(rt: HostRuntime) {
+fn lines_are_refused(rt: HostRuntime) -> Result<(), Fail> {
     let alloc = rt.alloc();
-    assert_eq!(rt; refused(alloc, b"1 x 0 1\n"), Some(1));
-    assert_eq!(rt; refused(alloc, b"1 f\n1 w 0 1\n"), Some(2));
-    assert_eq!(rt; refused(alloc, b"1 r 0 1 9\n"), Some(1));
-    assert_eq!(rt; refused(alloc, b"1 r 0 0\n"), Some(1));
-    assert_eq!(rt; refused(alloc, b"1 r 0 2049\n"), Some(1));
-    assert_eq!(rt; refused(alloc, b"1 r 1099511627777 1\n"), Some(1));
-    assert_eq!(rt; refused(alloc, b"1 w 0 1 0\n"), Some(1));
-    assert_eq!(rt; refused(alloc, b"1 w 0 1 18446744073709551616\n"), Some(1));
-    assert_eq!(rt; refused(alloc, b"1 f\n\n1 f\n"), Some(2));
-    assert_eq!(rt; refused(alloc, b"2 f\n"), Some(1));
+    let texts: [(&[u8], u32, u8); 24] = [
+        (b"1 x 0 8", 1, 2),
+        (b"1", 1, 2),
+        (b"1 ww 0 1 1", 1, 2),
+        (b"1 f\n1 w 0 1", 2, 2),
+        (b"1 r 0 1 9", 1, 2),
+        (b"1 b 1", 1, 2),
+        (b"1 W 0 8 7", 1, 2),
+        (b"1 w 0 0", 1, 4),
+        (b"1 r 0 0", 1, 4),
+        (b"1 r 0 2049", 1, 4),
+        (b"1 r 1099511627777 x", 1, 4),
+        (b"1 w 0 8 0", 1, 4),
+        (b"1 W 0 8 0", 1, 4),
+        (b"1 r z 1", 1, 3),
+        (b"1 w 0 1 18446744073709551616", 1, 3),
+        (b"1 r -1 1", 1, 3),
+        (b"- 1", 1, 3),
+        (b" # a comment", 1, 3),
+        (b"1\tf", 1, 3),
+        (b"0 f", 1, 5),
+        (b"17 r 0 1", 1, 5),
+        (b"2 f", 1, 5),
+        (b"16 r z 1", 1, 3),
+        (b"#\n\n-\n1 q\n17 f\n", 4, 2),
+    ];
+    for (text, line, why) in texts {
+        assert_eq!(rt; refused(alloc, text), Some((line, why)));
+    }
     let mut long = [b' '; 81];
+    assert_eq!(rt; refused(alloc, &long), Some((1, 1)));
+    assert_eq!(rt; refused(alloc, &long[..80]), None);
+    long[0] = b'#';
+    assert_eq!(rt; refused(alloc, &long), Some((1, 1)));
     long[0] = b'1';
-    long[80] = b'f';
-    assert_eq!(rt; refused(alloc, &long), Some(1));
-    assert_eq!(rt; refused(alloc, &long[..80]), Some(1));
     long[79] = b'f';
     assert_eq!(rt; refused(alloc, &long[..80]), None);
+    let lines = vec![in alloc; b'\n'; 262_145]?;
+    assert_eq!(rt; refused(alloc, &lines), Some((262_145, 6)));
+    assert_eq!(rt; refused(alloc, &lines[1..]), None);
+    Ok(())
 }
 
 #[test]
@@ -123,7 +169,26 @@ fn is_printed(alloc: Global, answer: &Answer, text: &[u8]) -> bool
 fn refusals_are_printed(rt: HostRuntime) {
     let alloc = rt.alloc();
     assert!(rt; is_printed(alloc, &Answer::Done, b"done"));
-    let texts: [(Refusal, &[u8]); 6] = [
+    assert!(rt; is_printed(alloc, &Answer::Silent, b""));
+    let none = Refusal::NoBucket {
+        purpose: Asked::Tree,
+        none_len: 0,
+        own_len: 0,
+    };
+    let own = Refusal::NoBucket {
+        purpose: Asked::Moving,
+        none_len: 3,
+        own_len: 4_294_967_295,
+    };
+    let node = Refusal::Node {
+        bucket: 1_048_575,
+        why: 2,
+    };
+    let texts: [(Refusal, &[u8]); 10] = [
+        (none, b"no-bucket tree 0 0"),
+        (own, b"no-bucket moving 3 4294967295"),
+        (Refusal::JournalEnd, b"journal-end"),
+        (node, b"node 1048575 2"),
         (Refusal::OutOfRange, b"out-of-range"),
         (Refusal::Fault(Device::Cache), b"fault cache"),
         (Refusal::Fault(Device::Backing), b"fault backing"),
@@ -171,5 +236,48 @@ fn other_values_are_printed(rt: HostRuntime) -> Result<(), Fail> {
     }
     text.extend_from_slice(b" 7x1")?;
     assert!(rt; are_printed(alloc, values, &text));
+    Ok(())
+}
+
+// The answers to the ten lines of one worker over 64 sectors, of which the reads at last see three
+// writes.
+#[test]
+fn a_trace_is_summed_up(rt: HostRuntime) -> Result<(), Fail> {
+    let alloc = rt.alloc();
+    let script = generate(alloc, 1, 10, 1, 64)?;
+    let mut answers = Vec::new(alloc);
+    for runs in [
+        &[(0, 57)][..],
+        &[(0, 16)],
+        &[],
+        &[],
+        &[],
+        &[],
+        &[],
+        &[],
+        &[(8, 32), (7, 11)],
+        &[(8, 32), (7, 29), (6, 2)],
+    ] {
+        let mut values = Values::new(alloc);
+        for (stamp, count) in runs {
+            let first = values.len() as u64;
+            if *stamp == 0 {
+                for sector in 0..*count {
+                    values.push(sector, &[0; 512])?;
+                }
+            } else {
+                values.push_pattern(*stamp, first, *count as u32)?;
+            }
+        }
+        let answer = if runs.is_empty() {
+            Answer::Done
+        } else {
+            Answer::Runs { first: 0, values }
+        };
+        answers.push(answer)?;
+    }
+    let text = print_summary(alloc, &summary_of(script.lines(), &answers))?;
+    let wanted = b"lines 10 writes 6 reads 4 flushes 0 refused 0 sum 804";
+    assert!(rt; text.as_slice() == wanted.as_slice());
     Ok(())
 }

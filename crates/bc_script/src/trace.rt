@@ -13,8 +13,11 @@ const BUFFER: usize = 4096;
 // The most bytes that are taken: 262,144 lines of 81 bytes and one more.
 const MOST_TAKEN: usize = 21_233_665;
 
-/// Reads a trace to the end of the source: lines `1 w FIRST COUNT STAMP`, `1 r FIRST COUNT` and
-/// `1 f`, of decimal numbers between spaces.
+/// Reads a trace to the end of the source: lines of words between spaces, of which the numbers are
+/// decimal. `N w FIRST COUNT STAMP` has worker N write, `N W FIRST COUNT STAMP` does so and has it
+/// durable, `N r FIRST COUNT` reads, `N f` flushes, and `N b`, `N c` and `N m` make a writeback, a
+/// tracing and a moving round. A line of spaces or none, and one that begins with `#`, asks for
+/// nothing, and `-` ends a phase. Workers above 1 and lines `W` are refused as yet.
 ///
 /// The first line that is refused ends the reading, and so does a fault of the source. At most
 /// 21,233,665 bytes are taken of any source, and of one with a line that is refused at most 4,095

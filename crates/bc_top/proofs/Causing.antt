@@ -21,7 +21,7 @@ use Rattle.bc_request.specs.Requests.{Ran, Cause, HasFault, FlushRefused, ReadRe
 use Rattle.bc_request.proofs.Running.{halted_ran}
 use Rattle.bc_model.specs.Sector.{Value}
 use Rattle.bc_script.specs.declared.answer.Answer.{Answer}
-use Rattle.bc_script.specs.declared.answer.Answer.TheVariants.{Done, Runs, Refused}
+use Rattle.bc_script.specs.declared.answer.Answer.TheVariants.{Silent, Done, Runs, Refused}
 use Rattle.bc_script.specs.declared.answer.Refusal.TheVariants as refusal
 use Rattle.bc_top.specs.Causes.{FailedIn, IsCausedBy}
 use Rattle.bc_top.specs.Refusals.{refusal_of}
@@ -92,6 +92,10 @@ module _ {C B : Type 0} (cache_facts : C → DiskFacts) (backing_facts : B → D
 
   -- a cause that was seen stays one
   pub caused_still : (v w : SeatView (CorePart C B) Event Device) (es : List Event) (answer : Answer) → Ran cache_facts backing_facts v es w → IsCausedBy v.seen answer → IsCausedBy w.seen answer
+  caused_still v w es Silent ran h = tt
+  caused_still v w es (Refused (refusal.NoBucket purpose none_len own_len)) ran h = absurd h
+  caused_still v w es (Refused refusal.JournalEnd) ran h = absurd h
+  caused_still v w es (Refused (refusal.Node bucket why)) ran h = absurd h
   caused_still v w es Done ran h = tt
   caused_still v w es (Runs at values) ran h = tt
   caused_still v w es (Refused refusal.OutOfRange) ran h = tt

@@ -8,3 +8,4 @@ pub mod Statuses
 pub mod Settled
 pub mod Pairing
 pub mod Completing
+pub mod Unread

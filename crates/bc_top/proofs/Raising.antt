@@ -17,7 +17,7 @@ use Rattle.bc_core.specs.declared.event.Written.TheVariants.{Values}
 use Rattle.bc_core.specs.declared.event.Event.{Event}
 use Rattle.bc_core.specs.declared.event.Event.TheVariants as event
 use Rattle.bc_script.specs.declared.answer.Answer.{Answer}
-use Rattle.bc_script.specs.declared.answer.Answer.TheVariants.{Done, Runs, Refused}
+use Rattle.bc_script.specs.declared.answer.Answer.TheVariants.{Silent, Done, Runs, Refused}
 use Rattle.bc_script.specs.declared.answer.Refusal.TheVariants as refusal
 use Rattle.bc_top.specs.Causes.{FailedIn, IsCausedBy}
 use Rattle.bc_top.specs.Closed.{ClosedBy}
@@ -128,6 +128,10 @@ SomeFailed es = (d : Device) × FailedIn es d
 -- an answer that says so has seen it
 pub said_failed : (es : List Event) (answers : List Answer) → All (IsCausedBy es) answers → list_any says_fault answers ≡ true → SomeFailed es
 said_failed es [] all is = absurd (cc)
+said_failed es (Silent ∷ others) all is = said_failed es others (All-tail (IsCausedBy es) Silent others all) is
+said_failed es (Refused (refusal.NoBucket purpose none_len own_len) ∷ others) all is = absurd (All-head (IsCausedBy es) (Refused (refusal.NoBucket purpose none_len own_len)) others all)
+said_failed es (Refused refusal.JournalEnd ∷ others) all is = absurd (All-head (IsCausedBy es) (Refused refusal.JournalEnd) others all)
+said_failed es (Refused (refusal.Node bucket why) ∷ others) all is = absurd (All-head (IsCausedBy es) (Refused (refusal.Node bucket why)) others all)
 said_failed es (Done ∷ others) all is = said_failed es others (All-tail (IsCausedBy es) Done others all) is
 said_failed es (Runs at values ∷ others) all is = said_failed es others (All-tail (IsCausedBy es) (Runs at values) others all) is
 said_failed es (Refused refusal.OutOfRange ∷ others) all is = said_failed es others (All-tail (IsCausedBy es) (Refused refusal.OutOfRange) others all) is

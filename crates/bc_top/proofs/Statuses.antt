@@ -1,6 +1,7 @@
 -- What the status of a run tells.
 use Rattle.std.proofs.Common.{◌≡◌, ◌⊎◌, inl, inr, ℕ, suc, Bool, true, false, ◌||◌, List, [], ◌∷◌, Option, None, refl, sym, ap, ◌∙◌, subst, arith}
-use Rattle.std.specs.Prelude.{Result, Ok, Err, MatchResult, OnOk, IfErr}
+use Rattle.std.proofs.lemmas.List.Elements.{All-head, All-tail}
+use Rattle.std.specs.Prelude.{All, Result, Ok, Err, MatchResult, OnOk, IfErr}
 use Rattle.std.specs.List.{list_any}
 use Rattle.std.specs.Result.{is_err}
 use Rattle.bc_disk.specs.Device.{HasRisen, next_count}
@@ -11,13 +12,18 @@ use Rattle.bc_core.specs.State.{Setup, opened}
 use Rattle.bc_core.specs.declared.event.Event.{Event}
 use Rattle.bc_core.specs.declared.pass.Pass.{Pass}
 use Rattle.bc_script.specs.declared.line.Action.{Action}
-use Rattle.bc_script.specs.declared.line.Action.TheVariants.{Write, Read, Flush}
+use Rattle.bc_script.specs.declared.line.Action.TheVariants.{Write, ForcedWrite, Read, Flush, Round}
 use Rattle.bc_script.specs.declared.line.Line.{Line}
+use Rattle.bc_script.specs.declared.line.Line.TheVariants as line
+use Rattle.bc_script.specs.Proper.{IsLine}
+use Rattle.bc_script.specs.Serving.{IsServedAction}
+use Rattle.bc_script.proofs.Marks.{of_first, one_by_one}
+use Rattle.bc_top.specs.Causes.{IsCausedBy}
 use Rattle.bc_script.specs.declared.answer.Answer.{Answer}
-use Rattle.bc_script.specs.declared.answer.Answer.TheVariants.{Done, Runs, Refused}
+use Rattle.bc_script.specs.declared.answer.Answer.TheVariants.{Silent, Done, Runs, Refused}
 use Rattle.bc_script.specs.declared.answer.Refusal.TheVariants as refusal
-use Rattle.bc_script.specs.Expected.{IsAnswered, AllAnswered}
-use Rattle.bc_script.specs.Served.{ServesAction, ServedFrom, Served}
+use Rattle.bc_script.specs.Expected.{IsAsked, IsAnswered, AllAnswered}
+use Rattle.bc_script.specs.Served.{ServesAction, ServesLine, ServedFrom, Served}
 use Rattle.bc_output.specs.declared.answers.Printed.{Printed}
 use Rattle.bc_output.specs.declared.put.WriteFault.{WriteFault}
 use Rattle.bc_output.specs.declared.put.WriteFault.TheVariants.{Failed, TookNothing}
@@ -77,34 +83,50 @@ none false closing.Done true cut is = absurd (let no : 9 ≡ 0 = is in omega ari
 none false closing.Done false true is = absurd (let no : 8 ≡ 0 = is in omega arith)
 none false closing.Done false false is = (refl, refl, refl, refl)
 
--- a line that says neither fault nor memory was answered others it should be
-answered : (size worker number : ℕ) (action : Action) (answer : Answer) (own : List Entry) → ServesAction size worker number action answer own → says_fault answer ≡ false → says_memory answer ≡ false → IsAnswered size action answer
-answered size worker number (Write first count stamp) Done own serves f m = inl (serves.0, refl)
-answered size worker number (Write first count stamp) (Runs at values) own serves f m = absurd serves
-answered size worker number (Write first count stamp) (Refused refusal.OutOfRange) own serves f m = inr (serves.0, refl)
-answered size worker number (Read first count) Done own serves f m = absurd serves
-answered size worker number (Read first count) (Runs at values) own serves f m = inl (serves.0, (values, ap (λ n. Runs n values) serves.1))
-answered size worker number (Read first count) (Refused refusal.OutOfRange) own serves f m = inr (serves.0, refl)
-answered size worker number Flush Done own serves f m = refl
-answered size worker number Flush (Runs at values) own serves f m = absurd serves
-answered size worker number Flush (Refused refusal.OutOfRange) own serves f m = absurd serves
-answered size worker number action (Refused (refusal.Fault d)) own serves f m = absurd (cc)
-answered size worker number action (Refused (refusal.Halted d)) own serves f m = absurd (cc)
-answered size worker number action (Refused refusal.Memory) own serves f m = absurd (cc)
+-- a request that says neither fault nor memory was answered others it should be
+asked : (size worker number : ℕ) (es : List Event) (action : Action) (answer : Answer) (own : List Entry) → ServesAction size worker number action answer own → IsServedAction action → IsCausedBy es answer → says_fault answer ≡ false → says_memory answer ≡ false → IsAsked size action answer
+asked size worker number es (ForcedWrite first count stamp) answer own serves done why f m = absurd done
+asked size worker number es (Write first count stamp) Silent own serves done why f m = absurd serves
+asked size worker number es (Write first count stamp) Done own serves done why f m = inl (serves.0, refl)
+asked size worker number es (Write first count stamp) (Runs at values) own serves done why f m = absurd serves
+asked size worker number es (Write first count stamp) (Refused refusal.OutOfRange) own serves done why f m = inr (serves.0, refl)
+asked size worker number es (Read first count) Silent own serves done why f m = absurd serves
+asked size worker number es (Read first count) Done own serves done why f m = absurd serves
+asked size worker number es (Read first count) (Runs at values) own serves done why f m = inl (serves.0, (values, ap (λ n. Runs n values) serves.1))
+asked size worker number es (Read first count) (Refused refusal.OutOfRange) own serves done why f m = inr (serves.0, refl)
+asked size worker number es Flush Silent own serves done why f m = absurd serves
+asked size worker number es Flush Done own serves done why f m = refl
+asked size worker number es Flush (Runs at values) own serves done why f m = absurd serves
+asked size worker number es Flush (Refused refusal.OutOfRange) own serves done why f m = absurd serves
+asked size worker number es (Round round) Silent own serves done why f m = absurd serves
+asked size worker number es (Round round) Done own serves done why f m = refl
+asked size worker number es (Round round) (Runs at values) own serves done why f m = absurd serves
+asked size worker number es (Round round) (Refused refusal.OutOfRange) own serves done why f m = absurd (serves.1 tt)
+asked size worker number es action (Refused (refusal.NoBucket purpose none_len own_len)) own serves done why f m = absurd why
+asked size worker number es action (Refused refusal.JournalEnd) own serves done why f m = absurd why
+asked size worker number es action (Refused (refusal.Node bucket number')) own serves done why f m = absurd why
+asked size worker number es action (Refused (refusal.Fault d)) own serves done why f m = absurd (cc)
+asked size worker number es action (Refused (refusal.Halted d)) own serves done why f m = absurd (cc)
+asked size worker number es action (Refused refusal.Memory) own serves done why f m = absurd (cc)
+
+-- so was a line
+answered : (size number : ℕ) (es : List Event) (l : Line) (answer : Answer) (own : List Entry) → ServesLine size number l answer own → IsLine l → IsCausedBy es answer → says_fault answer ≡ false → says_memory answer ≡ false → IsAnswered size l answer
+answered size number es line.Silent answer own serves is why f m = serves.0
+answered size number es (line.Request worker phase action) answer own serves is why f m = asked size worker number es action answer own serves is.served why f m
 
 neither : (a b : Bool) → (a || b) ≡ false → (a ≡ false) × (b ≡ false)
 neither true b is = absurd (cc)
 neither false b is = (refl, is)
 
-all_answered : (size number : ℕ) (lines : List Line) (answers : List Answer) (history : List Entry) → ServedFrom size number lines answers history → list_any says_fault answers ≡ false → list_any says_memory answers ≡ false → AllAnswered size lines answers
-all_answered size number [] [] history served f m = tt
-all_answered size number [] (a ∷ others) history served f m = absurd served
-all_answered size number (l ∷ ls) [] history served f m = absurd served
-all_answered size number (l ∷ ls) (a ∷ others) history served f m =
+all_answered : (size number : ℕ) (es : List Event) (lines : List Line) (answers : List Answer) (history : List Entry) → ServedFrom size number lines answers history → All IsLine lines → All (IsCausedBy es) answers → list_any says_fault answers ≡ false → list_any says_memory answers ≡ false → AllAnswered size lines answers
+all_answered size number es [] [] history served are why f m = tt
+all_answered size number es [] (a ∷ others) history served are why f m = absurd served
+all_answered size number es (l ∷ ls) [] history served are why f m = absurd served
+all_answered size number es (l ∷ ls) (a ∷ others) history served are why f m =
     let fs = neither (says_fault a) (list_any says_fault others) f in
     let ms = neither (says_memory a) (list_any says_memory others) m in (
-      answered size l.worker number l.action a served.0 served.3 fs.0 ms.0,
-      all_answered size (suc number) ls others served.1 served.4 fs.1 ms.1,
+      answered size number es l a served.0 served.3 (All-head IsLine l ls are) (All-head (IsCausedBy es) a others why) fs.0 ms.0,
+      all_answered size (suc number) es ls others served.1 served.4 (All-tail IsLine l ls are) (All-tail (IsCausedBy es) a others why) fs.1 ms.1,
     )
 
 -- the sink behind whole lines, where no message follows
@@ -180,13 +202,13 @@ module _ (status : ℕ) (answers : List Answer) (how : Closing) (old new : Strea
       left (inr (inr (inl eight))) = absurd (takes (sink_stopped eight))
       left (inr (inr (inr nine))) = inr nine
 
-  pub done : (size : ℕ) (lines : List Line) (history : List Entry) → Served size lines answers history → status ≡ 0 → IsDone size lines answers old new
-  done size lines history served is =
+  pub done : (size : ℕ) (es : List Event) (lines : List Line) (history : List Entry) → All IsLine lines → All (IsCausedBy es) answers → Served size lines answers history → status ≡ 0 → IsDone size lines answers old new
+  done size es lines history are why served is =
       let ends = none (list_any says_fault answers) how (list_any says_memory answers || end.printed.memory_missed) (is_err end.printed.put) (sym end.ends ∙ is) in
       let found = neither (list_any says_memory answers) end.printed.memory_missed ends.2 in
       let no_message : message_of_end (list_any says_fault answers) how (list_any says_memory answers || end.printed.memory_missed) ≡ None = ap (λ (h : Closing). message_of_end (list_any says_fault answers) h (list_any says_memory answers || end.printed.memory_missed)) ends.1 in
       let text = whole end.printed end.printed.put answers old end.between new found.1 end.lines (subst (λ (m : Option Message). IsPutBehind end.printed.put m end.between new) no_message end.message) ends.3 in
-      record { answered = all_answered size 1 lines answers history served ends.0 found.0; text = text.0; are_lines = text.1; taken = text.2 }
+      record { answered = all_answered size 1 es lines answers history (one_by_one size 1 lines answers history (of_first lines are) served) are why ends.0 found.0; text = text.0; are_lines = text.1; taken = text.2 }
 
   pub closed_whole : status ≡ 0 → how ≡ closing.Done
   closed_whole is = (none _ how _ _ (sym end.ends ∙ is)).1

@@ -8,8 +8,8 @@ use Rattle.bc_disk.specs.Stream.{StreamFacts}
 use Rattle.bc_script.specs.declared.line.Line.{Line}
 use Rattle.bc_script.specs.Expected.{AllAnswered, answers_of}
 use Rattle.bc_script.specs.declared.answer.Answer.{Answer}
-use Rattle.bc_script.specs.declared.answer.Answer.TheVariants.{Done, Runs, Refused}
-use Rattle.bc_script.specs.declared.answer.Refusal.TheVariants.{OutOfRange, Fault, Halted, Memory}
+use Rattle.bc_script.specs.declared.answer.Answer.TheVariants.{Silent, Done, Runs, Refused}
+use Rattle.bc_script.specs.declared.answer.Refusal.TheVariants.{OutOfRange, NoBucket, Fault, Halted, Memory, JournalEnd, Node}
 use Rattle.bc_output.specs.declared.answers.Printed.{Printed}
 use Rattle.bc_output.specs.declared.message.Message.{Message}
 use Rattle.bc_output.specs.declared.message.Message.TheVariants as message
@@ -23,18 +23,26 @@ use Rattle.bc_top.specs.declared.closing.Closing.TheVariants as closing
 
 -- an answer says that a device failed, or had failed before
 abbrev pub says_fault : Answer → Bool
+says_fault Silent = false
 says_fault Done = false
 says_fault (Runs at values) = false
 says_fault (Refused OutOfRange) = false
+says_fault (Refused (NoBucket purpose none_len own_len)) = false
+says_fault (Refused JournalEnd) = false
+says_fault (Refused (Node bucket why)) = false
 says_fault (Refused (Fault device)) = true
 says_fault (Refused (Halted device)) = true
 says_fault (Refused Memory) = false
 
 -- an answer says that there was no memory
 abbrev pub says_memory : Answer → Bool
+says_memory Silent = false
 says_memory Done = false
 says_memory (Runs at values) = false
 says_memory (Refused OutOfRange) = false
+says_memory (Refused (NoBucket purpose none_len own_len)) = false
+says_memory (Refused JournalEnd) = false
+says_memory (Refused (Node bucket why)) = false
 says_memory (Refused (Fault device)) = false
 says_memory (Refused (Halted device)) = false
 says_memory (Refused Memory) = true

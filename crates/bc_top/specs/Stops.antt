@@ -3,6 +3,7 @@ use Rattle.std.specs.Prelude.{◌≡◌, ◌⊎◌, ℕ}
 use Rattle.bc_output.specs.declared.message.Message.{Message}
 use Rattle.bc_output.specs.declared.message.Message.TheVariants as message
 use Rattle.bc_output.specs.declared.message.Origin.TheVariants as origin
+use Rattle.bc_script.specs.Reason.{number_of}
 use Rattle.bc_top.specs.declared.opening.OpenError.{OpenError}
 use Rattle.bc_top.specs.declared.opening.OpenError.TheVariants as errors
 use Rattle.bc_top.specs.declared.stop.Stop.{Stop}
@@ -21,7 +22,7 @@ status_of stop.Memory = 9
 -- the message
 abbrev pub message_of : Stop → Message
 message_of stop.Usage = message.Usage
-message_of (stop.Trace e) = message.Trace e.line e.why
+message_of (stop.Trace e) = message.Trace e.line (number_of e.why)
 message_of (stop.Superblock device number) = message.Superblock device number
 message_of (stop.Image why) = message.Image why
 message_of (stop.Fault device) = message.Fault (origin.Disk device)

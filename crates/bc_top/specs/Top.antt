@@ -1,5 +1,5 @@
 -- The words of a command, and why a trace isn't served.
-use Rattle.std.specs.Prelude.{◌≡◌, ◌⊎◌, ℕ, List, [], ◌∷◌, Some, map, codes, string_bytes, String}
+use Rattle.std.specs.Prelude.{◌≡◌, ◌⊎◌, ℕ, List, Some, map, string_bytes, String}
 use Rattle.std.specs.declared.alloc.Global.{Global}
 use Rattle.bc_disk.specs.Device.{HasRisen}
 use Rattle.bc_disk.specs.Disk.{DiskFacts}
@@ -10,7 +10,13 @@ use Rattle.bc_script.specs.declared.script.TraceError.TheVariants as trace
 use Rattle.bc_pair.specs.declared.pair.NewPair.{NewPair}
 use Rattle.bc_words.specs.Words.{IsInRange, Spells}
 use Rattle.bc_words.specs.declared.command.Command.{Command}
+use Rattle.bc_words.specs.declared.command.Options.{Options}
+use Rattle.bc_words.specs.declared.error.WordsError.{WordsError}
+use Rattle.bc_words.specs.declared.error.WordsError.TheVariants as words
 use Rattle.bc_words.specs.declared.command.Command.TheVariants as command
+use Rattle.bc_output.specs.Message.{message_text}
+use Rattle.bc_output.specs.declared.message.Message.TheVariants as message
+use Rattle.bc_top.specs.Ended.{IsPutOf}
 use Rattle.bc_top.specs.Opened.{IsOpenCause, IsSameDevice}
 use Rattle.bc_top.specs.Pairs.{HasAdopted, HasFormatted, HasShown}
 use Rattle.bc_top.specs.declared.opening.OpenError.TheVariants as errors
@@ -21,9 +27,21 @@ use Rattle.bc_top.specs.declared.stop.Stop.TheVariants as stop
 abbrev pub Says : List (String Global) → Command → Type 0
 Says words command = IsInRange command × Spells (map string_bytes words) command
 
--- the one word `serve`
+-- the words say that a trace is to be served. A run over the backing device alone has no use for the options.
 abbrev pub IsServe : List (String Global) → Type 0
-IsServe words = map string_bytes words ≡ codes "serve" ∷ []
+IsServe words = (options : Options) × Says words (command.Serve options)
+
+-- there was no memory to read the words: this is told, and nothing is done
+pub record LacksMemory {C B : Type 0} (status : ℕ) (cache cache' : C) (backing backing' : B) (old new : StreamFacts) : Type 0 where
+  pub status_is : status ≡ 9
+  pub cache_is : cache' ≡ cache
+  pub backing_is : backing' ≡ backing
+  pub told : IsPutOf (message_text message.Memory) old new
+
+-- why a call ends whose words aren't read
+abbrev pub words_stop : WordsError → Stop
+words_stop words.Usage = stop.Usage
+words_stop words.Memory = stop.Memory
 
 -- What a command but `serve` does. The words of `format` are the new pair, field by field.
 abbrev pub Does : {C B : Type 0} → (C → DiskFacts) → (B → DiskFacts) → Command → ℕ → C → C → B → B → StreamFacts → StreamFacts → Type 0
@@ -32,7 +50,7 @@ Does cache_facts backing_facts (command.Format set cuuid buuid block bucket) sta
     × HasFormatted cache_facts backing_facts status cache cache' backing backing' old new p
 Does cache_facts backing_facts command.Adopt status cache cache' backing backing' old new = HasAdopted cache_facts backing_facts status cache cache' backing backing' old new
 Does cache_facts backing_facts command.Show status cache cache' backing backing' old new = HasShown cache_facts backing_facts status cache cache' backing backing' old new
-Does cache_facts backing_facts command.Serve status cache cache' backing backing' old new = Unit {0}
+Does cache_facts backing_facts (command.Serve options) status cache cache' backing backing' old new = Unit {0}
 
 -- the source tells a text that spells a trace
 abbrev pub SpellsTrace : StreamFacts → Type 0

@@ -4,7 +4,7 @@ ghost use Rattle.bc_core.specs.declared.event.Event.{Event};
 ghost use Rattle.bc_disk.specs.Disk.{StandsFor, IfTold};
 ghost use Rattle.bc_disk.specs.Stands.{settled_model};
 ghost use Rattle.bc_script.specs.Answer.{IsPrintable};
-ghost use Rattle.bc_script.specs.Line.{IsLine};
+ghost use Rattle.bc_script.specs.Proper.{IsLine};
 ghost use Rattle.bc_top.specs.Run.{HasRun, Survives, IsStable, setup_on};
 ghost use Rattle.bc_top.specs.declared.closing.Closing.TheVariants as closings;
 

@@ -3,7 +3,7 @@ ghost use Rattle.std.specs.Prelude.{◌≡◌, ◌+◌, ◌<◌, ◌≤◌, ◌^
 ghost use Rattle.std.specs.Prelude.{All};
 ghost use Rattle.bc_model.specs.declared.history.Entry.{Entry};
 ghost use Rattle.bc_script.specs.Answer.{IsPrintable};
-ghost use Rattle.bc_script.specs.Line.{IsLine};
+ghost use Rattle.bc_script.specs.Proper.{IsLine};
 ghost use Rattle.bc_script.specs.Served.{ServesWrite, ServesRead, ServesFlush, ServesLine, Served};
 ghost use Rattle.bc_step.specs.World.{setup_of};
 ghost use Rattle.bc_step.specs.Seats.{IsSeat};
@@ -142,14 +142,17 @@ fn serve_line<C: Disk + Drop, B: Disk + Drop, R: Wait, G: Gate>(
     ensures caused { IsCausedBy seat.new.seen result }
     ensures serves { (entries : List Entry) × Entered C.facts B.facts seat.old entries seat.new × ServesLine size number line result entries }
 {
+    let Line::Request { worker, action, .. } = line else {
+        return Answer::Silent;
+    };
     let mut job = Job {
-        worker: line.worker,
+        worker,
         line: number,
         first: 0,
         count: 0,
         size,
     };
-    match line.action {
+    match action {
         Action::Write {
             first,
             count,
@@ -159,12 +162,16 @@ fn serve_line<C: Disk + Drop, B: Disk + Drop, R: Wait, G: Gate>(
             job.count = count;
             serve_write(rt, alloc, parts, seat, &job, stamp, gate)
         }
+        // No trace with such a line is read as yet.
+        Action::ForcedWrite { .. } => unreachable!(),
         Action::Read { first, count } => {
             job.first = first;
             job.count = count;
             serve_read(rt, alloc, parts, seat, &job, gate)
         }
         Action::Flush => serve_flush(rt, parts, seat, &job, gate),
+        // Without a cache there is nothing that a round could do.
+        Action::Round(_) => Answer::Done,
     }
 }
 

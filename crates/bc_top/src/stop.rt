@@ -53,7 +53,7 @@ impl Stop {
             Stop::Usage => Message::Usage,
             Stop::Trace(error) => Message::Trace {
                 line: error.line,
-                why: error.why,
+                why: error.why.number(),
             },
             Stop::Superblock { device, number } => Message::Superblock {
                 device: *device,

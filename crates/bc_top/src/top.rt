@@ -1,5 +1,5 @@
 //! The program but for its two files: from the words of a command to what is printed.
-ghost use Rattle.std.specs.Prelude.{◌≡◌, ◌⊎◌, ◌↔◌, ◌<◌, List, IsTrue, IfSome, IsNone};
+ghost use Rattle.std.specs.Prelude.{◌≡◌, ◌⊎◌, ◌<◌, List, IsTrue, IfSome, IsNone};
 ghost use Rattle.bc_core.specs.declared.event.Event.{Event};
 ghost use Rattle.bc_disk.specs.Device.{HasRisen};
 ghost use Rattle.bc_disk.specs.Disk.{IfTold};
@@ -16,7 +16,7 @@ ghost use Rattle.bc_top.specs.Ended.{IsEnd, IsDone, AreExpected, IsPutOf, HasSto
 ghost use Rattle.bc_top.specs.Opened.{IsOpened, IsPassThrough, SameImage, AsksForNone};
 ghost use Rattle.bc_top.specs.Run.{HasRun, Survives, IsStable, setup_on};
 ghost use Rattle.bc_top.specs.Stops.{IsRefusal, IsStatus, message_of, status_of};
-ghost use Rattle.bc_top.specs.Top.{AreSame, Does, IsServe, IsServeCause, OneHasRisen, Says, SpellsTrace};
+ghost use Rattle.bc_top.specs.Top.{AreSame, Does, IsServe, LacksMemory, IsServeCause, OneHasRisen, Says, SpellsTrace, words_stop};
 ghost use Rattle.bc_top.specs.declared.closing.Closing.{Closing};
 ghost use Rattle.bc_top.specs.declared.stop.Stop.{Stop};
 ghost use Rattle.bc_pair.specs.Causes.{KeepsOthers};
@@ -33,6 +33,16 @@ use bc_words::{Command, WordsError, read_words};
 use std::alloc::Global;
 use std::sync::Wait;
 
+// Why a call ends whose words aren't read.
+fn stop_of(error: WordsError) -> Stop
+    ensures { result ≡ words_stop error }
+{
+    match error {
+        WordsError::Usage => Stop::Usage,
+        WordsError::Memory => Stop::Memory,
+    }
+}
+
 /// Runs a command over a cache device and a backing device. The words are those behind the two
 /// devices, as `read_words` reads them: `serve` serves a trace and prints its answers; `format` makes
 /// a new pair, and `adopt` takes one into use that another tool formatted; `show` prints what the
@@ -46,13 +56,17 @@ pub fn bcache<R: Wait, C: Disk + Drop, B: Disk + Drop, S: Source, K: Sink>(
     backing: B,
     out: &mut K,
 ) -> Ran<C, B>
-    // 2 comes exactly where the words spell no command. Then nothing is done but that this is told.
-    ensures usage { (result.status ≡ 2) ↔ ((command : Command) → Says words.now command → ⊥) }
+    // 2 comes where the words spell no command, unless memory for them runs out. Then nothing is done but
+    // that this is told.
+    ensures usage { result.status ≡ 2 → (command : Command) → Says words.now command → ⊥ }
+    ensures unknown { ((command : Command) → Says words.now command → ⊥) → (result.status ≡ 2)
+        ⊎ LacksMemory result.status cache result.cache backing result.backing (K.facts out.old) (K.facts out.new) }
     ensures told { result.status ≡ 2 → IsPutOf (message_text Message.Usage) (K.facts out.old) (K.facts out.new) × (result.cache ≡ cache) × (result.backing ≡ backing) }
 
     // What a command but `serve` does. None of them writes a sector of data.
     ensures does { (command : Command) → Says words.now command
-        → Does C.facts B.facts command result.status cache result.cache backing result.backing (K.facts out.old) (K.facts out.new) }
+        → Does C.facts B.facts command result.status cache result.cache backing result.backing (K.facts out.old) (K.facts out.new)
+        ⊎ LacksMemory result.status cache result.cache backing result.backing (K.facts out.old) (K.facts out.new) }
     ensures data { (IsServe words.now → ⊥) → KeepsOthers (B.facts backing) (B.facts result.backing) }
 
     ensures unread { (IsServe words.now → ⊥) → trace.new ≡ trace.old }
@@ -99,8 +113,8 @@ pub fn bcache<R: Wait, C: Disk + Drop, B: Disk + Drop, S: Source, K: Sink>(
     ensures stable { result.status ≡ 0 → IfSome result.pass (λ pass. IfTold (B.facts backing).holds
         (λ held. (s : BackingSuper) × ReadsSuper (B.facts backing) s × ((image : Image) × SameImage held image × IsStable s.data_offset image pass (B.facts result.backing)))) }
 {
-    match read_words(words) {
-        Ok(Command::Serve) => serve(rt, alloc, trace, cache, backing, out),
+    match read_words(alloc, words) {
+        Ok(Command::Serve(_)) => serve(rt, alloc, trace, cache, backing, out),
         Ok(
             Command::Format {
                 set,
@@ -121,8 +135,8 @@ pub fn bcache<R: Wait, C: Disk + Drop, B: Disk + Drop, S: Source, K: Sink>(
         }
         Ok(Command::Adopt) => adopt_pair(alloc, cache, backing, out),
         Ok(Command::Show) => print_pair(alloc, cache, backing, out),
-        Err(WordsError::Usage) => Ran {
-            status: tell(&Stop::Usage, out),
+        Err(error) => Ran {
+            status: tell(&stop_of(error), out),
             cache,
             backing,
             pass: None,

@@ -1,5 +1,4 @@
 mod Numbers
 mod Powers
 mod Uuids
-mod Lines
 mod Commands

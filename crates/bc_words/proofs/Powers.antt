@@ -41,5 +41,5 @@ one_bit_of_power n is =
     omega arith
 
 -- a size has one text
-pub size_injective : (least most a b : ℕ) → IsSize least most a → IsSize least most b → most < 2 ^ 16 → decimal a ≡ decimal b → a ≡ b
-size_injective least most a b is_a is_b small same = let low = is_a.high in let high = is_b.high in decimal_injective a b (omega arith) (omega arith) same
+pub size_injective : (least most a b : ℕ) → IsSize least most a → IsSize least most b → most < 2 ^ 64 → decimal a ≡ decimal b → a ≡ b
+size_injective least most a b is_a is_b small same = let low = is_a.within.high in let high = is_b.within.high in decimal_injective a b (omega arith) (omega arith) same

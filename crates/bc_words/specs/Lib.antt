@@ -1,3 +1,4 @@
+pub mod Program
 pub mod Words
 pub mod Reading
 pub mod Example

@@ -1,4 +1,5 @@
 //! What a command line asks for.
+use crate::mode::Mode;
 
 /// What the words of a command line ask for.
 #[derive(Clone, Copy, Debug, PartialEq, Eq, Drop)]
@@ -21,5 +22,16 @@ pub enum Command {
     /// Print what the superblocks say.
     Show,
     /// Serve the requests of a trace.
-    Serve,
+    Serve(Options),
+}
+
+/// How a trace is served where there is a cache.
+#[derive(Clone, Copy, Debug, PartialEq, Eq, Drop)]
+pub struct Options {
+    /// The mode, where it isn't to be that of the backing device's superblock.
+    pub mode: Option<Mode>,
+    /// From how many sectors in a row on a worker's requests go round the cache: at most 2^40.
+    pub cutoff: u64,
+    /// How many leaves of the index are kept in memory: 1 to 1,024.
+    pub slots: u32,
 }

@@ -1,7 +1,7 @@
 //! What the definitions come to: each law is the contract of a function.
 ghost use Rattle.std.specs.Prelude.{◌≡◌, ℕ, List};
 ghost use Rattle.bc_words.specs.Words.{IsInRange, Spells};
-ghost use Rattle.bc_words.specs.Example.{example_words, example_command};
+ghost use Rattle.bc_words.specs.Example.{format_words, format_command, serve_words, serve_command};
 ghost use Rattle.bc_words.specs.declared.command.Command.{Command};
 
 /// Words spell one command at most.
@@ -12,6 +12,12 @@ pub fn one_command()
 
 /// The words of an example spell it, and it is in range.
 pub fn format_example()
-    ensures range { IsInRange example_command }
-    ensures spelled { Spells example_words example_command }
+    ensures range { IsInRange format_command }
+    ensures spelled { Spells format_words format_command }
+{}
+
+/// The same of a command with some of its options.
+pub fn serve_example()
+    ensures range { IsInRange serve_command }
+    ensures spelled { Spells serve_words serve_command }
 {}

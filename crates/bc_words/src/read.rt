@@ -1,21 +1,31 @@
 //! Reads the words of a command line.
-ghost use Rattle.std.specs.Prelude.{◌≡◌, ◌≤◌, ◌<◌, ◌^◌, ℕ, List, ◌∷◌, map, codes, string_bytes, MatchOption, IfOk, IfErr};
+ghost use Rattle.std.specs.Prelude.{◌≡◌, ◌≤◌, ◌<◌, ◌^◌, ℕ, List, Option, None, map, codes, string_bytes, option_map, MatchOption, IfOk, IfErr};
 ghost use Rattle.std.specs.Fmt.{decimal};
 ghost use Rattle.hex.specs.Hex.{encode_lower};
-ghost use Rattle.bc_words.specs.Words.{IsUuid, IsSize, IsInRange, Spells};
-ghost use Rattle.bc_words.specs.Reading.{Reads};
+ghost use Rattle.clap.specs.Words.{first_of, first_value, found_of, rows_of};
+ghost use Rattle.bc_words.specs.Words.{IsNumberOr, IsModeIfGiven, IsUuid, IsSize, IsWithin, IsInRange, Spells};
+ghost use Rattle.bc_words.specs.Reading.{IsCause, Reads, ReadsOptions, ReadsValues};
 ghost use Rattle.bc_words.specs.declared.command.Command.{Command};
+ghost use Rattle.bc_words.specs.declared.mode.Mode.{Mode};
 
-use crate::command::Command;
+use crate::command::{Command, Options};
 use crate::error::WordsError;
+use crate::mode::{Mode, mode_of};
+use crate::parser::parse;
+use clap::ArgMatches;
 use hex::{FromHex, encode_to_slice};
+use std::alloc::Global;
 
 // The most sectors of a block.
-const MOST_BLOCK: u16 = 8;
+const MOST_BLOCK: u64 = 8;
 // The fewest sectors of a bucket.
-const LEAST_BUCKET: u16 = 64;
+const LEAST_BUCKET: u64 = 64;
 // The most sectors of a bucket.
-const MOST_BUCKET: u16 = 32_768;
+const MOST_BUCKET: u64 = 32_768;
+// The most sectors of a cutoff.
+const MOST_CUTOFF: u64 = 1 << 40;
+// The most slots.
+const MOST_SLOTS: u64 = 1024;
 
 // The uuid that a word spells.
 fn uuid_of(word: &str) -> Option<[u8; 16]>
@@ -33,138 +43,162 @@ fn uuid_of(word: &str) -> Option<[u8; 16]>
     Some(uuid)
 }
 
-// The number above 0 that a word spells.
-fn number_of(word: &str) -> Option<u16>
+// The number that a word spells.
+fn number_of(word: &str) -> Option<u64>
     ensures { MatchOption result
-        ((number : ℕ) → 0 < number → number < 2 ^ 16 → word.now ≡ decimal number → ⊥)
-        (λ number. (0 < number) × (word.now ≡ decimal number)) }
+        ((number : ℕ) → number < 2 ^ 64 → word.now ≡ decimal number → ⊥)
+        (λ number. word.now ≡ decimal number) }
 {
     let first = *word.as_bytes().first()?;
     // A sign and zeros in front could be parsed too.
-    if first == b'+' || first == b'0' {
+    if first == b'+' {
+        return None;
+    }
+    if first == b'0' && word.len() != 1 {
         return None;
     }
     word.parse().ok()
 }
 
-// The power of two in this range that a word spells.
-fn size_of(word: &str, least: u16, most: u16) -> Option<u16>
+// The number that a word spells, or the default where there is no word.
+fn given_or(default: u64, word: Option<&str>) -> Option<u64>
     ensures { MatchOption result
-        ((size : ℕ) → IsSize least most size → word.now ≡ decimal size → ⊥)
-        (λ size. IsSize least most size × (word.now ≡ decimal size)) }
+        ((number : ℕ) → number < 2 ^ 64
+        → IsNumberOr default (option_map (λ s. s.now) word.entry) number → ⊥)
+        (λ number. IsNumberOr default (option_map (λ s. s.now) word.entry) number) }
 {
-    let size = number_of(word)?;
-    if !size.is_power_of_two() || size < least || size > most {
+    match word {
+        None => Some(default),
+        Some(word) => number_of(word),
+    }
+}
+
+// The same of a number in this range.
+fn number_or(default: u64, word: Option<&str>, least: u64, most: u64) -> Option<u64>
+    ensures { MatchOption result
+        ((number : ℕ) → IsWithin least most number
+        → IsNumberOr default (option_map (λ s. s.now) word.entry) number → ⊥)
+        (λ number. IsWithin least most number
+        × IsNumberOr default (option_map (λ s. s.now) word.entry) number) }
+{
+    let number = given_or(default, word)?;
+    if number < least || number > most {
+        return None;
+    }
+    Some(number)
+}
+
+// The same of a power of two.
+fn size_or(default: u64, word: Option<&str>, least: u64, most: u64) -> Option<u64>
+    ensures { MatchOption result
+        ((size : ℕ) → IsSize least most size
+        → IsNumberOr default (option_map (λ s. s.now) word.entry) size → ⊥)
+        (λ size. IsSize least most size
+        × IsNumberOr default (option_map (λ s. s.now) word.entry) size) }
+{
+    let size = number_or(default, word, least, most)?;
+    if !size.is_power_of_two() {
         return None;
     }
     Some(size)
 }
 
-// The value of the option of this name, with which the words begin, and the words behind it.
-fn value_after<'a>(words: &'a [String], name: &str) -> Option<(&'a str, &'a [String])>
+// The mode that a word names, if there is a word.
+fn mode_if_given(word: Option<&str>) -> Option<Option<Mode>>
     ensures { MatchOption result
-        ((value : List ℕ) (rest : List (List ℕ))
-        → map string_bytes words.now ≡ name.now ∷ value ∷ rest → ⊥)
-        (λ found. map string_bytes words.now
-        ≡ name.now ∷ found.0.now ∷ map string_bytes found.1.now) }
+        ((mode : Option Mode) → IsModeIfGiven (option_map (λ s. s.now) word.entry) mode → ⊥)
+        (λ mode. IsModeIfGiven (option_map (λ s. s.now) word.entry) mode) }
 {
-    let [first, value, rest @ ..] = words else {
-        return None;
-    };
-    if first.as_str() != name {
-        return None;
+    match word {
+        None => Some(None),
+        Some(word) => Some(Some(mode_of(word)?)),
     }
-    Some((value.as_str(), rest))
 }
 
-// The same of an option whose value is a uuid.
-fn uuid_after<'a>(words: &'a [String], name: &str) -> Option<([u8; 16], &'a [String])>
-    ensures { MatchOption result
-        ((uuid : List ℕ) (rest : List (List ℕ)) → IsUuid uuid
-        → map string_bytes words.now ≡ name.now ∷ encode_lower uuid ∷ rest → ⊥)
-        (λ found. IsUuid found.0 × (map string_bytes words.now
-        ≡ name.now ∷ encode_lower found.0 ∷ map string_bytes found.1.now)) }
+// The value of the option of this name.
+fn value_of<'a>(matches: &ArgMatches<'a>, name: &str) -> Option<&'a str>
+    ensures { option_map (λ s. s.now) result ≡ first_of name.now (rows_of (found_of matches.now)) }
 {
-    let (value, rest) = value_after(words, name)?;
-    let uuid = uuid_of(value)?;
-    Some((uuid, rest))
+    matches.get_str(name)
 }
 
-// The same of an option whose value is a power of two in this range.
-fn size_after<'a>(
-    words: &'a [String],
-    name: &str,
-    least: u16,
-    most: u16,
-) -> Option<(u16, &'a [String])>
-    ensures { MatchOption result
-        ((size : ℕ) (rest : List (List ℕ)) → IsSize least most size
-        → map string_bytes words.now ≡ name.now ∷ decimal size ∷ rest → ⊥)
-        (λ found. IsSize least most found.0 × (map string_bytes words.now
-        ≡ name.now ∷ decimal found.0 ∷ map string_bytes found.1.now)) }
+// What the options of `format` ask for.
+fn format_of(matches: &ArgMatches<'_>) -> Option<Command>
+    ensures { ReadsValues (codes "format") (rows_of (found_of matches.now)) result }
 {
-    let (value, rest) = value_after(words, name)?;
-    let size = size_of(value, least, most)?;
-    Some((size, rest))
-}
-
-// What the words behind `format` ask for.
-fn format_of(words: &[String]) -> Option<Command>
-    ensures { Reads (codes "format" ∷ map string_bytes words.now) result }
-{
-    let (set, rest) = uuid_after(words, "--set")?;
+    let set = uuid_of(value_of(matches, "set")?)?;
     if set == [0; 16] {
         return None;
     }
-    let (cuuid, rest) = uuid_after(rest, "--cuuid")?;
-    let (buuid, rest) = uuid_after(rest, "--buuid")?;
-    let (block, rest) = size_after(rest, "--block", 1, MOST_BLOCK)?;
-    let (bucket, rest) = size_after(rest, "--bucket", LEAST_BUCKET, MOST_BUCKET)?;
-    if !rest.is_empty() {
-        return None;
-    }
+    let cuuid = uuid_of(value_of(matches, "cuuid")?)?;
+    let buuid = uuid_of(value_of(matches, "buuid")?)?;
+    let block = size_or(1, value_of(matches, "block"), 1, MOST_BLOCK)?;
+    let bucket = size_or(1024, value_of(matches, "bucket"), LEAST_BUCKET, MOST_BUCKET)?;
     Some(Command::Format {
         set,
         cuuid,
         buuid,
-        block,
-        bucket,
+        block: block as u16,
+        bucket: bucket as u16,
     })
 }
 
-// The command that the words spell, if they spell one.
-fn command_of(words: &[String]) -> Option<Command>
-    ensures { Reads (map string_bytes words.now) result }
+// What the options of `serve` say.
+fn options_of(matches: &ArgMatches<'_>) -> Option<Options>
+    ensures { ReadsOptions (rows_of (found_of matches.now)) result }
 {
-    let (name, rest) = words.split_first()?;
-    if name.as_str() == "format" {
-        return format_of(rest);
-    }
-    if !rest.is_empty() {
-        return None;
-    }
-    match name.as_str() {
+    let mode = mode_if_given(value_of(matches, "mode"))?;
+    let cutoff = number_or(8192, value_of(matches, "cutoff"), 0, MOST_CUTOFF)?;
+    let slots = number_or(1024, value_of(matches, "slots"), 1, MOST_SLOTS)?;
+    Some(Options {
+        mode,
+        cutoff,
+        slots: slots as u32,
+    })
+}
+
+// What the command of this name asks for.
+fn command_of(name: &str, matches: &ArgMatches<'_>) -> Option<Command>
+    ensures { ReadsValues name.now (rows_of (found_of matches.now)) result }
+{
+    match name {
+        "format" => format_of(matches),
         "adopt" => Some(Command::Adopt),
         "show" => Some(Command::Show),
-        "serve" => Some(Command::Serve),
+        "serve" => Some(Command::Serve(options_of(matches)?)),
         _ => None,
     }
 }
 
-/// The command that the words spell. Takes no memory.
+// What the words ask for, and nothing only where they spell no command.
+fn command_in(alloc: Global, words: &[String]) -> Result<Command, WordsError>
+    ensures { Reads (map string_bytes words.now) result }
+{
+    let matches = parse(alloc, words)?;
+    let Some((name, values)) = matches.subcommand() else {
+        return Err(WordsError::Usage);
+    };
+    command_of(name, values).ok_or(WordsError::Usage)
+}
+
+/// The command that the words spell: `adopt`, `show`, `format` or `serve`, and behind it options
+/// with a value each, as `--NAME VALUE` or `--NAME=VALUE`, in any order and each once at most.
 ///
-/// It is the one word `adopt`, `show` or `serve`, or the eleven words
-/// `format --set X --cuuid X --buuid X --block N --bucket N`. An X is the 32 lower-case hexadecimal
-/// digits of a uuid, byte by byte, and the set's isn't all zero. An N is in decimal digits without a
-/// zero in front and counts sectors: a block has 1, 2, 4 or 8, and a bucket a power of two from 64
-/// to 32,768. Any other words are `Usage`.
-pub fn read_words(words: &[String]) -> Result<Command, WordsError>
+/// `format` has `--set X --cuuid X --buuid X`, and may have `--block N` (1 where it isn't given) and
+/// `--bucket N` (1024). An X is the 32 lower-case hexadecimal digits of a uuid, byte by byte, and
+/// the set's isn't all zero. An N is in decimal digits without a zero in front, and counts sectors:
+/// a block has 1, 2, 4 or 8, and a bucket a power of two from 64 to 32,768. `serve` may have
+/// `--mode M` (writethrough, writeback, writearound or none), `--cutoff N` (8192; 0 to 2^40
+/// sectors) and `--slots N` (1024; 1 to 1,024). Any other words are `Usage`.
+pub fn read_words(alloc: Global, words: &[String]) -> Result<Command, WordsError>
     ensures spelled { IfOk result (λ command. IsInRange command
         × Spells (map string_bytes words.now) command) }
-    ensures refused { IfErr result (λ _. (command : Command) → IsInRange command
-        → Spells (map string_bytes words.now) command → ⊥) }
+    // Without memory nothing is known of the words.
+    ensures refused { IfErr result (IsCause (map string_bytes words.now)) }
+    // What is spelled is read, and no other command.
     ensures read { (command : Command) → IsInRange command
-        → Spells (map string_bytes words.now) command → result ≡ Ok command }
+        → Spells (map string_bytes words.now) command
+        → IfOk result (λ found. found ≡ command) }
 {
-    command_of(words).ok_or(WordsError::Usage)
+    command_in(alloc, words)
 }

@@ -1,118 +1,147 @@
-use crate::{Command, WordsError, read_words};
+use crate::{Command, Mode, Options, WordsError, read_words};
 use std::alloc::{AllocError, Global};
 use std::test::Fail;
 
-// A line that is read.
-const FORMAT: [&str; 11] = [
-    "format",
-    "--set",
-    "000123456789abcdef000000000000ff",
-    "--cuuid",
-    "00000000000000000000000000000000",
-    "--buuid",
-    "101112131415161718191a1b1c1d1e1f",
-    "--block",
-    "8",
-    "--bucket",
-    "1024",
-];
+const SET: &str = "--set=000123456789abcdef000000000000ff";
 
-fn read(alloc: Global, words: &[&str]) -> Result<Result<Command, WordsError>, AllocError> {
-    let mut owned = Vec::new(alloc);
-    for word in words {
-        owned.push(String::from_str(alloc, word)?)?;
+const CACHE: &str = "--cuuid=00000000000000000000000000000000";
+
+const BACKING: &str = "--buuid=101112131415161718191a1b1c1d1e1f";
+
+// What a text of words between spaces is read as.
+fn read(alloc: Global, text: &str) -> Result<Result<Command, WordsError>, AllocError> {
+    let mut words = Vec::new(alloc);
+    for word in text.split(' ') {
+        words.push(String::from_str(alloc, word)?)?;
     }
-    Ok(read_words(&owned))
+    Ok(read_words(alloc, &words))
 }
 
-// The line that is read, with another word in this place.
-fn read_with(
-    alloc: Global,
-    place: usize,
-    word: &str,
-) -> Result<Result<Command, WordsError>, AllocError> {
-    let mut words = FORMAT;
-    if let Some(old) = words.get_mut(place) {
-        *old = word;
-    }
-    read(alloc, &words)
+// The same of a line that makes a pair, with more words behind it.
+fn format(alloc: Global, more: &str) -> Result<Result<Command, WordsError>, AllocError> {
+    let text = format!(in alloc; "format {SET} {CACHE} {BACKING}{more}")?;
+    read(alloc, text.as_str())
+}
+
+fn serve(mode: Option<Mode>, cutoff: u64, slots: u32) -> Command {
+    Command::Serve(Options {
+        mode,
+        cutoff,
+        slots,
+    })
 }
 
 #[test]
 fn commands(rt: HostRuntime) -> Result<(), Fail> {
     let alloc = rt.alloc();
-    assert_eq!(rt; read(alloc, &["adopt"])?, Ok(Command::Adopt));
-    assert_eq!(rt; read(alloc, &["show"])?, Ok(Command::Show));
-    assert_eq!(rt; read(alloc, &["serve"])?, Ok(Command::Serve));
-    let format = Command::Format {
-        set: [
-            0x00, 0x01, 0x23, 0x45, 0x67, 0x89, 0xab, 0xcd, 0xef, 0, 0, 0, 0, 0, 0, 0xff,
-        ],
-        cuuid: [0; 16],
-        buuid: [
-            16, 17, 18, 19, 20, 21, 22, 23, 24, 25, 26, 27, 28, 29, 30, 31,
-        ],
-        block: 8,
-        bucket: 1024,
-    };
-    assert_eq!(rt; read(alloc, &FORMAT)?, Ok(format));
-    for (place, word) in [(8, "1"), (8, "2"), (8, "4"), (10, "64"), (10, "32768")] {
-        assert!(rt; read_with(alloc, place, word)?.is_ok(), "{word}");
+    for (text, command) in [
+        ("adopt", Command::Adopt),
+        ("show", Command::Show),
+        ("serve", serve(None, 8192, 1024)),
+        (
+            "serve --mode writearound",
+            serve(Some(Mode::Writearound), 8192, 1024),
+        ),
+        (
+            "serve --slots=1 --mode=none",
+            serve(Some(Mode::NoCache), 8192, 1),
+        ),
+        ("serve --cutoff 1099511627776", serve(None, 1 << 40, 1024)),
+        ("serve --cutoff=0 --slots 1024", serve(None, 0, 1024)),
+    ] {
+        assert_eq!(rt; read(alloc, text)?, Ok(command), "{text}");
+    }
+    for (more, block, bucket) in [
+        ("", 1, 1024),
+        (" --block 8", 8, 1024),
+        (" --bucket=64 --block=2", 2, 64),
+        (" --bucket 32768", 1, 32_768),
+    ] {
+        let command = Command::Format {
+            set: [
+                0x00, 0x01, 0x23, 0x45, 0x67, 0x89, 0xab, 0xcd, 0xef, 0, 0, 0, 0, 0, 0, 0xff,
+            ],
+            cuuid: [0; 16],
+            buuid: [
+                16, 17, 18, 19, 20, 21, 22, 23, 24, 25, 26, 27, 28, 29, 30, 31,
+            ],
+            block,
+            bucket,
+        };
+        assert_eq!(rt; format(alloc, more)?, Ok(command), "{more}");
     }
     Ok(())
 }
 
 #[test]
 fn refused_words(rt: HostRuntime) -> Result<(), Fail> {
-    let refused = Err(WordsError::Usage);
-    for (place, word) in [
-        (0, "Format"),
-        (1, "--cuuid"),
-        (2, "000123456789ABCDEF000000000000FF"),
-        (2, "000123456789abcdef000000000000f"),
-        (2, "000123456789abcdef000000000000fff"),
-        (2, "00000000000000000000000000000000"),
-        (4, "0000000000000000000000000000000g"),
-        (8, ""),
-        (8, "0"),
-        (8, "3"),
-        (8, "01"),
-        (8, "+1"),
-        (8, "16"),
-        (10, "32"),
-        (10, "064"),
-        (10, "100"),
-        (10, "65536"),
-        (10, "65600"),
-        (10, "18446744073709551680"),
-    ] {
-        assert_eq!(rt; read_with(rt.alloc(), place, word)?, refused, "{word}");
-    }
-    Ok(())
-}
-
-#[test]
-fn refused_lines(rt: HostRuntime) -> Result<(), Fail> {
     let alloc = rt.alloc();
-    let refused = Err(WordsError::Usage);
-    for line in [
-        &[][..],
-        &[""][..],
-        &["format"][..],
-        &["load"][..],
-        &["serve", "serve"][..],
-        &["adopt", ""][..],
-        &FORMAT[..10],
-        &FORMAT[1..],
+    for text in [
+        "",
+        "--help",
+        "help",
+        "Serve",
+        "serve serve",
+        "serve ",
+        "adopt --mode none",
+        "show -",
+        "format",
+        "load 1 10 1",
+        "check",
+        "nbd",
+        "serve --help",
+        "serve --mode",
+        "serve --mode fast",
+        "serve --mode=",
+        "serve --mode none --mode none",
+        "serve --cutoff=1099511627777",
+        "serve --cutoff 007",
+        "serve --cutoff=-1",
+        "serve --cutoff=+1",
+        "serve --cutoff=",
+        "serve --slots 0",
+        "serve --slots 1025",
+        "serve --slots=18446744073709551617",
+        "serve --beside",
+        "serve --crew 1",
+        "serve --mo none",
+        "serve -m none",
     ] {
-        assert_eq!(rt; read(alloc, line)?, refused);
+        assert_eq!(rt; read(alloc, text)?, Err(WordsError::Usage), "{text}");
     }
-    let mut swapped = FORMAT;
-    swapped[1] = "--cuuid";
-    swapped[3] = "--set";
-    assert_eq!(rt; read(alloc, &swapped)?, refused);
-    let mut longer = FORMAT.to_vec(alloc)?;
-    longer.push("1024")?;
-    assert_eq!(rt; read(alloc, &longer)?, refused);
+    for more in [
+        " --block 0",
+        " --block 3",
+        " --block 16",
+        " --block 01",
+        " --block",
+        " --block=",
+        " --block 1 --block 1",
+        " --bucket 32",
+        " --bucket 100",
+        " --bucket 65536",
+        " --bucket 064",
+        " --set=000123456789abcdef000000000000ff",
+        " --mode none",
+        " --offset 16",
+        " 1024",
+    ] {
+        assert_eq!(rt; format(alloc, more)?, Err(WordsError::Usage), "{more}");
+    }
+    for uuid in [
+        "",
+        "00000000000000000000000000000000",
+        "000123456789ABCDEF000000000000FF",
+        "000123456789abcdef000000000000f",
+        "000123456789abcdef000000000000fff",
+        "0000000000000000000000000000000g",
+    ] {
+        let text = format!(in alloc; "format --set={uuid} {CACHE} {BACKING}")?;
+        assert_eq!(rt;
+            read(alloc, text.as_str())?,
+            Err(WordsError::Usage),
+            "{uuid}"
+        );
+    }
     Ok(())
 }

@@ -1,5 +1,5 @@
 use Rattle.std.proofs.Common.{◌≡◌, drop}
-use Rattle.bc_script.specs.Reading.{number_after}
+use Rattle.bc_script.proofs.Numbers.{number_after}
 use Rattle.bc_script.proofs.parse.number_of.Given as goal
 
 abbrev pub invariant-loop-byte : goal.invariant-loop-byte

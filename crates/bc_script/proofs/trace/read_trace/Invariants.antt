@@ -7,9 +7,9 @@ abbrev pub invariant-loop-count : goal.invariant-loop-count
 invariant-loop-count g l =
     let facts = g.S.Source.facts in
     record {
-      draft : IsDraft l.draft.lines.items l.draft.part.items;
+      draft : IsDraft l.draft.lines.items l.draft.phase l.draft.part.items;
       count : l.taken ≤ bytes_read l.draft.lines.items l.draft.part.items;
-      told : BothToldText (λ text left. (got : List ℕ) × (text ≡ got ++ left) × (length got ≡ l.taken) × IsSoFar text l.draft.lines.items l.draft.part.items left) (facts l.fn.source).text (facts l.source).text;
+      told : BothToldText (λ text left. (got : List ℕ) × (text ≡ got ++ left) × (length got ≡ l.taken) × IsSoFar text l.draft.lines.items l.draft.phase l.draft.part.items left) (facts l.fn.source).text (facts l.source).text;
       faults : (facts l.source).faults ≡ (facts l.fn.source).faults;
     }
 

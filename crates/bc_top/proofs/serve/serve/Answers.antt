@@ -69,9 +69,9 @@ returns-in-Ok-run_trace-clause-run g c =
       c.in-Ok.ensures.lines.1,
       has,
       end,
-      done c.report.result outcome.answers.items outcome.closing (g.K.Sink.facts c.args.out.now) (g.K.Sink.facts c.report.new.out) end n c.in-Ok.prepared.lines.items outcome.pass.entries.items has.served,
+      done c.report.result outcome.answers.items outcome.closing (g.K.Sink.facts c.args.out.now) (g.K.Sink.facts c.report.new.out) end n run.0 c.in-Ok.prepared.lines.items outcome.pass.entries.items c.in-Ok.ensures.lines.0.proper has.caused has.served,
       expected (g.B.Disk.facts c.args.backing).holds d.holds s.data_offset n c.in-Ok.prepared.lines.items outcome.answers.items outcome.pass.entries.items c.in-Ok.ensures.opened.1.holds
-          (legal_of d.holds s.data_offset outcome.pass (g.B.Disk.facts outcome.backing.disk) c.in-Ok-run_trace.ensures.survives) has.served,
+          (legal_of d.holds s.data_offset outcome.pass (g.B.Disk.facts outcome.backing.disk) c.in-Ok-run_trace.ensures.survives) c.in-Ok.ensures.lines.0.proper has.served,
     )
 
 pub returns-in-Err-clause-complete : goal.returns-in-Err-clause-complete

@@ -2,13 +2,13 @@ use Rattle.std.proofs.Common.{◌≡◌, suc, get_or, ◌+◌, ◌++◌, ◌∷�
 use Rattle.std.proofs.lemmas.List.{length-take-le}
 use Rattle.std.proofs.Math.Seq.{take-suc}
 use Rattle.bc_script.specs.declared.line.Line.{Line}
-use Rattle.bc_script.specs.declared.line.Action.TheVariants.{Write}
+use Rattle.bc_script.specs.declared.line.Line.TheVariants.{Silent}
 use Rattle.bc_script.specs.declared.answer.Answer.{Answer}
 use Rattle.bc_script.specs.Served.{Served, ServesLine}
 use Rattle.std.specs.Prelude.{All, slice_index_or}
 use Rattle.std.proofs.lemmas.List.Elements.{All-nil, All-push}
 use Rattle.bc_script.specs.Answer.{IsPrintable}
-use Rattle.bc_script.proofs.Grows.{one_more}
+use Rattle.bc_script.proofs.Marks.{is_served, one_more}
 use Rattle.bc_request.proofs.Looping.{entered_none, entered_more}
 use Rattle.bc_top.specs.Causes.{IsCausedBy}
 use Rattle.bc_top.proofs.Causing.{caused_still}
@@ -21,7 +21,7 @@ loop-index-init g c = (
   ap (λ (as_ : List Answer). length as_) c.requires.none,
   subst (All IsPrintable) (sym c.requires.none) (All-nil IsPrintable),
   subst (All (IsCausedBy c.args.seat.now.seen)) (sym c.requires.none) (All-nil (IsCausedBy c.args.seat.now.seen)),
-  ([], entered_none g.C.Disk.facts g.B.Disk.facts c.args.seat.now c.requires.seat, subst (λ (as_ : List Answer). Served c.args.size [] as_ []) (sym c.requires.none) refl),
+  ([], entered_none g.C.Disk.facts g.B.Disk.facts c.args.seat.now c.requires.seat, subst (λ (as_ : List Answer). Served c.args.size [] as_ []) (sym c.requires.none) (is_served c.args.size [] [] [] refl)),
 )
 
 pub loop-index-preserved : goal.loop-index-preserved
@@ -32,12 +32,12 @@ loop-index-preserved g c =
     let inside = c.loop-index-test.true in
     let lines = c.args.lines.now in
     let i = c.loop-index.index in
-    let zero : Line = record { worker = 0; action = Write 0 0 0 } in
+    let zero : Line = Silent in
     let line = get_or lines i zero in
     let long : length (take i lines) ≡ i = length-take-le i lines (omega arith) in
     let one : i + 1 ≡ suc i = omega arith in
-    let number : i + 1 ≡ 1 + length (take i lines) = omega arith in
-    let served = one_more c.args.size 1 (take i lines) c.loop-index.answers.items before.0 own.0 line c.serve_line.result before.2 (subst (λ n. ServesLine c.args.size n line c.serve_line.result own.0) number own.2) in (
+    let number : i + 1 ≡ suc (length (take i lines)) = omega arith in
+    let served = one_more c.args.size (take i lines) c.loop-index.answers.items before.0 own.0 line c.serve_line.result before.2 (subst (λ n. ServesLine c.args.size n line c.serve_line.result own.0) number own.2) in (
       c.serve_line.ensures.idle,
       omega (arith, c.push_reserved.ensures.capacity, h.1),
       ap (λ (as_ : List Answer). length as_) c.push_reserved.ensures.items ∙ length-append c.loop-index.answers.items (c.serve_line.result ∷ []) ∙ ap (λ n. n + 1) h.2,

@@ -1,18 +1,45 @@
-use Rattle.std.proofs.Common.{◌≡◌, refl, sym, subst}
-use Rattle.std.specs.Prelude.{Ok}
+use Rattle.std.proofs.Common.{◌≡◌, ◌∙◌, inl, inr, refl, sym, ap, subst}
+use Rattle.std.specs.Prelude.{map, string_bytes}
+use Rattle.bc_words.specs.Reading.{IsCause}
 use Rattle.bc_words.specs.declared.command.Command.{Command}
 use Rattle.bc_words.specs.declared.command.Command.TheVariants.{Format, Serve}
+use Rattle.bc_output.specs.Message.{message_text}
+use Rattle.bc_top.specs.Ended.{IsPutOf}
+use Rattle.bc_top.specs.Stops.{message_of, status_of}
 use Rattle.bc_top.specs.Top.{Does}
+use Rattle.bc_top.specs.declared.stop.Stop.{Stop}
+use Rattle.bc_top.specs.declared.stop.Stop.TheVariants as stop
+use Rattle.bc_top.proofs.Settled.{same_self}
+use Rattle.bc_top.proofs.Unread.{at_error, found_is, lacks}
 use Rattle.bc_top.proofs.Pairing.{adopt_unwritten, keeps_kept, printing_ends, printing_stops, same_both, silent_ends}
 use Rattle.bc_top.proofs.top.bcache.Goals as goal
 
 pub returns-in-Ok-Format-clause-does : goal.returns-in-Ok-Format-clause-does
 returns-in-Ok-Format-clause-does g c = λ command says.
     let f = c.in-Ok-Format in
-    let read : c.read_words.result ≡ Ok command = c.read_words.ensures.read command says.0 says.1 in
-    let is : Format f.set f.cuuid f.buuid f.block f.bucket ≡ command = cc in
-    subst (λ (x : Command). Does g.C.Disk.facts g.B.Disk.facts x c.format_pair.result.status c.args.cache c.format_pair.result.cache c.args.backing c.format_pair.result.backing (g.K.Sink.facts c.args.out.now) (g.K.Sink.facts c.format_pair.new.out)) is
-    (_, refl, refl, refl, refl, refl, c.format_pair.ensures.formatted)
+    let is : Format f.set f.cuuid f.buuid f.block f.bucket ≡ command =
+        sym f.field-0-is ∙ found_is c.read_words.result f.field-0 command f.is (c.read_words.ensures.read command says.0 says.1) in
+    inl (subst (λ (x : Command). Does g.C.Disk.facts g.B.Disk.facts x c.format_pair.result.status c.args.cache c.format_pair.result.cache c.args.backing c.format_pair.result.backing (g.K.Sink.facts c.args.out.now) (g.K.Sink.facts c.format_pair.new.out)) is
+    (_, refl, refl, refl, refl, refl, c.format_pair.ensures.formatted))
+
+pub returns-in-Err-clause-does : goal.returns-in-Err-clause-does
+returns-in-Err-clause-does g c = λ command says. inr (lacks _ c.in-Err.error _ command
+    (at_error (λ e. IsCause (map string_bytes c.args.words.now) e) c.read_words.result c.in-Err.error c.in-Err.is c.read_words.ensures.refused) says (c.tell.ensures.status ∙ ap (λ (s : Stop). status_of s) c.stop_of.ensures)
+    (subst (λ (s : Stop). IsPutOf (message_text (message_of s)) (g.K.Sink.facts c.args.out.now) (g.K.Sink.facts c.tell.new.out)) c.stop_of.ensures c.tell.ensures.put))
+
+pub returns-in-Err-clause-stopped : goal.returns-in-Err-clause-stopped
+returns-in-Err-clause-stopped g c = λ serves none.
+    let lacking = lacks {cache = c.args.cache} {backing = c.args.backing} _ c.in-Err.error _ (Serve serves.0)
+        (at_error (λ e. IsCause (map string_bytes c.args.words.now) e) c.read_words.result c.in-Err.error c.in-Err.is c.read_words.ensures.refused) serves.1 (c.tell.ensures.status ∙ ap (λ (s : Stop). status_of s) c.stop_of.ensures)
+        (subst (λ (s : Stop). IsPutOf (message_text (message_of s)) (g.K.Sink.facts c.args.out.now) (g.K.Sink.facts c.tell.new.out)) c.stop_of.ensures c.tell.ensures.put) in
+    (stop.Memory, lacking.status_is, tt, lacking.told, (same_self (g.C.Disk.facts c.args.cache), same_self (g.B.Disk.facts c.args.backing)))
+
+pub returns-in-Err-clause-complete : goal.returns-in-Err-clause-complete
+returns-in-Err-clause-complete g c = λ serves spells asks quiet still takes.
+    let lacking = lacks {cache = c.args.cache} {backing = c.args.backing} _ c.in-Err.error _ (Serve serves.0)
+        (at_error (λ e. IsCause (map string_bytes c.args.words.now) e) c.read_words.result c.in-Err.error c.in-Err.is c.read_words.ensures.refused) serves.1 (c.tell.ensures.status ∙ ap (λ (s : Stop). status_of s) c.stop_of.ensures)
+        (subst (λ (s : Stop). IsPutOf (message_text (message_of s)) (g.K.Sink.facts c.args.out.now) (g.K.Sink.facts c.tell.new.out)) c.stop_of.ensures c.tell.ensures.put) in
+    inr lacking.status_is
 
 pub returns-in-Ok-Adopt-clause-unwritten : goal.returns-in-Ok-Adopt-clause-unwritten
 returns-in-Ok-Adopt-clause-unwritten g c = λ refused.
@@ -27,12 +54,6 @@ returns-in-Ok-Show-clause-unwritten g c = λ _. same_both (g.C.Disk.facts c.args
 
 pub returns-in-Ok-Show-clause-sink : goal.returns-in-Ok-Show-clause-sink
 returns-in-Ok-Show-clause-sink g c = printing_stops c.print_pair.ensures.shown.answer c.print_pair.result.status (g.K.Sink.facts c.args.out.now) (g.K.Sink.facts c.print_pair.new.out) c.print_pair.ensures.shown.ends
-
-pub returns-in-Err-Usage-clause-stopped : goal.returns-in-Err-Usage-clause-stopped
-returns-in-Err-Usage-clause-stopped g c = λ serves. absurd (let read = c.read_words.ensures.read Serve tt serves in cc)
-
-pub returns-in-Err-Usage-clause-complete : goal.returns-in-Err-Usage-clause-complete
-returns-in-Err-Usage-clause-complete g c = λ serves. absurd (let read = c.read_words.ensures.read Serve tt serves in cc)
 
 pub returns-in-Ok-Format-clause-ends : goal.returns-in-Ok-Format-clause-ends
 returns-in-Ok-Format-clause-ends g c = λ other still takes.
