@@ -1,6 +1,6 @@
 -- What a crash leaves of a ring while an entry is written.
 use Rattle.std.proofs.Common.{◌≡◌, ◌⊎◌, inl, inr, ℕ, suc, ◌+◌, ◌*◌, ◌<◌, ◌≤◌, Bool, true, false, ◌&&◌, not, ◌||◌, List, [], ◌∷◌, ◌++◌, length, Some, None, refl, sym, subst, ap, ◌∙◌, arith}
-use Rattle.std.specs.Prelude.{nat_le, slice_index, slice_set, if◌then◌else◌}
+use Rattle.std.specs.Prelude.{All, nat_le, slice_index, slice_set, if◌then◌else◌}
 use Rattle.std.proofs.lemmas.Bool.Decides.{nat_tests}
 use Rattle.std.proofs.lemmas.Grind.{get_or-set_at}
 use Rattle.std.proofs.lemmas.List.{get_or-set_other}
@@ -13,44 +13,53 @@ use Rattle.bc_record.proofs.Parts.{bytes_to-agree}
 use Rattle.bc_jset.specs.declared.entry.JEntry.{JEntry}
 use Rattle.bc_jset.specs.EntryBytes.{IsEntry}
 use Rattle.bc_jset.specs.Records.{entry_kind, entry_sectors, EntryFound}
-use Rattle.bc_jset.specs.Entries.{bucket_start, bucket_end, StandIn, AreEntries, AreNumbered, first_with}
+use Rattle.bc_record.specs.Places.{items_of}
+use Rattle.bc_jset.specs.Entries.{FoundEntry, bucket_start, bucket_end, StandIn, AreEntries, AreNumbered, first_with}
 use Rattle.bc_journal.specs.Ring.{Ring, is_free, may_begin, following, place_of, with_entry}
 use Rattle.bc_journal.specs.Sealed.{numbers_of, sector_at}
-use Rattle.bc_journal.specs.Images.{StandFrom, behind_in, StandsFirm, CountUp, EndsWith, FoundAtBlock, Holds, MayLeave, with_sealed}
+use Rattle.bc_journal.specs.Images.{StandFrom, behind_in, StandsFirm, CountUp, EndsWith, FoundAtBlock, Holds, MayLeave, IsRead, with_sealed}
 use Rattle.bc_journal.specs.declared.place.Place.{Place}
 use Rattle.bc_journal.specs.declared.place.Numbers.{Numbers}
-use Rattle.bc_journal.proofs.Members.{In, in_left, in_right, in_either, in_list, contained, all_in, has_in, count_from, count_to, count_one, count_needed, in_needed, needed_in, needed_of, count_more, first_is, numbered_by, found_or_none}
+use Rattle.bc_journal.proofs.Members.{In, in_left, in_right, in_either, in_list, contained, all_in, has_in, count_from, count_to, count_one, count_needed, in_needed, needed_in, needed_of, count_more, FirstIs, first_is, numbered_by, all_items, found_or_none}
 use Rattle.bc_journal.proofs.Rows.{in_all, found_at, behind_more, stand_more, stand_part, row_fits, row_stays, buckets_apart, first_bucket_first, bucket_whole}
 
 -- ---- what a reader makes of it
 
-pub read_as : (g : Geometry) (image : Image) (low high : ℕ) (es all : List JEntry) → CountUp low es (suc high) → EndsWith es low → StandIn g image g.journal all
-    → ((e : JEntry) → In e es → In e all) → ((x : JEntry) → In x all → (x.seq < low) ⊎ In x es) → AreEntries g image es
+pub read_as : (g : Geometry) (image : Image) (low high : ℕ) (es : List JEntry) (all : List FoundEntry) → CountUp low es (suc high) → EndsWith es low → StandIn g image g.journal all
+    → ((e : JEntry) → In e es → In e (items_of all)) → ((x : JEntry) → In x (items_of all) → (x.seq < low) ⊎ In x es) → IsRead g image es
 read_as g image low high es all numbers ends stand stays others =
     let newest = ends.newest in
     let last : In newest es = subst (In newest) (sym ends.parts) (in_right newest ends.older (newest ∷ []) (inl refl)) in
     let high_is : newest.seq ≡ high = newest_number low high ends.older newest (subst (λ (xs : List JEntry). CountUp low xs (suc high)) ends.parts numbers) in
-    let one : (e : JEntry) → In e es → (x : JEntry) → In x all → x.seq ≡ e.seq → x ≡ e =
+    let one : (e : JEntry) → In e es → (x : JEntry) → In x (items_of all) → x.seq ≡ e.seq → x ≡ e =
     λ e p x q same. (elim (others x q) [
       | inl below ↦ absurd (omega (arith, below, same, count_from low (suc high) es e numbers p))
       | inr here ↦ count_one low (suc high) es x e numbers here p same
     ]) in
-    let first : (e : JEntry) → In e es → first_with e.seq all ≡ Some e = λ e p. first_is all e (stays e p) (one e p) in
+    let first : (e : JEntry) → In e es → FirstIs all e = λ e p. first_is all e (stays e p) (one e p) in
     let reaches : newest.last_seq ≤ newest.seq = omega (arith, ends.last_seq, count_from low (suc high) es newest numbers last) in
-    record {
-      all = all;
-      stand = stand;
-      newest = newest;
-      is_newest = record {
-        counts = first newest last;
-        greatest = all_in (λ e. e.seq ≤ newest.seq) all (λ x q. (elim (others x q) [
-          | inl below ↦ omega (arith, below, reaches, ends.last_seq)
-          | inr here ↦ (let to = count_to low (suc high) es x numbers here in omega (arith, to, high_is))
-        ]));
-      };
-      reaches = reaches;
-      numbered = subst (λ n. AreNumbered all n es (suc newest.seq)) (sym ends.last_seq) (subst (λ n. AreNumbered all low es (suc n)) (sym high_is) (numbered_by all low (suc high) es numbers first));
-    }
+    let top = first newest last in
+    let list = numbered_by all low (suc high) es numbers first in
+    let greatest = all_items (λ e. e.seq ≤ newest.seq) all (λ x q. (elim (others x q) [
+      | inl below ↦ omega (arith, below, reaches, ends.last_seq)
+      | inr here ↦ (let to = count_to low (suc high) es x numbers here in omega (arith, to, high_is))
+    ])) in (
+      list.0,
+      list.1,
+      record {
+        all = all;
+        stand = stand;
+        newest = top.0;
+        is_newest = record {
+          counts = subst (λ (e : JEntry). first_with e.seq all ≡ Some top.0) (sym top.1) top.2;
+          greatest = subst (λ (e : JEntry). All (λ (f : FoundEntry). f.item.seq ≤ e.seq) all) (sym top.1) greatest;
+        };
+        reaches = subst (λ (e : JEntry). e.last_seq ≤ e.seq) (sym top.1) reaches;
+        numbered =
+            subst (λ (e : JEntry). AreNumbered all e.last_seq list.0 (suc e.seq)) (sym top.1)
+            (subst (λ n. AreNumbered all n list.0 (suc newest.seq)) (sym ends.last_seq) (subst (λ n. AreNumbered all low list.0 (suc n)) (sym high_is) list.2));
+      },
+    )
   where
     newest_number : (low high : ℕ) (older : List JEntry) (newest : JEntry) → CountUp low (older ++ newest ∷ []) (suc high) → newest.seq ≡ high
     newest_number low high [] newest p = omega (arith, p.0, p.1)
@@ -191,23 +200,23 @@ ends_with es e = record { older = needed_of e.last_seq es; newest = e; parts = r
 
 -- ---- the laws
 
-pub crash : (ring : Ring) (durable : Numbers) (p : Place) (e : JEntry) (a b : Image) (es all : List JEntry) → Writes ring durable p e a b es → StandIn ring.geometry b ring.geometry.journal all
-    → AreEntries ring.geometry b es ⊎ AreEntries ring.geometry b (with_sealed es e)
+pub crash : (ring : Ring) (durable : Numbers) (p : Place) (e : JEntry) (a b : Image) (es : List JEntry) (all : List FoundEntry) → Writes ring durable p e a b es → StandIn ring.geometry b ring.geometry.journal all
+    → IsRead ring.geometry b es ⊎ IsRead ring.geometry b (with_sealed es e)
 crash ring durable p e a b es all w stand =
     let g = ring.geometry in
-    let old_in : (d : JEntry) → In d es → In d all =
+    let old_in : (d : JEntry) → In d es → In d (items_of all) =
     λ d q. (let firm = firm_left ring durable p e a b es w d q in in_all g b g.journal all firm.bucket firm.before d stand firm.within firm.stand firm.here) in
-    let found : (x : JEntry) → In x all → (x.seq < durable.last_seq) ⊎ (In x es ⊎ (x ≡ e)) =
+    let found : (x : JEntry) → In x (items_of all) → (x.seq < durable.last_seq) ⊎ (In x es ⊎ (x ≡ e)) =
     λ x q. (let at = found_at g b all x stand q in others_left ring durable p e a b es w at.0 at.1 x at.2) in
     let seq = w.seq in
-    elim (found_or_none e.seq all) [
+    elim (found_or_none e.seq (items_of all)) [
       | inl some ↦ (
           let is : some.0 ≡ e = only_new ring durable p e a b es w some.0 some.2 (found some.0 some.1) in
-          let there : In e all = subst (λ (x : JEntry). In x all) is some.1 in
+          let there : In e (items_of all) = subst (λ (x : JEntry). In x (items_of all)) is some.1 in
           inr (read_as g b e.last_seq e.seq (with_sealed es e) all (numbers_with ring durable p e a b es w) (ends_with es e) stand
           (λ d q. (elim (in_either d (needed_of e.last_seq es) (e ∷ []) q) [
             | inl kept ↦ old_in d (needed_in e.last_seq es d kept)
-            | inr last ↦ (elim last [ inl same ↦ subst (λ (x : JEntry). In x all) (sym same) there | inr none ↦ elim none [ ] ])
+            | inr last ↦ (elim last [ inl same ↦ subst (λ (x : JEntry). In x (items_of all)) (sym same) there | inr none ↦ elim none [ ] ])
           ]))
           (λ x q. others_with ring durable p e a b es w x (found x q))))
       | inr none ↦ inl (read_as g b durable.last_seq durable.seq es all w.holds.numbers w.holds.newest stand old_in
@@ -278,7 +287,7 @@ written ring durable p e a b es w found =
     }
 
 -- where nothing is written
-pub read_now : (ring : Ring) (durable : Numbers) (image : Image) (es all : List JEntry) → Holds ring durable image es → StandIn ring.geometry image ring.geometry.journal all → AreEntries ring.geometry image es
+pub read_now : (ring : Ring) (durable : Numbers) (image : Image) (es : List JEntry) (all : List FoundEntry) → Holds ring durable image es → StandIn ring.geometry image ring.geometry.journal all → IsRead ring.geometry image es
 read_now ring durable image es all holds stand =
     let g = ring.geometry in
     read_as g image durable.last_seq durable.seq es all holds.numbers holds.newest stand

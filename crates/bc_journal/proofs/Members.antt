@@ -6,7 +6,8 @@ use Rattle.std.proofs.lemmas.Bool.Decides.{nat_tests}
 use Rattle.std.proofs.lemmas.List.Elements.{All-head, All-tail, All-cons, All-nil}
 use Rattle.bc_model.proofs.Cases.{by_le, by_test}
 use Rattle.bc_jset.specs.declared.entry.JEntry.{JEntry}
-use Rattle.bc_jset.specs.Entries.{first_with, AreNumbered}
+use Rattle.bc_record.specs.Places.{items_of}
+use Rattle.bc_jset.specs.Entries.{FoundEntry, first_with, AreNumbered}
 use Rattle.bc_journal.specs.Images.{CountUp}
 
 -- the element is one of the list's
@@ -115,23 +116,40 @@ count_more low next (d ∷ es) e p is = (p.0, count_more (suc low) next es e p.1
 same_test : (a b : ℕ) → a ≡ b → (a == b) ≡ false → ⊥
 same_test a b is not_same = grind (arith, nat_tests)
 
-pub first_is : (all : List JEntry) (e : JEntry) → In e all → ((x : JEntry) → In x all → x.seq ≡ e.seq → x ≡ e) → first_with e.seq all ≡ Some e
+-- what is found with the number is the entry
+abbrev pub FirstIs : List FoundEntry → JEntry → Type 0
+FirstIs all e = (f : FoundEntry) × (f.item ≡ e) × (first_with e.seq all ≡ Some f)
+
+pub first_is : (all : List FoundEntry) (e : JEntry) → In e (items_of all) → ((x : JEntry) → In x (items_of all) → x.seq ≡ e.seq → x ≡ e) → FirstIs all e
 first_is [] e p one = elim p [ ]
-first_is (y ∷ ys) e p one = elim (cases_Bool (y.seq == e.seq)) [
-  | inl same ↦ rw same (ap (λ (z : JEntry). Some z) (one y (inl refl) (eqb-true y.seq e.seq same)))
-  | inr other ↦ rw other (first_is ys e (later p other) (λ x q. one x (inr q)))
+first_is (y ∷ ys) e p one = elim (cases_Bool (y.item.seq == e.seq)) [
+  | inl same ↦ (y, one y.item (inl refl) (eqb-true y.item.seq e.seq same), rw same refl)
+  | inr other ↦ (let rest = first_is ys e (later p other) (λ x q. one x (inr q)) in (rest.0, rest.1, rw other rest.2))
 ]
   where
-    later : In e (y ∷ ys) → (y.seq == e.seq) ≡ false → In e ys
-    later (inl is) not_same = absurd (same_test y.seq e.seq (ap (λ (z : JEntry). z.seq) (sym is)) not_same)
+    later : In e (items_of (y ∷ ys)) → (y.item.seq == e.seq) ≡ false → In e (items_of ys)
+    later (inl is) not_same = absurd (same_test y.item.seq e.seq (ap (λ (z : JEntry). z.seq) (sym is)) not_same)
     later (inr q) not_same = q
 
-pub numbered_by : (all : List JEntry) (low next : ℕ) (es : List JEntry) → CountUp low es next → ((e : JEntry) → In e es → first_with e.seq all ≡ Some e) → AreNumbered all low es next
-numbered_by all low next [] p each = p
-numbered_by all low next (e ∷ es) p each = (
-  subst (λ n. first_with n all ≡ Some e) p.0 (each e (inl refl)),
-  numbered_by all (suc low) next es p.1 (λ x q. each x (inr q)),
-)
+-- entries as they are found, in their order
+pub numbered_by : (all : List FoundEntry) (low next : ℕ) (es : List JEntry) → CountUp low es next → ((e : JEntry) → In e es → FirstIs all e)
+    → (fs : List FoundEntry) × (items_of fs ≡ es) × AreNumbered all low fs next
+numbered_by all low next [] p each = ([], refl, p)
+numbered_by all low next (e ∷ es) p each =
+    let here = each e (inl refl) in
+    let rest = numbered_by all (suc low) next es p.1 (λ x q. each x (inr q)) in (
+      here.0 ∷ rest.0,
+      ap (λ (x : JEntry). x ∷ items_of rest.0) here.1 ∙ ap (λ (xs : List JEntry). e ∷ xs) rest.1,
+      (subst (λ n. first_with n all ≡ Some here.0) p.0 here.2, rest.2),
+    )
+
+pub all_items : (P : JEntry → Type 0) (all : List FoundEntry) → ((x : JEntry) → In x (items_of all) → P x) → All (λ (f : FoundEntry). P f.item) all
+all_items P [] each = All-nil (λ (f : FoundEntry). P f.item)
+all_items P (y ∷ ys) each = All-cons (λ (f : FoundEntry). P f.item) y ys (each y.item (inl refl)) (all_items P ys (λ x p. each x (inr p)))
+
+pub items_append : (xs ys : List FoundEntry) → items_of (xs ++ ys) ≡ items_of xs ++ items_of ys
+items_append [] ys = refl
+items_append (x ∷ xs) ys = ap (λ (es : List JEntry). x.item ∷ es) (items_append xs ys)
 
 -- one of all has the number, or none has
 pub found_or_none : (number : ℕ) (all : List JEntry) → ((x : JEntry) × In x all × (x.seq ≡ number)) ⊎ ((x : JEntry) → In x all → x.seq ≢ number)

@@ -7,14 +7,15 @@ use Rattle.bc_disk.specs.declared.geometry.Geometry.{Geometry}
 use Rattle.bc_record.specs.Sectors.{AgreeOn}
 use Rattle.bc_record.specs.Kind.{AreFound, behind}
 use Rattle.bc_record.proofs.Blocks.{bucket_blocks, block_some}
-use Rattle.bc_record.proofs.Found.{one_found, found_fits, found_stays, run_places}
+use Rattle.bc_record.proofs.Found.{one_found, found_fits, found_stays, items_placed}
 use Rattle.bc_jset.specs.declared.entry.JEntry.{JEntry}
 use Rattle.bc_jset.specs.EntryBytes.{bytes_of}
 use Rattle.bc_jset.specs.Records.{entry_kind, entry_sectors, EntryFound}
-use Rattle.bc_jset.specs.Entries.{bucket_start, bucket_end, StandIn}
+use Rattle.bc_record.specs.Places.{items_of, placed}
+use Rattle.bc_jset.specs.Entries.{FoundEntry, bucket_start, bucket_end, StandIn}
 use Rattle.bc_jset.proofs.Records.{entry_codec}
 use Rattle.bc_journal.specs.Images.{StandFrom, behind_in, FoundAtBlock}
-use Rattle.bc_journal.proofs.Members.{In, in_left, in_right, in_either, has_in}
+use Rattle.bc_journal.proofs.Members.{In, in_left, in_right, in_either, has_in, items_append}
 
 -- ---- what a reader finds
 
@@ -28,35 +29,41 @@ row_in g image end place (h ∷ hs) (d ∷ ds) e p s f =
     let same : h ≡ d = one_found (entry_kind g) (entry_codec g) image end place h d p.0 s.0 in
     inr (row_in g image end (place + entry_sectors g d) hs ds e (subst (λ (x : JEntry). AreFound (entry_kind g) image end (place + entry_sectors g x) hs) same p.1) s.1 f)
 
-pub in_all : (g : Geometry) (image : Image) (n : ℕ) (all : List JEntry) (bucket : ℕ) (before : List JEntry) (e : JEntry) → StandIn g image n all → bucket < n
-    → StandFrom g image (bucket_end g bucket) (bucket_start g bucket) before → EntryFound g image (bucket_end g bucket) (behind_in g bucket before) e → In e all
+-- what is found in a bucket's lower ones, and in itself
+items_split : (g : Geometry) (n : ℕ) (before : List FoundEntry) (here : List JEntry) → items_of (before ++ placed (entry_kind g) (bucket_start g n) here) ≡ items_of before ++ here
+items_split g n before here = items_append before (placed (entry_kind g) (bucket_start g n) here) ∙ ap (λ (xs : List JEntry). items_of before ++ xs) (items_placed (entry_kind g) (bucket_start g n) here)
+
+pub in_all : (g : Geometry) (image : Image) (n : ℕ) (all : List FoundEntry) (bucket : ℕ) (before : List JEntry) (e : JEntry) → StandIn g image n all → bucket < n
+    → StandFrom g image (bucket_end g bucket) (bucket_start g bucket) before → EntryFound g image (bucket_end g bucket) (behind_in g bucket before) e → In e (items_of all)
 in_all g image zero all bucket before e p inside stand here = absurd (omega (arith, inside))
 in_all g image (suc n) all bucket before e p inside stand here =
-    subst (In e) (sym p.4) (by_le n bucket (λ _. In e (p.0 ++ p.1))
+    subst (In e) (sym (ap (λ (xs : List FoundEntry). items_of xs) p.4 ∙ items_split g n p.0 p.1)) (by_le n bucket (λ _. In e (items_of p.0 ++ p.1))
     (λ low. (let is : bucket ≡ n = omega (arith, low, inside) in
-    in_right e p.0 p.1 (row_in g image (bucket_end g n) (bucket_start g n) p.1 before e p.3
+    in_right e (items_of p.0) p.1 (row_in g image (bucket_end g n) (bucket_start g n) p.1 before e p.3
     (subst (λ m. StandFrom g image (bucket_end g m) (bucket_start g m) before) is stand)
     (subst (λ m. EntryFound g image (bucket_end g m) (behind_in g m before) e) is here))))
-    (λ below. in_left e p.0 p.1 (in_all g image n p.0 bucket before e p.2 below stand here)))
+    (λ below. in_left e (items_of p.0) p.1 (in_all g image n p.0 bucket before e p.2 below stand here)))
 
 abbrev FoundBelow : Geometry → Image → ℕ → JEntry → Type 0
 FoundBelow g image n e = (bucket block : ℕ) × (bucket < n) × EntryFound g image (bucket_end g bucket) (bucket_start g bucket + g.block * block) e
 
-abbrev PlacedIn : Geometry → Image → ℕ → JEntry → Type 0
-PlacedIn g image n e = (k : ℕ) × EntryFound g image (bucket_end g n) (bucket_start g n + g.block * k) e × (bucket_start g n + g.block * k + entry_sectors g e ≤ bucket_end g n)
+-- each record of a row stands at a block
+row_at : (g : Geometry) (image : Image) (bucket end m place : ℕ) (row : List JEntry) (e : JEntry) → end ≡ bucket_end g bucket → place ≡ bucket_start g bucket + g.block * m
+    → AreFound (entry_kind g) image end place row → In e row → (block : ℕ) × EntryFound g image end (bucket_start g bucket + g.block * block) e
+row_at g image bucket end m place [] e ends at found p = elim p [ ]
+row_at g image bucket end m place (d ∷ ds) e ends at found (inl is) = (m, subst (λ q. EntryFound g image end q e) at (subst (λ (x : JEntry). EntryFound g image end place x) (sym is) found.0))
+row_at g image bucket end m place (d ∷ ds) e ends at found (inr p) =
+    let q = (bytes_of d + (512 * g.block - 1)) / (512 * g.block) in
+    row_at g image bucket end (m + q) (place + entry_sectors g d) ds e ends (omega (arith, at, mul-add g.block m q)) found.1 p
 
-found_below : (g : Geometry) (image : Image) (n : ℕ) (all : List JEntry) (e : JEntry) → StandIn g image n all → In e all → FoundBelow g image n e
-found_below g image zero all e p q = elim (subst (In e) p q) [ ]
-found_below g image (suc n) all e p q = elim (in_either e p.0 p.1 (subst (In e) p.4 q)) [
+found_below : (g : Geometry) (image : Image) (n : ℕ) (all : List FoundEntry) (e : JEntry) → StandIn g image n all → In e (items_of all) → FoundBelow g image n e
+found_below g image zero all e p q = elim (subst (λ (xs : List FoundEntry). In e (items_of xs)) p q) [ ]
+found_below g image (suc n) all e p q = elim (in_either e (items_of p.0) p.1 (subst (In e) (ap (λ (xs : List FoundEntry). items_of xs) p.4 ∙ items_split g n p.0 p.1) q)) [
   | inl below ↦ (let x = found_below g image n p.0 e p.2 below in (x.0, x.1, omega (arith, x.2), x.3))
-  | inr here ↦ (
-      let blocks = bucket_blocks g in
-      let placed = run_places (entry_kind g) (entry_codec g) image (bucket_end g n) (bucket_start g n) blocks.0 p.1 (ap (λ m. bucket_start g n + m) blocks.1) p.3 in
-      let x = has_in (PlacedIn g image n) p.1 e placed here in
-      (n, x.0, omega arith, x.1))
+  | inr here ↦ (let x = row_at g image n (bucket_end g n) 0 (bucket_start g n) p.1 e refl (omega arith) p.3 here in (n, x.0, omega arith, x.1))
 ]
 
-pub found_at : (g : Geometry) (image : Image) (all : List JEntry) (e : JEntry) → StandIn g image g.journal all → In e all → (bucket block : ℕ) × FoundAtBlock g image bucket block e
+pub found_at : (g : Geometry) (image : Image) (all : List FoundEntry) (e : JEntry) → StandIn g image g.journal all → In e (items_of all) → (bucket block : ℕ) × FoundAtBlock g image bucket block e
 found_at g image all e p q = let x = found_below g image g.journal all e p q in (x.0, x.1, (x.2, x.3))
 
 -- ---- rows

@@ -5,7 +5,8 @@ use Rattle.bc_disk.specs.declared.geometry.Geometry.{Geometry}
 use Rattle.bc_record.specs.Kind.{behind}
 use Rattle.bc_jset.specs.declared.entry.JEntry.{JEntry}
 use Rattle.bc_jset.specs.Records.{entry_kind, entry_sectors, EntryFound}
-use Rattle.bc_jset.specs.Entries.{bucket_start, bucket_end}
+use Rattle.bc_record.specs.Places.{items_of}
+use Rattle.bc_jset.specs.Entries.{FoundEntry, AreEntries, bucket_start, bucket_end}
 use Rattle.bc_journal.specs.Ring.{Ring}
 use Rattle.bc_journal.specs.Sealed.{Sealed, sector_at}
 use Rattle.bc_journal.specs.declared.place.Numbers.{Numbers}
@@ -74,6 +75,10 @@ pub record MayLeave (s : Sealed) (old new : Image) : Type 0 where
   pub no_chance : (bucket block : ℕ) (e : JEntry) → FoundAtBlock s.geometry new bucket block e
       → FoundAtBlock s.geometry old bucket block e
       ⊎ ((bucket_start s.geometry bucket + s.geometry.block * block ≡ sector_at s.geometry s.place) × (e ≡ s.entry))
+
+-- a reader of the image finds just these entries, oldest first
+abbrev pub IsRead : Geometry → Image → List JEntry → Type 0
+IsRead g image es = (found : List FoundEntry) × (items_of found ≡ es) × AreEntries g image found
 
 -- those of the entries that are needed once this entry is durable, and the entry
 abbrev pub with_sealed : List JEntry → JEntry → List JEntry

@@ -3,22 +3,20 @@ ghost use Rattle.std.specs.Prelude.{◌≡◌, ◌⊎◌, ℕ, List, [], ◌∷�
 ghost use Rattle.bc_model.specs.Sector.{Image, values_of};
 ghost use Rattle.bc_record.specs.Sectors.{Has, AgreeOn};
 ghost use Rattle.bc_jset.specs.declared.entry.JEntry.{JEntry};
-ghost use Rattle.bc_jset.specs.Entries.{StandIn, AreEntries, bucket_start};
+ghost use Rattle.bc_jset.specs.Entries.{bucket_start};
 ghost use Rattle.bc_jset.specs.ExampleEntries.{example_image};
 ghost use Rattle.bc_journal.specs.declared.heads.Heads.{Heads};
 ghost use Rattle.bc_journal.specs.Example.{example_ring, example_numbers};
 ghost use Rattle.bc_journal.specs.Ring.{Ring};
 ghost use Rattle.bc_journal.specs.Sealed.{Sealed, AreBytesOf, numbers_of, sector_at};
 ghost use Rattle.bc_journal.specs.Journal.{Journal, IsJournal, IsSealed};
-ghost use Rattle.bc_journal.specs.Images.{Holds, MayLeave, with_sealed};
+ghost use Rattle.bc_journal.specs.Images.{Holds, IsRead, MayLeave, with_sealed};
 ghost use Rattle.bc_journal.specs.declared.place.Numbers.{Numbers};
 
-/// A reader of an image in which a ring's entries stand finds just these: `all` is what it finds in
-/// the journal buckets.
+/// A reader of an image in which a ring's entries stand finds just these.
 pub fn entries_are_read()
-    ensures { (ring : Ring) (durable : Numbers) (image : Image) (es all : List JEntry)
-        → Holds ring durable image es → StandIn ring.geometry image ring.geometry.journal all
-        → AreEntries ring.geometry image es }
+    ensures { (ring : Ring) (durable : Numbers) (image : Image) (es : List JEntry)
+        → Holds ring durable image es → IsRead ring.geometry image es }
 {}
 
 /// The entries of a ring stand as long as nothing is written into the journal's buckets.
@@ -39,10 +37,10 @@ pub fn example()
 /// Whatever a crash leaves while an entry is written, a reader finds the durable entries, or those
 /// of them that the new one needs and the new one behind them.
 pub fn crash_leaves_entries()
-    ensures { (old new : Journal) (heads : Heads) (s : Sealed) (a b : Image) (es all : List JEntry)
+    ensures { (old new : Journal) (heads : Heads) (s : Sealed) (a b : Image) (es : List JEntry)
         → IsJournal old → old.sealed ≡ None → Holds old.ring old.durable a es
-        → IsSealed old heads s new → MayLeave s a b → StandIn s.geometry b s.geometry.journal all
-        → AreEntries s.geometry b es ⊎ AreEntries s.geometry b (with_sealed es s.entry) }
+        → IsSealed old heads s new → MayLeave s a b
+        → IsRead s.geometry b es ⊎ IsRead s.geometry b (with_sealed es s.entry) }
 {}
 
 /// Once the entry's bytes are written whole, it stands in the image with those of the older ones

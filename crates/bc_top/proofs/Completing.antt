@@ -13,7 +13,8 @@ use Rattle.bc_super.specs.declared.error.SuperError.{SuperError}
 use Rattle.bc_super.specs.declared.error.SuperError.TheVariants as errors
 use Rattle.bc_super.proofs.Readings.{apart, one_super}
 use Rattle.bc_super.proofs.Told.{same_bytes, super_before}
-use Rattle.bc_top.specs.Opened.{IsSameDevice, AsksForNone, IsOpenCause, IsPassThrough}
+use Rattle.bc_super.specs.Division.{IsPassThrough}
+use Rattle.bc_top.specs.Opened.{IsSameDevice, AsksForNone, IsOpenCause}
 use Rattle.bc_top.specs.Stops.{status_of}
 use Rattle.bc_top.specs.Top.{SpellsTrace, IsServeCause}
 use Rattle.bc_top.specs.declared.opening.OpenError.{OpenError}
@@ -43,23 +44,7 @@ module _ (cache cache' old new : DiskFacts) (asks : AsksForNone old) (same : IsS
   not_cause : (e : SuperError) → e ≢ errors.Fault → IsCause new e → ⊥
   not_cause errors.DeviceSmall other why = is_large why
   not_cause errors.Fault other why = other refl
-  not_cause errors.Magic other why = by_reading errors.Magic why
-  not_cause errors.Checksum other why = by_reading errors.Checksum why
-  not_cause (errors.Version n) other why = by_reading (errors.Version n) why
-  not_cause errors.Place other why = by_reading errors.Place why
-  not_cause errors.Block other why = by_reading errors.Block why
-  not_cause errors.Bucket other why = by_reading errors.Bucket why
-  not_cause errors.FewBuckets other why = by_reading errors.FewBuckets why
-  not_cause errors.ManyBuckets other why = by_reading errors.ManyBuckets why
-  not_cause errors.ZeroUuid other why = by_reading errors.ZeroUuid why
-  not_cause errors.SetNumber other why = by_reading errors.SetNumber why
-  not_cause errors.FirstBucket other why = by_reading errors.FirstBucket why
-  not_cause errors.JournalList other why = by_reading errors.JournalList why
-  not_cause errors.DataOffset other why = by_reading errors.DataOffset why
-  not_cause errors.NotInitialised other why = by_reading errors.NotInitialised why
-  not_cause errors.Stale other why = by_reading errors.Stale why
-  not_cause errors.OtherSet other why = by_reading errors.OtherSet why
-  not_cause errors.Initialised other why = by_reading errors.Initialised why
+  not_cause e other why = by_reading e why
 
   -- whatever superblock was read, it asks for no cache
   asks_the_same : (s : BackingSuper) → ReadsSuper new s → (IsPassThrough s → ⊥) → ⊥

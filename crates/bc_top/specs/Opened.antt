@@ -6,6 +6,7 @@ use Rattle.bc_disk.specs.Disk.{DiskFacts, BothTold}
 use Rattle.bc_disk.specs.declared.disk.Device.{Device}
 use Rattle.bc_disk.specs.declared.disk.Device.TheVariants as device
 use Rattle.bc_super.specs.Cache.{IsInitialised}
+use Rattle.bc_super.specs.Division.{IsPassThrough}
 use Rattle.bc_super.specs.Super.{Unless, IsMode, IsState, mode_number, state_number, number_of}
 use Rattle.bc_super.specs.Reading.{ReadsSuper, ReadsCache, IsCause, IsCacheCause}
 use Rattle.bc_super.specs.declared.backing.BackingSuper.{BackingSuper}
@@ -24,10 +25,6 @@ SameImage old new = (s : ℕ) → new s ≡ old s
 
 abbrev pub HasNoState : BackingSuper → Type 0
 HasNoState s = IsState (state_number s.flags) state.None
-
--- the backing device asks for no cache: requests go to it alone
-abbrev pub IsPassThrough : BackingSuper → Type 0
-IsPassThrough s = IsMode (mode_number s.flags) mode.None × HasNoState s
 
 -- the device tells what it holds, and that its superblock asks for no cache
 abbrev pub AsksForNone : DiskFacts → Type 0

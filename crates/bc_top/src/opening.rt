@@ -2,7 +2,8 @@
 ghost use Rattle.std.specs.Prelude.{◌↔◌, IsTrue, IfOk, IfErr};
 ghost use Rattle.bc_disk.specs.Disk.{StandsFor};
 ghost use Rattle.bc_disk.specs.Stands.{settled_model};
-ghost use Rattle.bc_top.specs.Opened.{IsBackingCause, IsJudged, IsOpened, IsPairCause, IsPassThrough, IsSameDevice, IsToldAs};
+ghost use Rattle.bc_super.specs.Division.{IsPassThrough};
+ghost use Rattle.bc_top.specs.Opened.{IsBackingCause, IsJudged, IsOpened, IsPairCause, IsSameDevice, IsToldAs};
 
 use bc_disk::disk::{Device, Disk};
 use bc_super::backing::{BackingSuper, read_backing};

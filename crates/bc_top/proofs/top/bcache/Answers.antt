@@ -18,7 +18,7 @@ pub returns-in-Ok-Format-clause-does : goal.returns-in-Ok-Format-clause-does
 returns-in-Ok-Format-clause-does g c = λ command says.
     let f = c.in-Ok-Format in
     let is : Format f.set f.cuuid f.buuid f.block f.bucket ≡ command =
-        sym f.field-0-is ∙ found_is c.read_words.result f.field-0 command f.is (c.read_words.ensures.read command says.0 says.1) in
+    sym f.field-0-is ∙ found_is c.read_words.result f.field-0 command f.is (c.read_words.ensures.read command says.0 says.1) in
     inl (subst (λ (x : Command). Does g.C.Disk.facts g.B.Disk.facts x c.format_pair.result.status c.args.cache c.format_pair.result.cache c.args.backing c.format_pair.result.backing (g.K.Sink.facts c.args.out.now) (g.K.Sink.facts c.format_pair.new.out)) is
     (_, refl, refl, refl, refl, refl, c.format_pair.ensures.formatted))
 
@@ -30,15 +30,15 @@ returns-in-Err-clause-does g c = λ command says. inr (lacks _ c.in-Err.error _ 
 pub returns-in-Err-clause-stopped : goal.returns-in-Err-clause-stopped
 returns-in-Err-clause-stopped g c = λ serves none.
     let lacking = lacks {cache = c.args.cache} {backing = c.args.backing} _ c.in-Err.error _ (Serve serves.0)
-        (at_error (λ e. IsCause (map string_bytes c.args.words.now) e) c.read_words.result c.in-Err.error c.in-Err.is c.read_words.ensures.refused) serves.1 (c.tell.ensures.status ∙ ap (λ (s : Stop). status_of s) c.stop_of.ensures)
-        (subst (λ (s : Stop). IsPutOf (message_text (message_of s)) (g.K.Sink.facts c.args.out.now) (g.K.Sink.facts c.tell.new.out)) c.stop_of.ensures c.tell.ensures.put) in
+    (at_error (λ e. IsCause (map string_bytes c.args.words.now) e) c.read_words.result c.in-Err.error c.in-Err.is c.read_words.ensures.refused) serves.1 (c.tell.ensures.status ∙ ap (λ (s : Stop). status_of s) c.stop_of.ensures)
+    (subst (λ (s : Stop). IsPutOf (message_text (message_of s)) (g.K.Sink.facts c.args.out.now) (g.K.Sink.facts c.tell.new.out)) c.stop_of.ensures c.tell.ensures.put) in
     (stop.Memory, lacking.status_is, tt, lacking.told, (same_self (g.C.Disk.facts c.args.cache), same_self (g.B.Disk.facts c.args.backing)))
 
 pub returns-in-Err-clause-complete : goal.returns-in-Err-clause-complete
 returns-in-Err-clause-complete g c = λ serves spells asks quiet still takes.
     let lacking = lacks {cache = c.args.cache} {backing = c.args.backing} _ c.in-Err.error _ (Serve serves.0)
-        (at_error (λ e. IsCause (map string_bytes c.args.words.now) e) c.read_words.result c.in-Err.error c.in-Err.is c.read_words.ensures.refused) serves.1 (c.tell.ensures.status ∙ ap (λ (s : Stop). status_of s) c.stop_of.ensures)
-        (subst (λ (s : Stop). IsPutOf (message_text (message_of s)) (g.K.Sink.facts c.args.out.now) (g.K.Sink.facts c.tell.new.out)) c.stop_of.ensures c.tell.ensures.put) in
+    (at_error (λ e. IsCause (map string_bytes c.args.words.now) e) c.read_words.result c.in-Err.error c.in-Err.is c.read_words.ensures.refused) serves.1 (c.tell.ensures.status ∙ ap (λ (s : Stop). status_of s) c.stop_of.ensures)
+    (subst (λ (s : Stop). IsPutOf (message_text (message_of s)) (g.K.Sink.facts c.args.out.now) (g.K.Sink.facts c.tell.new.out)) c.stop_of.ensures c.tell.ensures.put) in
     inr lacking.status_is
 
 pub returns-in-Ok-Adopt-clause-unwritten : goal.returns-in-Ok-Adopt-clause-unwritten
