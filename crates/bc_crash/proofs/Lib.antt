@@ -1,0 +1,12 @@
+pub mod Reached
+pub mod Good
+pub mod Kept
+pub mod Devices
+pub mod Said
+pub mod Around
+pub mod Written
+pub mod Moved
+pub mod Crash
+pub mod Survive
+pub mod Next
+pub mod Broken

@@ -1,0 +1,5 @@
+use Rattle.bc_crash.proofs.Broken.{law_teeth_clean}
+use Rattle.bc_crash.proofs.teeth.law_teeth_clean.Goals as goal
+
+pub returns : goal.returns
+returns c = law_teeth_clean

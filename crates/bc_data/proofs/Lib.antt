@@ -1,0 +1,15 @@
+pub mod Runs
+pub mod Truth
+pub mod Kept
+pub mod Learnt
+pub mod Placed
+pub mod Shelved
+pub mod Backed
+pub mod Inserted
+pub mod Now
+pub mod Opening
+pub mod Steps
+pub mod Asked
+pub mod Does
+pub mod Plain
+pub mod Broken
