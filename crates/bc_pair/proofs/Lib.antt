@@ -1,5 +1,9 @@
 pub mod Runs
 pub mod Steps
+pub mod Writes
+pub mod Bytes
 pub mod Cache
+pub mod Stands
 pub mod Refusals
 pub mod Makings
+pub mod Formatted

@@ -6,7 +6,7 @@ use Rattle.bc_model.specs.Sector.{Value, Image, at_run, unless, sectors, values_
 use Rattle.bc_model.proofs.Cases.{by_test}
 use Rattle.bc_model.proofs.Runs.{at_miss}
 use Rattle.bc_model.proofs.Sectors.{values_whole}
-use Rattle.bc_pair.specs.Made.{over, zeros}
+use Rattle.bc_pair.specs.Runs.{over, zeros}
 
 -- one run and then the run behind it
 pub run_joined : (first : ℕ) (xs ys : List Value) (s : ℕ) (v : Value) → unless (at_run (first + length xs) ys s) (unless (at_run first xs s) v) ≡ unless (at_run first (xs ++ ys) s) v

@@ -6,6 +6,8 @@ use Rattle.bc_disk.specs.Device.{HasRisen}
 use Rattle.bc_disk.specs.declared.disk.Device.{Device}
 use Rattle.bc_disk.specs.declared.disk.Device.TheVariants as device
 use Rattle.bc_super.specs.Cache.{IsBlock, IsBucket}
+use Rattle.bc_disk.specs.declared.geometry.Geometry.{Geometry}
+use Rattle.bc_super.specs.Division.{IsGeometryOf}
 use Rattle.bc_super.specs.Layout.{IsLaidOut, buckets_of}
 use Rattle.bc_super.specs.Reading.{IsCacheCause, IsCause, ReadsCache, ReadsSuper}
 use Rattle.bc_super.specs.Super.{IsDataOffset, Unless}
@@ -64,7 +66,7 @@ UnlessFault errors.Memory P = P
 abbrev pub Formats : {C B : Type 0} → (C → DiskFacts) → (B → DiskFacts) → NewPair → Result (Unit {0}) PairError → C → C → B → B → Type 0
 Formats cache_facts backing_facts p answer cache cache' backing backing' = IsWritingOf answer (λ how. (l : Layout) × IsLaidOut (cache_facts cache).sectors l
     × (l.geometry.block ≡ p.block) × (l.geometry.bucket ≡ p.bucket)
-    × PairWritten cache_facts backing_facts l (new_cache p l) (new_backing p) how cache cache' backing backing')
+    × ((g : Geometry) × IsGeometryOf (new_cache p l) g × PairWritten cache_facts backing_facts g (new_cache p l) (new_backing p) how cache cache' backing backing'))
 
 -- ---- adopt
 
@@ -95,7 +97,9 @@ pub record Adopts {C B : Type 0} (cache_facts : C → DiskFacts) (backing_facts 
   pub l : Layout
   pub laid_out : IsLaidOut (c.bucket * c.nbuckets) l
   pub sizes : (l.geometry.block ≡ c.block) × (l.geometry.bucket ≡ c.bucket)
-  pub written : PairWritten cache_facts backing_facts l (adopted_cache c l) (adopted_backing c b) how cache_read cache' backing_read backing'
+  pub g : Geometry
+  pub geometry : IsGeometryOf (adopted_cache c l) g
+  pub written : PairWritten cache_facts backing_facts g (adopted_cache c l) (adopted_backing c b) how cache_read cache' backing_read backing'
 
 -- nothing was written of either device
 abbrev pub AreKept : DiskFacts → DiskFacts → DiskFacts → DiskFacts → Type 0

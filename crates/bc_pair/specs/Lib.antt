@@ -1,3 +1,5 @@
+pub mod Runs
+pub mod Records
 pub mod Made
 pub mod Causes
 pub mod Found

@@ -10,15 +10,16 @@ ghost use Rattle.bc_pair.specs.Made.{IsUnused, adopted_backing, adopted_cache, v
 use crate::error::PairError;
 use crate::flags::{CLEAN, SET_UP};
 use crate::read::read_pair;
+use crate::records::Records;
 use crate::write::write_pair;
 use bc_disk::disk::{Device, Disk};
 use bc_super::backing::BackingSuper;
 use bc_super::cache::CacheSuper;
+use bc_super::division::geometry_of;
 use bc_super::error::SuperError;
 use bc_super::geometry::Layout;
 use bc_super::layout::layout;
 use bc_super::state::BackingState;
-use bc_uuid::Uuids;
 use std::alloc::Global;
 
 /// The version of a cache device in use.
@@ -114,7 +115,8 @@ pub fn adopt<C: Disk, B: Disk>(
     }
     let l = layout_of(&c);
     let mut buffer = vec![in alloc; 0u8; 512 * l.geometry.bucket as usize]?;
-    let table = Uuids::new(alloc, &l.geometry, &b.uuid, &b.label)?;
     let (c, b) = (adopted_cache(&c, &l), adopted_backing(&c, &b));
-    Ok(write_pair(cache, backing, &l, &c, &b, &table, &mut buffer)?)
+    let g = geometry_of(&c);
+    let records = Records::new(alloc, &g, &l, &b)?;
+    Ok(write_pair(cache, backing, &l, &g, &c, &b, &records, &mut buffer)?)
 }

@@ -10,14 +10,15 @@ ghost use Rattle.bc_pair.specs.declared.error.PairError.TheVariants as errors;
 use crate::error::PairError;
 use crate::flags::{CLEAN, SET_UP};
 pub use crate::pair::NewPair;
+use crate::records::Records;
 use crate::write::write_pair;
 use bc_disk::disk::{Device, Disk};
 use bc_super::backing::BackingSuper;
 use bc_super::cache::CacheSuper;
+use bc_super::division::geometry_of;
 use bc_super::error::SuperError;
 use bc_super::geometry::Layout;
 use bc_super::layout::layout;
-use bc_uuid::Uuids;
 use std::alloc::Global;
 
 /// The sector at which the data of a new backing device begins.
@@ -91,10 +92,11 @@ fn new_backing(pair: &NewPair) -> BackingSuper
     }
 }
 
-/// Makes a pair of these two devices: the cache device is divided as `layout` says and its journal is
-/// empty; the backing device keeps its data, which begins at sector 16, in mode writethrough and
-/// state clean. The journal buckets and the uuid table are written first, then the superblock of the
-/// cache device, and last that of the backing device.
+/// Makes a pair of these two devices: the cache device is divided as `layout` says and has an empty
+/// index; the backing device keeps its data, which begins at sector 16, in mode writethrough and
+/// state clean. The records are written first: the journal with entry 1, the priority sets, the uuid
+/// table, the root and its leaf; then the superblock of the cache device, and last that of the
+/// backing device.
 ///
 /// `Superblock` comes before anything is written, for the first of these that holds: of the cache
 /// device `Block`, `Bucket`, `FewBuckets` (fewer than 128) and `ZeroUuid`; of the backing device
@@ -115,7 +117,8 @@ pub fn format<C: Disk, B: Disk>(
 {
     let l = check(cache.sectors(), backing.sectors(), pair)?;
     let mut buffer = vec![in alloc; 0u8; 512 * l.geometry.bucket as usize]?;
-    let table = Uuids::new(alloc, &l.geometry, &pair.backing_uuid, &[0; 32])?;
     let (c, b) = (new_cache(pair, &l), new_backing(pair));
-    Ok(write_pair(cache, backing, &l, &c, &b, &table, &mut buffer)?)
+    let g = geometry_of(&c);
+    let records = Records::new(alloc, &g, &l, &b)?;
+    Ok(write_pair(cache, backing, &l, &g, &c, &b, &records, &mut buffer)?)
 }

@@ -1,5 +1,8 @@
 //! What is made of a pair, in plain terms: each law is the contract of a function.
-ghost use Rattle.std.specs.Prelude.{◌≡◌, ℕ, ◌≤◌, replicate};
+ghost use Rattle.std.specs.Prelude.{◌≡◌, ℕ, ◌+◌, ◌≤◌};
+ghost use Rattle.bc_image.specs.Shown.{IsShown};
+ghost use Rattle.bc_image.specs.Sound.{IsSound};
+ghost use Rattle.bc_pair.specs.Found.{IsPair, OfEachPair};
 ghost use Rattle.bc_model.specs.Sector.{Image};
 ghost use Rattle.bc_super.specs.Cache.{IsInitialised};
 ghost use Rattle.bc_super.specs.Layout.{IsLaidOut};
@@ -10,9 +13,12 @@ ghost use Rattle.bc_super.specs.declared.geometry.Layout.{Layout};
 ghost use Rattle.bc_super.specs.declared.mode.Mode.{Mode};
 ghost use Rattle.bc_super.specs.declared.mode.Mode.TheVariants as modes;
 ghost use Rattle.bc_super.specs.declared.state.BackingState.TheVariants as states;
-ghost use Rattle.bc_pair.specs.Found.{IsJournalSector};
+ghost use Rattle.bc_disk.specs.declared.geometry.Geometry.{Geometry};
+ghost use Rattle.bc_pair.specs.Records.{IsRecordSector};
 ghost use Rattle.bc_pair.specs.Made.{IsMadeImage, IsUnused, IsWrittenSector, adopted_backing, adopted_cache, new_backing, new_cache};
 ghost use Rattle.bc_pair.specs.declared.pair.NewPair.{NewPair};
+
+use bc_disk::disk::Disk;
 
 /// In a new pair the cache is set up and has a journal, and the backing device of the same set is in
 /// mode writethrough and clean.
@@ -35,13 +41,21 @@ pub fn adopted_pair_is_set_up()
         → IsUnused c b → IsState (state_number (adopted_backing c b).flags) states.Clean }
 {}
 
-/// What a cache device that was made holds: zeros in the journal's sectors, and what it held before
-/// in each sector that isn't one of the superblock, the journal or the uuid table.
+/// A cache device that was made holds what it held before in each sector that isn't one of the
+/// superblock or of the records, which stand behind it.
 pub fn what_is_made()
-    ensures journal { (sectors : ℕ) (l : Layout) (c : CacheSuper) (b : BackingSuper) (old new : Image) (s : ℕ)
-        → IsLaidOut sectors l → IsMadeImage l c b old new → IsJournalSector l.geometry s → new s ≡ replicate 512 0 }
-    ensures others { (l : Layout) (c : CacheSuper) (b : BackingSuper) (old new : Image) (s : ℕ)
-        → IsMadeImage l c b old new → (IsWrittenSector l s → ⊥) → new s ≡ old s }
-    ensures first { (sectors : ℕ) (l : Layout) (s : ℕ)
-        → IsLaidOut sectors l → IsJournalSector l.geometry s → 24 ≤ s }
+    ensures others { (g : Geometry) (c : CacheSuper) (b : BackingSuper) (old new : Image) (s : ℕ)
+        → IsMadeImage g c b old new → (IsWrittenSector g s → ⊥) → new s ≡ old s }
+    ensures first { (g : Geometry) (s : ℕ) → IsRecordSector g s → 64 ≤ s }
+{}
+
+/// A pair that was made is sound, and shows the data of the backing device as it was, both as the
+/// devices hold it and however a crash leaves it.
+pub fn made_pair_is_sound<C: Disk, B: Disk>()
+    ensures sound { (g : Geometry) (c : CacheSuper) (b : BackingSuper) (cache : C) (backing : B)
+        → IsPair g c b (C.facts cache) (B.facts backing) → OfEachPair IsSound (C.facts cache) (B.facts backing) }
+    ensures shown { (g : Geometry) (c : CacheSuper) (b : BackingSuper) (cache : C) (backing : B)
+        → IsPair g c b (C.facts cache) (B.facts backing)
+        → OfEachPair (λ p. IsShown p (λ s. p.backing (b.data_offset + s)))
+        (C.facts cache) (B.facts backing) }
 {}

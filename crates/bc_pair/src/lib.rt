@@ -5,9 +5,12 @@ pub mod adopt;
 pub mod error;
 mod flags;
 pub mod format;
+mod journal;
 pub mod laws;
+mod nodes;
 pub mod pair;
 mod read;
+pub mod records;
 pub mod show;
 #[cfg(test)]
 mod tests;

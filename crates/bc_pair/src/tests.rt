@@ -1,4 +1,6 @@
 //! A pair that is made, one that another tool made, and what is refused.
+ghost use Rattle.std.specs.Prelude.{◌<◌};
+
 use crate::adopt::adopt;
 use crate::error::PairError;
 use crate::format::{NewPair, format};
@@ -76,7 +78,7 @@ fn disk(
     if end <= bytes.len() {
         bytes[4096..end].copy_from_slice(superblock);
     }
-    MemDisk::new(alloc, bytes, 600)
+    MemDisk::new(alloc, bytes, 1000)
 }
 
 // Whether these bytes are all the same one.
@@ -104,7 +106,7 @@ fn new_pair(rt: HostRuntime) -> Result<(), Fail> {
     let mut cache = disk(&rt, rt.alloc(), 8192, &[])?;
     let mut backing = disk(&rt, rt.alloc(), 4112, &[])?;
     format(rt.alloc(), &mut cache, &mut backing, &pair_of(1))?;
-    assert_eq!(rt; (cache.calls(), backing.calls()), (14, 2));
+    assert_eq!(rt; (cache.calls(), backing.calls()), (18, 2));
     let c = read_cache(&mut cache)?;
     assert_eq!(rt;
         c,
@@ -139,14 +141,13 @@ fn new_pair(rt: HostRuntime) -> Result<(), Fail> {
         }
     );
 
-    // Journal buckets 1 to 8 and the table in bucket 10 were written, and no others.
+    // Buckets 1 to 12 were written, and no others.
     assert!(rt; is_full(cache.bytes(), 0, 4096, OTHER));
     assert!(rt; is_full(cache.bytes(), 6656, BUCKET, OTHER));
-    assert!(rt; is_full(cache.bytes(), BUCKET, 9 * BUCKET, 0));
-    assert!(rt; is_full(cache.bytes(), 9 * BUCKET, 10 * BUCKET, OTHER));
+    assert!(rt; is_full(cache.bytes(), BUCKET + 512, 9 * BUCKET, 0));
     assert!(rt; is_full(cache.bytes(), 10 * BUCKET, 10 * BUCKET + 16, 3));
     assert!(rt; is_full(cache.bytes(), 10 * BUCKET + 16, 11 * BUCKET, 0));
-    assert!(rt; is_full(cache.bytes(), 11 * BUCKET, 128 * BUCKET, OTHER));
+    assert!(rt; is_full(cache.bytes(), 13 * BUCKET, 128 * BUCKET, OTHER));
     assert!(rt; keeps_data(&backing));
 
     let again = adopt(rt.alloc(), &mut cache, &mut backing);
@@ -162,6 +163,60 @@ fn new_pair(rt: HostRuntime) -> Result<(), Fail> {
          backing version 1 offset 16 size 4096 mode writethrough state clean\n\
          backing uuid 03030303030303030303030303030303 set 01010101010101010101010101010101\n"
     );
+    Ok(())
+}
+
+// Whether these bytes stand there.
+fn has(device: &MemDisk, at: usize, bytes: &[u8; 8]) -> bool
+    requires { at < 10000000 }
+{
+    device.bytes().get(at..at + 8) == Some(bytes.as_slice())
+}
+
+// The checksums of the records are those that an encoder of its own computed.
+#[test]
+fn worked_layout(rt: HostRuntime) -> Result<(), Fail> {
+    let mut cache = disk(&rt, rt.alloc(), 8192, &[])?;
+    let mut backing = disk(&rt, rt.alloc(), 4112, &[])?;
+    let pair = NewPair {
+        set_uuid: [1, 0, 0, 0, 0, 0, 0, 0, 0, 0, 0, 0, 0, 0, 0, 0],
+        cache_uuid: [2; 16],
+        backing_uuid: [3; 16],
+        block: 1,
+        bucket: 64,
+    };
+    format(rt.alloc(), &mut cache, &mut backing, &pair)?;
+    assert!(rt;
+        has(
+            &cache,
+            BUCKET,
+            &[0x70, 0x8e, 0xdf, 0x8f, 0x3a, 0x64, 0xed, 0xe7]
+        )
+    );
+    assert!(rt;
+        has(
+            &cache,
+            11 * BUCKET,
+            &[0x8d, 0x82, 0x3e, 0x0f, 0xd2, 0xff, 0xf4, 0x86]
+        )
+    );
+    assert!(rt;
+        has(
+            &cache,
+            12 * BUCKET,
+            &[0xb6, 0x56, 0x8a, 0x6d, 0x31, 0xf2, 0xe5, 0x79]
+        )
+    );
+    assert!(rt;
+        has(
+            &cache,
+            9 * BUCKET + 40 + 3 * 12,
+            &[255, 255, 0, 0, 0, 0, 0, 0]
+        )
+    );
+    assert!(rt; is_full(cache.bytes(), 9 * BUCKET + 79, 10 * BUCKET, 0));
+    assert!(rt; is_full(cache.bytes(), 11 * BUCKET + 56, 12 * BUCKET, 0));
+    assert!(rt; is_full(cache.bytes(), 12 * BUCKET + 32, 13 * BUCKET, 0));
     Ok(())
 }
 
@@ -220,7 +275,7 @@ fn failed_calls(rt: HostRuntime) -> Result<(), Fail> {
     for (device, call) in [
         (Device::Cache, 1),
         (Device::Cache, 9),
-        (Device::Cache, 14),
+        (Device::Cache, 18),
         (Device::Backing, 1),
         (Device::Backing, 2),
     ] {
@@ -235,7 +290,7 @@ fn failed_calls(rt: HostRuntime) -> Result<(), Fail> {
         assert!(rt; keeps_data(&backing));
         let calls = match device {
             Device::Cache => (call, 0),
-            Device::Backing => (14, call),
+            Device::Backing => (18, call),
         };
         assert_eq!(rt; (cache.calls(), backing.calls()), calls);
     }

@@ -249,10 +249,11 @@ fn test_faults<R: Abort + Wait>(
 #[test]
 fn each_call_fails(rt: HostRuntime) -> Result<(), Fail> {
     let alloc = rt.alloc();
-    // Formatting makes 8 calls for the journal, one for the table, a barrier and four for the
-    // superblock of the cache device, and two of the backing device. Adopting reads both first.
-    test_faults(&rt, alloc, FORMAT, 14, 2)?;
-    test_faults(&rt, alloc, "adopt", 15, 3)
+    // Formatting makes 8 calls for the journal, one each for entry 1, the priority set, the table and
+    // two nodes, a barrier and four for the superblock of the cache device, and two of the backing
+    // device. Adopting reads both first.
+    test_faults(&rt, alloc, FORMAT, 18, 2)?;
+    test_faults(&rt, alloc, "adopt", 19, 3)
 }
 
 // Shows the pair that make-bcache wrote to a sink with so much room.

@@ -260,9 +260,11 @@ fn a_trace_is_summed_up(rt: HostRuntime) -> Result<(), Fail> {
     ] {
         let mut values = Values::new(alloc);
         for (stamp, count) in runs {
+            assert!(rt; values.len() < 64);
             let first = values.len() as u64;
             if *stamp == 0 {
                 for sector in 0..*count {
+                    assert!(rt; values.len() < 64);
                     values.push(sector, &[0; 512])?;
                 }
             } else {

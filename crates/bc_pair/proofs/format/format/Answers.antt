@@ -2,10 +2,8 @@ use Rattle.std.proofs.Common.{ℕ, sym, subst}
 use Rattle.std.specs.Prelude.{Ok, Err}
 use Rattle.bc_super.specs.Cache.{IsUsableCache}
 use Rattle.bc_super.specs.Layout.{IsLaidOut}
-use Rattle.bc_super.specs.declared.backing.BackingSuper.{BackingSuper}
 use Rattle.bc_super.specs.declared.cache.CacheSuper.{CacheSuper}
-use Rattle.bc_pair.specs.Found.{IsTableOf}
-use Rattle.bc_pair.proofs.Makings.{finds_new, formats, new_usable, writing_failed}
+use Rattle.bc_pair.proofs.Makings.{finds_new, formats, has_room, is_divided, names_buckets, new_division, new_usable, writing_failed}
 use Rattle.bc_pair.proofs.format.format.Goals as goal
 
 pub write_pair-requires-clause-cache : goal.write_pair-requires-clause-cache
@@ -14,22 +12,65 @@ write_pair-requires-clause-cache g c =
     let laid = subst (λ (n : ℕ). IsLaidOut n c.in_ok-l.l) c.sectors.ensures c.in_ok-l.ensures.laid_out in
     subst (λ (s : CacheSuper). IsUsableCache sectors s) (sym c.new_cache-c.ensures) (new_usable sectors c.in_ok-l.l laid c.args.pair.now c.in_ok-l.ensures.sizes c.in_ok-l.ensures.fits.0)
 
-pub write_pair-requires-clause-table : goal.write_pair-requires-clause-table
-write_pair-requires-clause-table g c =
-    subst (λ (b : BackingSuper). IsTableOf b c.in_ok-table.table) (sym c.new_backing-b.ensures) (record { first = c.in_ok-table.ensures.first; others = c.in_ok-table.ensures.others })
-
 pub returns-in_err-write_pair-clause-written : goal.returns-in_err-write_pair-clause-written
 returns-in_err-write_pair-clause-written g c =
     writing_failed c.from_residual-in_err-write_pair.result c.in_err-write_pair.field-0.0 _ c.from_residual-in_err-write_pair.ensures.1
-    (formats g.C.Disk.facts g.B.Disk.facts c.args.pair.now c.in_ok-l.l c.sectors.result c.new_cache-c.result c.new_backing-b.result (Err c.in_err-write_pair.field-0.0) c.args.cache.now c.write_pair.new.cache c.args.backing.now c.write_pair.new.backing
-    c.sectors.ensures c.in_ok-l.ensures.laid_out c.in_ok-l.ensures.sizes c.new_cache-c.ensures c.new_backing-b.ensures c.in_err-write_pair.ensures.written)
+    (formats g.C.Disk.facts g.B.Disk.facts c.args.pair.now c.in_ok-l.l c.geometry_of-g.result c.sectors.result c.new_cache-c.result c.new_backing-b.result (Err c.in_err-write_pair.field-0.0) c.args.cache.now c.write_pair.new.cache c.args.backing.now c.write_pair.new.backing
+    c.sectors.ensures c.in_ok-l.ensures.laid_out c.in_ok-l.ensures.sizes c.new_cache-c.ensures c.new_backing-b.ensures c.geometry_of-g.ensures c.in_err-write_pair.ensures.written)
 
 pub returns-clause-written : goal.returns-clause-written
 returns-clause-written g c =
-    formats g.C.Disk.facts g.B.Disk.facts c.args.pair.now c.in_ok-l.l c.sectors.result c.new_cache-c.result c.new_backing-b.result (Ok tt) c.args.cache.now c.write_pair.new.cache c.args.backing.now c.write_pair.new.backing
-    c.sectors.ensures c.in_ok-l.ensures.laid_out c.in_ok-l.ensures.sizes c.new_cache-c.ensures c.new_backing-b.ensures c.in_ok-write_pair.ensures.written
+    formats g.C.Disk.facts g.B.Disk.facts c.args.pair.now c.in_ok-l.l c.geometry_of-g.result c.sectors.result c.new_cache-c.result c.new_backing-b.result (Ok tt) c.args.cache.now c.write_pair.new.cache c.args.backing.now c.write_pair.new.backing
+    c.sectors.ensures c.in_ok-l.ensures.laid_out c.in_ok-l.ensures.sizes c.new_cache-c.ensures c.new_backing-b.ensures c.geometry_of-g.ensures c.in_ok-write_pair.ensures.written
 
 pub returns-clause-found : goal.returns-clause-found
 returns-clause-found g c =
-    finds_new c.args.pair.now c.in_ok-l.l c.sectors.result (g.C.Disk.facts c.args.cache.now).sectors c.new_cache-c.result c.new_backing-b.result (g.C.Disk.facts c.write_pair.new.cache) (g.B.Disk.facts c.write_pair.new.backing)
+    finds_new c.args.pair.now c.in_ok-l.l c.geometry_of-g.result c.sectors.result (g.C.Disk.facts c.args.cache.now).sectors c.new_cache-c.result c.new_backing-b.result (g.C.Disk.facts c.write_pair.new.cache) (g.B.Disk.facts c.write_pair.new.backing)
     c.sectors.ensures c.in_ok-l.ensures.laid_out c.in_ok-l.ensures.sizes c.new_cache-c.ensures c.new_backing-b.ensures c.in_ok-write_pair.ensures.found
+
+pub geometry_of-g-requires : goal.geometry_of-g-requires
+geometry_of-g-requires g c =
+    let sectors = (g.C.Disk.facts c.args.cache.now).sectors in
+    let l = c.in_ok-l.l in
+    let laid = subst (λ (n : ℕ). IsLaidOut n l) c.sectors.ensures c.in_ok-l.ensures.laid_out in
+    (sectors, subst (λ (s : CacheSuper). IsUsableCache sectors s) (sym c.new_cache-c.ensures) (new_usable sectors l laid c.args.pair.now c.in_ok-l.ensures.sizes c.in_ok-l.ensures.fits.0))
+
+pub new-requires-clause-names : goal.new-requires-clause-names
+new-requires-clause-names g c =
+    let sectors = (g.C.Disk.facts c.args.cache.now).sectors in
+    let l = c.in_ok-l.l in
+    let laid = subst (λ (n : ℕ). IsLaidOut n l) c.sectors.ensures c.in_ok-l.ensures.laid_out in
+    let same = new_division c.args.pair.now l c.new_cache-c.result c.geometry_of-g.result c.new_cache-c.ensures c.geometry_of-g.ensures c.in_ok-l.ensures.sizes in
+    names_buckets sectors l laid c.geometry_of-g.result same
+
+pub new-requires-clause-within : goal.new-requires-clause-within
+new-requires-clause-within g c =
+    let sectors = (g.C.Disk.facts c.args.cache.now).sectors in
+    let l = c.in_ok-l.l in
+    let laid = subst (λ (n : ℕ). IsLaidOut n l) c.sectors.ensures c.in_ok-l.ensures.laid_out in
+    let same = new_division c.args.pair.now l c.new_cache-c.result c.geometry_of-g.result c.new_cache-c.ensures c.geometry_of-g.ensures c.in_ok-l.ensures.sizes in
+    (has_room sectors l laid c.geometry_of-g.result same).within
+
+pub write_pair-requires-clause-names : goal.write_pair-requires-clause-names
+write_pair-requires-clause-names g c =
+    let sectors = (g.C.Disk.facts c.args.cache.now).sectors in
+    let l = c.in_ok-l.l in
+    let laid = subst (λ (n : ℕ). IsLaidOut n l) c.sectors.ensures c.in_ok-l.ensures.laid_out in
+    let same = new_division c.args.pair.now l c.new_cache-c.result c.geometry_of-g.result c.new_cache-c.ensures c.geometry_of-g.ensures c.in_ok-l.ensures.sizes in
+    names_buckets sectors l laid c.geometry_of-g.result same
+
+pub write_pair-requires-clause-room : goal.write_pair-requires-clause-room
+write_pair-requires-clause-room g c =
+    let sectors = (g.C.Disk.facts c.args.cache.now).sectors in
+    let l = c.in_ok-l.l in
+    let laid = subst (λ (n : ℕ). IsLaidOut n l) c.sectors.ensures c.in_ok-l.ensures.laid_out in
+    let same = new_division c.args.pair.now l c.new_cache-c.result c.geometry_of-g.result c.new_cache-c.ensures c.geometry_of-g.ensures c.in_ok-l.ensures.sizes in
+    has_room sectors l laid c.geometry_of-g.result same
+
+pub write_pair-requires-clause-divided : goal.write_pair-requires-clause-divided
+write_pair-requires-clause-divided g c =
+    let sectors = (g.C.Disk.facts c.args.cache.now).sectors in
+    let l = c.in_ok-l.l in
+    let laid = subst (λ (n : ℕ). IsLaidOut n l) c.sectors.ensures c.in_ok-l.ensures.laid_out in
+    let same = new_division c.args.pair.now l c.new_cache-c.result c.geometry_of-g.result c.new_cache-c.ensures c.geometry_of-g.ensures c.in_ok-l.ensures.sizes in
+    is_divided sectors l laid c.geometry_of-g.result same

@@ -1,11 +1,12 @@
 use Rattle.std.proofs.Common.{ℕ, ◌+◌, ◌*◌, ◌<◌, ◌≤◌, refl, ◌∙◌, arith}
 use Rattle.std.specs.Prelude.{length}
 use Rattle.bc_model.specs.Sector.{values_of}
-use Rattle.bc_pair.specs.Made.{over, zeros}
+use Rattle.bc_pair.specs.Runs.{over, zeros}
 use Rattle.bc_pair.specs.Found.{IsJournalSector}
-use Rattle.bc_pair.proofs.Cache.{Turns, bucket_place, in_journal, no_zeros, zeros_again, zeros_long}
+use Rattle.bc_pair.proofs.Writes.{Turns}
+use Rattle.bc_pair.proofs.Cache.{bucket_place, in_journal, no_zeros, zeros_again, zeros_long}
 use Rattle.bc_pair.proofs.Steps.{both_same, counted_fails, one_more, only_failed, only_joined, only_none, only_written}
-use Rattle.bc_pair.proofs.write.zero_journal.Goals as goal
+use Rattle.bc_pair.proofs.journal.zero_journal.Goals as goal
 
 pub loop-i-init : goal.loop-i-init
 loop-i-init g c =

@@ -1,9 +1,9 @@
 use Rattle.std.proofs.Common.{◌≡◌, ◌*◌}
 use Rattle.bc_super.specs.Writing.{count_after}
-use Rattle.bc_pair.specs.Made.{over, zeros}
+use Rattle.bc_pair.specs.Runs.{over, zeros}
 use Rattle.bc_pair.specs.Found.{IsJournalSector}
 use Rattle.bc_pair.specs.Steps.{Becomes, WritesOnly}
-use Rattle.bc_pair.proofs.write.zero_journal.Given as goal
+use Rattle.bc_pair.proofs.journal.zero_journal.Given as goal
 
 abbrev pub invariant-loop-i : goal.invariant-loop-i
 invariant-loop-i g l = record {
