@@ -1,4 +1,4 @@
-ghost use Rattle.std.specs.Prelude.{Some};
+ghost use Rattle.std.specs.Prelude.{Some, IfOk};
 ghost use Rattle.bc_disk.specs.Stream.{StreamFacts};
 ghost use Rattle.bc_script.specs.Answer.{IsPrintable};
 
@@ -12,7 +12,7 @@ use crate::trace::read_trace;
 use bc_disk::disk::{Device, Failed};
 use bc_disk::stream::Source;
 use bc_model::values::Values;
-use std::alloc::Global;
+use std::alloc::{AllocError, Global};
 use std::test::Fail;
 
 // Gives some bytes of the text at once, one more than `more` at most, and at its end may fail.
@@ -239,6 +239,29 @@ fn other_values_are_printed(rt: HostRuntime) -> Result<(), Fail> {
     Ok(())
 }
 
+// The answer of a read that sees these runs of a stamp, or of zeros; of another line where there are none.
+fn answer_of(alloc: Global, runs: &[(u64, u32)]) -> Result<Answer, AllocError>
+    ensures { IfOk result IsPrintable }
+{
+    if runs.is_empty() {
+        return Ok(Answer::Done);
+    }
+    let mut values = Values::new(alloc);
+    for (stamp, count) in runs {
+        for _ in 0..*count {
+            let sector = u64::from(values.len());
+            if *stamp > 0 && sector < 64 {
+                values.push_pattern(*stamp, sector, 1)?;
+            } else if sector < 64 {
+                values.push(sector, &[0; 512])?;
+            }
+        }
+    }
+    let fits = u64::from(values.len()) < 1 << 32;
+    prove!(fits);
+    Ok(Answer::Runs { first: 0, values })
+}
+
 // The answers to the ten lines of one worker over 64 sectors, of which the reads at last see three
 // writes.
 #[test]
@@ -258,25 +281,7 @@ fn a_trace_is_summed_up(rt: HostRuntime) -> Result<(), Fail> {
         &[(8, 32), (7, 11)],
         &[(8, 32), (7, 29), (6, 2)],
     ] {
-        let mut values = Values::new(alloc);
-        for (stamp, count) in runs {
-            assert!(rt; values.len() < 64);
-            let first = values.len() as u64;
-            if *stamp == 0 {
-                for sector in 0..*count {
-                    assert!(rt; values.len() < 64);
-                    values.push(sector, &[0; 512])?;
-                }
-            } else {
-                values.push_pattern(*stamp, first, *count as u32)?;
-            }
-        }
-        let answer = if runs.is_empty() {
-            Answer::Done
-        } else {
-            Answer::Runs { first: 0, values }
-        };
-        answers.push(answer)?;
+        answers.push(answer_of(alloc, runs)?)?;
     }
     let text = print_summary(alloc, &summary_of(script.lines(), &answers))?;
     let wanted = b"lines 10 writes 6 reads 4 flushes 0 refused 0 sum 804";
