@@ -43,6 +43,13 @@ impl Reserve {
         self.buckets.len() as u32
     }
 
+    /// How many buckets it may have.
+    pub fn room(&self) -> u32
+        ensures { result ≡ self.now.room }
+    {
+        self.room
+    }
+
     /// Whether no bucket is on the list.
     pub fn is_empty(&self) -> bool
         ensures { result ≡ (length self.now.buckets == 0) }

@@ -279,6 +279,14 @@ impl Reserves {
         list.len()
     }
 
+    /// How many buckets the list of this purpose may have.
+    pub fn room(&self, purpose: Purpose) -> u32
+        ensures { result ≡ (list_of purpose self.now).room }
+    {
+        let list = &self.lists[purpose.place()];
+        list.room()
+    }
+
     /// How many raised buckets wait for their generations to become durable.
     pub fn raised_len(&self) -> u32
         ensures len { result ≡ length self.now.raised }

@@ -3,3 +3,5 @@ pub mod Entries
 pub mod Images
 pub mod Told
 pub mod Listed
+pub mod Selected
+pub mod Frees

@@ -1,5 +1,6 @@
 //! Candidates beside a plain list of them, at random.
 use crate::flight::first_of;
+use crate::random::next;
 use bc_flight::candidate::{Candidate, Candidates, MOST, Wanted};
 use bc_key::Key;
 use std::test::Fail;
@@ -10,7 +11,7 @@ fn candidates_beside_a_plain_list(rt: HostRuntime) -> Result<(), Fail> {
     let mut plain: Vec<Candidate> = Vec::new(rt.alloc());
     let mut random: u64 = 1;
     for _ in 0..3000 {
-        random = (1_103_515_245 * random + 12345) % (1 << 31);
+        random = next(random);
         let (choice, first) = (random / 65536 % 4, random / 1024 % 64);
         match choice {
             0 if candidates.len() < MOST && candidates.next() < u64::MAX => {

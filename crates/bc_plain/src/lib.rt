@@ -2,16 +2,30 @@
 //! the real program, so that a wrong definition shows as a wrong number.
 #![tactic(auto)]
 
+pub mod alloc;
+#[cfg(test)]
+mod alloc_tests;
+pub mod bucket;
+#[cfg(test)]
+mod bucket_tests;
 #[cfg(test)]
 mod candidates;
 pub mod device;
 pub mod extent;
 #[cfg(test)]
 mod extent_tests;
+pub mod fill;
+#[cfg(test)]
+mod fill_tests;
 pub mod flight;
 pub mod history;
 mod image;
 pub mod journal;
+pub mod mode;
+#[cfg(test)]
+mod mode_tests;
+#[cfg(test)]
+mod random;
 mod slot;
 #[cfg(test)]
 mod tests;
