@@ -141,7 +141,7 @@ truncate -s 4M cache.img
 "$bcache" cache.img backing.img format "${ids[@]}" --block 1 --bucket 64
 try_words 'adopt of a pair in use' 4 'superblock cache 18' cache.img backing.img adopt
 try_words 'show to a sink that takes it' 0 "$("$bcache" cache.img backing.img show)" cache.img backing.img show
-try_trace 'a pair with no journal entry' 5 'image 2' '1 w 0 1 1\n'
+try_trace 'a pair with a cache' 5 'unserved' '1 w 0 1 1\n'
 change 60 '\x01'
 try_trace 'a pair whose superblock is torn' 4 'superblock backing 2' '1 w 0 1 1\n'
 memory=12000

@@ -24,8 +24,8 @@ pub enum Message {
     Trace { line: u32, why: u8 },
     /// The superblock of this device has the fault with this number.
     Superblock { device: Device, number: u8 },
-    /// What the cache device holds is refused for this reason.
-    Image(u8),
+    /// The pair has a cache, which isn't served yet.
+    Unserved,
     /// A device or the source failed.
     Fault(Origin),
     /// Memory ran out.
@@ -118,18 +118,8 @@ fn superblock_line(device: Device, number: u8) -> MessageLine
     text
 }
 
-#[tactic(auto, using(crate::proofs::Digits::room))]
-fn image_line(why: u8) -> MessageLine
-    ensures { result ≡ message_text (Message.Image why) }
-{
-    let mut text = MessageLine::new(b"image ");
-    text.push_number(why as u32);
-    text.push(b'\n');
-    text
-}
-
 /// The line of a message: `usage`; `trace`, the line and the reason; `superblock`, `cache` or
-/// `backing` and the fault; `image` and the reason; `fault` and `cache`, `backing` or `source`; or `memory`. The numbers
+/// `backing` and the fault; `unserved`; `fault` and `cache`, `backing` or `source`; or `memory`. The numbers
 /// are decimal, and there is one space between two words.
 pub fn print_message(message: Message) -> MessageLine
     ensures { result ≡ message_text message }
@@ -138,7 +128,7 @@ pub fn print_message(message: Message) -> MessageLine
         Message::Usage => MessageLine::new(b"usage\n"),
         Message::Trace { line, why } => trace_line(line, why),
         Message::Superblock { device, number } => superblock_line(device, number),
-        Message::Image(why) => image_line(why),
+        Message::Unserved => MessageLine::new(b"unserved\n"),
         Message::Fault(Origin::Disk(Device::Cache)) => MessageLine::new(b"fault cache\n"),
         Message::Fault(Origin::Disk(Device::Backing)) => MessageLine::new(b"fault backing\n"),
         Message::Fault(Origin::Source) => MessageLine::new(b"fault source\n"),

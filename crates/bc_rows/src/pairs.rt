@@ -69,7 +69,7 @@ fn a_pair_is_formatted(rt: HostRuntime) -> Result<(), Fail> {
     let ran = test_command(&rt, alloc, ran, FORMAT, "", 0)?;
     let ran = test_command(&rt, alloc, ran, "show", SHOWN, 0)?;
     let ran = test_command(&rt, alloc, ran, "adopt", "superblock cache 18\n", 4)?;
-    let ran = test_command(&rt, alloc, ran, "serve", "image 2\n", 5)?;
+    let ran = test_command(&rt, alloc, ran, "serve", "unserved\n", 5)?;
     let ran = test_command(&rt, alloc, ran, FORMAT, "", 0)?;
     test_command(&rt, alloc, ran, "format", "usage\n", 2)?;
     Ok(())
@@ -84,7 +84,7 @@ fn a_pair_is_adopted(rt: HostRuntime) -> Result<(), Fail> {
     let ran = test_command(&rt, alloc, ran, "adopt", "", 0)?;
     let ran = test_command(&rt, alloc, ran, "show", SHOWN_ADOPTED, 0)?;
     let ran = test_command(&rt, alloc, ran, "adopt", "superblock cache 18\n", 4)?;
-    test_command(&rt, alloc, ran, "serve", "image 2\n", 5)?;
+    test_command(&rt, alloc, ran, "serve", "unserved\n", 5)?;
     Ok(())
 }
 

@@ -58,7 +58,7 @@ module _ (cache cache' old new : DiskFacts) (asks : AsksForNone old) (same : IsS
   not_opened (opening.Fault device.Cache) still (inl never) = never.0
   not_opened (opening.Superblock device.Backing number) still (inl cause) = let why = cause.0 in not_cause why.0 why.2 why.3
   not_opened (opening.Superblock device.Cache number) still (inl never) = never.0
-  not_opened (opening.Image why) still (inl never) = never.0
+  not_opened opening.Unserved still (inl never) = never.0
 
   -- with such a device and a source that spells a trace only want of memory is left
   pub only_memory : (source left : StreamFacts) (why : Stop) → SpellsTrace source → (HasRisen source.faults left.faults → ⊥) → (HasRisen old.faults new.faults → ⊥)
@@ -74,6 +74,6 @@ module _ (cache cache' old new : DiskFacts) (asks : AsksForNone old) (same : IsS
           read_or_refused spells.0 spells.2.0 e spells.2.1 spells.2.2.few (subst (λ (t : List ℕ). IsFirstRefused t e) is_text both.0)
   only_memory source left stop.Source spells quiet still cause = absurd (quiet cause.0)
   only_memory source left (stop.Superblock d number) spells quiet still cause = absurd (not_opened (opening.Superblock d number) still cause.1)
-  only_memory source left (stop.Image why) spells quiet still cause = absurd (not_opened (opening.Image why) still cause.1)
+  only_memory source left stop.Unserved spells quiet still cause = absurd (not_opened opening.Unserved still cause.1)
   only_memory source left (stop.Fault d) spells quiet still cause = absurd (not_opened (opening.Fault d) still cause.1)
   only_memory source left stop.Memory spells quiet still cause = refl

@@ -132,4 +132,4 @@ same_self d = record { sectors = refl; holds = by d.holds; leaves = less d.holds
 pub open_cause : (error : OpenError) (why : Stop) (source left : StreamFacts) (cache cache' backing backing' : DiskFacts) → why ≡ stop_of error → WasRead source left → IsOpenCause error cache cache' backing backing' → IsServeCause why source left cache cache' backing backing'
 open_cause (errors.Fault d) why source left cache cache' backing backing' is read cause = subst (λ (x : Stop). IsServeCause x source left cache cache' backing backing') (sym is) (read, cause)
 open_cause (errors.Superblock d number) why source left cache cache' backing backing' is read cause = subst (λ (x : Stop). IsServeCause x source left cache cache' backing backing') (sym is) (read, cause)
-open_cause (errors.Image number) why source left cache cache' backing backing' is read cause = subst (λ (x : Stop). IsServeCause x source left cache cache' backing backing') (sym is) (read, cause)
+open_cause errors.Unserved why source left cache cache' backing backing' is read cause = subst (λ (x : Stop). IsServeCause x source left cache cache' backing backing') (sym is) (read, cause)

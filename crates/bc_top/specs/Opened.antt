@@ -64,12 +64,12 @@ IsBackingCause (errors.Superblock device.Backing number) old new = (e : SuperErr
 IsBackingCause error old new = ⊥
 
 -- what a pair with these superblocks is answered, of which that of the backing device asks for a cache: it has to have a state,
--- the cache has to have been set up, they have to be of one set; journals aren't read yet, so then it is answered as one without an entry
+-- the cache has to have been set up, they have to be of one set; journals aren't read yet, so then it is answered that it isn't served
 abbrev pub IsJudged : OpenError → BackingSuper → CacheSuper → Type 0
 IsJudged error s c =
     Unless ((HasNoState s → ⊥) × IsInitialised c) (error ≡ errors.Superblock device.Cache (number_of fault.NotInitialised))
     (Unless (s.set_uuid ≡ c.set_uuid) (error ≡ errors.Superblock device.Backing (number_of fault.OtherSet))
-    (error ≡ errors.Image 2))
+    (error ≡ errors.Unserved))
 
 -- The backing device has this superblock, which asks for a cache. A call of the cache device failed; or its superblock has this
 -- number's fault, the first in order; or both were read. No call failed in the last two.

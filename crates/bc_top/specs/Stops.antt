@@ -14,7 +14,7 @@ abbrev pub status_of : Stop → ℕ
 status_of stop.Usage = 2
 status_of (stop.Trace e) = 3
 status_of (stop.Superblock device number) = 4
-status_of (stop.Image why) = 5
+status_of stop.Unserved = 5
 status_of (stop.Fault device) = 6
 status_of stop.Source = 7
 status_of stop.Memory = 9
@@ -24,7 +24,7 @@ abbrev pub message_of : Stop → Message
 message_of stop.Usage = message.Usage
 message_of (stop.Trace e) = message.Trace e.line (number_of e.why)
 message_of (stop.Superblock device number) = message.Superblock device number
-message_of (stop.Image why) = message.Image why
+message_of stop.Unserved = message.Unserved
 message_of (stop.Fault device) = message.Fault (origin.Disk device)
 message_of stop.Source = message.Fault origin.Source
 message_of stop.Memory = message.Memory
@@ -40,4 +40,4 @@ IsStatus status = (status ≡ 0) ⊎ IsRefusal status ⊎ (status ≡ 6) ⊎ (st
 abbrev pub stop_of : OpenError → Stop
 stop_of (errors.Fault device) = stop.Fault device
 stop_of (errors.Superblock device number) = stop.Superblock device number
-stop_of (errors.Image why) = stop.Image why
+stop_of errors.Unserved = stop.Unserved

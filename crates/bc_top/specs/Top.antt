@@ -75,7 +75,7 @@ IsServeCause (stop.Trace e) source left cache cache' backing backing' = IsCause 
 IsServeCause stop.Source source left cache cache' backing backing' = HasRisen source.faults left.faults × AreUncalled cache cache' backing backing'
 IsServeCause (stop.Fault device) source left cache cache' backing backing' = WasRead source left × IsOpenCause (errors.Fault device) cache cache' backing backing'
 IsServeCause (stop.Superblock device number) source left cache cache' backing backing' = WasRead source left × IsOpenCause (errors.Superblock device number) cache cache' backing backing'
-IsServeCause (stop.Image why) source left cache cache' backing backing' = WasRead source left × IsOpenCause (errors.Image why) cache cache' backing backing'
+IsServeCause stop.Unserved source left cache cache' backing backing' = WasRead source left × IsOpenCause errors.Unserved cache cache' backing backing'
 IsServeCause stop.Memory source left cache cache' backing backing' = Unit {0}
 
 -- where a call ends so, the count of a device's faults rose

@@ -19,12 +19,9 @@ pub enum OpenError {
     Fault(Device),
     /// The superblock of this device has the fault of this number.
     Superblock { device: Device, number: u8 },
-    /// What the cache device holds is refused for this reason.
-    Image(u8),
+    /// The pair has a cache, which isn't served yet.
+    Unserved,
 }
-
-/// That a cache device has no journal entry. Journals aren't read yet, and this program wrote none.
-const NO_JOURNAL: u8 = 2;
 
 // That a call which read the superblock of this device failed, or found this fault.
 fn refused(device: Device, error: SuperError) -> OpenError
@@ -77,7 +74,7 @@ fn judge(s: &BackingSuper, c: &CacheSuper) -> OpenError
             number: SuperError::OtherSet.number(),
         }
     } else {
-        OpenError::Image(NO_JOURNAL)
+        OpenError::Unserved
     }
 }
 

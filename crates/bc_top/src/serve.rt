@@ -52,7 +52,7 @@ fn stop_of(error: OpenError) -> Stop
     match error {
         OpenError::Fault(device) => Stop::Fault(device),
         OpenError::Superblock { device, number } => Stop::Superblock { device, number },
-        OpenError::Image(why) => Stop::Image(why),
+        OpenError::Unserved => Stop::Unserved,
     }
 }
 

@@ -23,8 +23,8 @@ pub enum Stop {
     Fault(Device),
     /// The superblock of this device has the fault of this number.
     Superblock { device: Device, number: u8 },
-    /// What the cache device holds is refused for this reason.
-    Image(u8),
+    /// The pair has a cache, which isn't served yet.
+    Unserved,
     /// There was no memory.
     Memory,
 }
@@ -38,7 +38,7 @@ impl Stop {
             Stop::Usage => 2,
             Stop::Trace(_) => 3,
             Stop::Superblock { .. } => 4,
-            Stop::Image(_) => 5,
+            Stop::Unserved => 5,
             Stop::Fault(_) => 6,
             Stop::Source => 7,
             Stop::Memory => 9,
@@ -59,7 +59,7 @@ impl Stop {
                 device: *device,
                 number: *number,
             },
-            Stop::Image(why) => Message::Image(*why),
+            Stop::Unserved => Message::Unserved,
             Stop::Fault(device) => Message::Fault(Origin::Disk(*device)),
             Stop::Source => Message::Fault(Origin::Source),
             Stop::Memory => Message::Memory,
