@@ -1,0 +1,11 @@
+pub mod Said
+pub mod Pend
+pub mod Leaves
+pub mod Chains
+pub mod Covered
+pub mod Contents
+pub mod Keep
+pub mod Nodes
+pub mod Roles
+pub mod Law
+pub mod Frame

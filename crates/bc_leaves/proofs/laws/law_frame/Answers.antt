@@ -1,0 +1,5 @@
+use Rattle.bc_leaves.proofs.Frame as proof
+use Rattle.bc_leaves.proofs.laws.law_frame.Goals as goal
+
+pub returns : goal.returns
+returns c = proof.law_frame

@@ -1,0 +1,9 @@
+pub mod Keys
+pub mod Parts
+pub mod Rows
+pub mod Events
+pub mod After
+pub mod Enabled
+pub mod Fits
+pub mod Laws
+pub mod Frame

@@ -1,0 +1,4 @@
+pub mod Reopen
+pub mod Replay
+pub mod Example
+pub mod Refused

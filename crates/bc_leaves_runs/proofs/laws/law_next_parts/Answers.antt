@@ -1,0 +1,5 @@
+use Rattle.bc_leaves_runs.proofs.Reopen as proof
+use Rattle.bc_leaves_runs.proofs.laws.law_next_parts.Goals as goal
+
+pub returns : goal.returns
+returns c = proof.law_next_parts

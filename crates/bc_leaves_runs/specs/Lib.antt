@@ -1,0 +1,3 @@
+pub mod Reopen
+pub mod Example
+pub mod Teeth
