@@ -138,13 +138,13 @@ fn line(alloc: Global, state: &mut u32) -> Result<String, AllocError> {
 fn random_lines(rt: HostRuntime) -> Result<(), Fail> {
     let alloc = rt.alloc();
     let mut state = 1;
-    let mut read = 0;
+    let mut read: u32 = 0;
     for _round in 0..ROUNDS {
         let text = line(alloc, &mut state)?;
         let why = plain_reason(text.as_str());
         assert_eq!(rt; reason(alloc, text.as_str())?, why, "'{text}'");
         if why == 0 {
-            read += 1;
+            read = read.saturating_add(1);
         }
     }
     assert!(rt; read > ROUNDS / 20);
