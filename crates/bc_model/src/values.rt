@@ -1,7 +1,7 @@
 //! The values of neighbouring sectors, kept as runs.
 ghost use Rattle.std.specs.Prelude.{◌≡◌, ◌+◌, ◌<◌, ◌≤◌, ◌^◌, ◌++◌, ◌∷◌, [], List, ℕ, length, All, OnOk, OnErr, true, false, slice_get, take, drop, ◌*◌, ◌/◌, ◌↔◌, IfOk, IsTrue};
 ghost use Rattle.bc_model.specs.Sector.{sectors, values_of};
-ghost use Rattle.bc_model.specs.Values.{values_in, IsRun, patterns};
+ghost use Rattle.bc_model.specs.Values.{all_values, runs_of, values_in, IsRun, patterns};
 
 use crate::kinds::Kind;
 use crate::run::{Run, Runs};
@@ -86,7 +86,17 @@ impl Values {
         Ok(part)
     }
 
-    /// The value of the sector that is `i` sectors behind the first.
+    /// The runs. Their values, one behind the other, are these; so to go over all of them takes one
+    /// step for each run.
+    pub fn runs(&self) -> &Runs
+        ensures values { all_values (runs_of result.now) ≡ self.now }
+        ensures runs { All IsRun (runs_of result.now) }
+        ensures few { length self.now < 2 ^ 32 }
+    {
+        &self.runs
+    }
+
+    /// The value of the sector that is `i` sectors behind the first. Goes over the runs up to it.
     pub fn get(&self, i: u32) -> Sector
         requires { i < length self.now }
         ensures { slice_get self.now i ≡ Some result }
