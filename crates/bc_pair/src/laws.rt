@@ -10,8 +10,8 @@ ghost use Rattle.bc_super.specs.Super.{IsMode, IsState, mode_number, state_numbe
 ghost use Rattle.bc_super.specs.declared.backing.BackingSuper.{BackingSuper};
 ghost use Rattle.bc_super.specs.declared.cache.CacheSuper.{CacheSuper};
 ghost use Rattle.bc_super.specs.declared.geometry.Layout.{Layout};
-ghost use Rattle.bc_super.specs.declared.mode.Mode.{Mode};
-ghost use Rattle.bc_super.specs.declared.mode.Mode.TheVariants as modes;
+ghost use Rattle.bc_mode.specs.declared.mode.Mode.{Mode};
+ghost use Rattle.bc_mode.specs.declared.mode.Mode.TheVariants as modes;
 ghost use Rattle.bc_super.specs.declared.state.BackingState.TheVariants as states;
 ghost use Rattle.bc_disk.specs.declared.geometry.Geometry.{Geometry};
 ghost use Rattle.bc_pair.specs.Records.{IsRecordSector};

@@ -5,7 +5,7 @@ use Rattle.bc_disk.specs.declared.geometry.Geometry.{Geometry}
 use Rattle.bc_super.specs.Super.{IsMode, IsState, mode_number, state_number}
 use Rattle.bc_super.specs.declared.backing.BackingSuper.{BackingSuper}
 use Rattle.bc_super.specs.declared.cache.CacheSuper.{CacheSuper}
-use Rattle.bc_super.specs.declared.mode.Mode.TheVariants as modes
+use Rattle.bc_mode.specs.declared.mode.Mode.TheVariants as modes
 use Rattle.bc_super.specs.declared.state.BackingState.TheVariants as states
 
 -- The geometry of a cache device is what its superblock says. The magic numbers of its records are made with the first word of the uuid

@@ -3,11 +3,12 @@ use Rattle.std.specs.Prelude.{◌≡◌, ℕ, ◌/◌, ◌%◌, ◌^◌, List, [
 use Rattle.std.specs.Char.{digit_char}
 use Rattle.std.specs.Fmt.{decimal}
 use Rattle.std.specs.List.{flat_map}
+use Rattle.bc_mode.specs.Mode.{mode_text}
 use Rattle.bc_super.specs.Super.{IsMode, IsState, mode_number, state_number}
 use Rattle.bc_super.specs.declared.backing.BackingSuper.{BackingSuper}
 use Rattle.bc_super.specs.declared.cache.CacheSuper.{CacheSuper}
-use Rattle.bc_super.specs.declared.mode.Mode.{Mode}
-use Rattle.bc_super.specs.declared.mode.Mode.TheVariants as modes
+use Rattle.bc_mode.specs.declared.mode.Mode.{Mode}
+use Rattle.bc_mode.specs.declared.mode.Mode.TheVariants as modes
 use Rattle.bc_super.specs.declared.state.BackingState.{BackingState}
 use Rattle.bc_super.specs.declared.state.BackingState.TheVariants as states
 
@@ -18,12 +19,6 @@ hex bytes = flat_map (λ b. digit_char (b / 16) ∷ digit_char (b % 16) ∷ []) 
 -- the line's words, ended
 abbrev pub ended : List ℕ → List ℕ
 ended words = words ++ codes "\n"
-
-abbrev pub mode_text : Mode → List ℕ
-mode_text modes.Writethrough = codes "writethrough"
-mode_text modes.Writeback = codes "writeback"
-mode_text modes.Writearound = codes "writearound"
-mode_text modes.None = codes "none"
 
 abbrev pub state_text : BackingState → List ℕ
 state_text states.None = codes "none"

@@ -7,8 +7,8 @@ use Rattle.bc_super.specs.declared.backing.BackingSuper.{BackingSuper}
 use Rattle.bc_super.specs.declared.error.SuperError.{SuperError}
 use Rattle.bc_super.specs.declared.error.SuperError.TheVariants as errors
 use Rattle.bc_super.specs.declared.fields.Fields.{Fields}
-use Rattle.bc_super.specs.declared.mode.Mode.{Mode}
-use Rattle.bc_super.specs.declared.mode.Mode.TheVariants as modes
+use Rattle.bc_mode.specs.declared.mode.Mode.{Mode}
+use Rattle.bc_mode.specs.declared.mode.Mode.TheVariants as modes
 use Rattle.bc_super.specs.declared.state.BackingState.{BackingState}
 use Rattle.bc_super.specs.declared.state.BackingState.TheVariants as states
 

@@ -8,10 +8,11 @@ ghost use Rattle.bc_super.specs.Writing.{IsBackingSector, IsBackingStored, IsBac
 use crate::error::SuperError;
 use crate::fields::{Fields, get_fields, put_fields};
 use crate::head::{DATA_START, SUPER_BYTES, SUPER_SECTOR, check_head, put_checksum};
-use crate::mode::Mode;
+use crate::mode::mode_in;
 use crate::state::BackingState;
 use crate::store::store;
 use bc_disk::disk::{Disk, Failed};
+use bc_mode::Mode;
 
 /// What a backing device says of itself.
 #[derive(Clone, Copy, Debug, PartialEq, Eq, Drop)]
@@ -50,7 +51,7 @@ impl BackingSuper {
     pub fn mode(&self) -> Mode
         ensures { IsMode (mode_number self.now.flags) result }
     {
-        Mode::from_flags(self.flags)
+        mode_in(self.flags)
     }
 
     /// Whether a cache may have data that the device lacks.

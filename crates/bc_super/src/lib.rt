@@ -11,7 +11,7 @@ pub(crate) mod head;
 pub mod laws;
 pub mod layout;
 pub(crate) mod list;
-pub mod mode;
+pub(crate) mod mode;
 pub mod show;
 pub mod state;
 pub(crate) mod store;

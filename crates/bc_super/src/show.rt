@@ -3,12 +3,13 @@ ghost use Rattle.std.specs.Prelude.{◌≡◌, ◌++◌, ◌/◌, ◌%◌, ◌^�
 ghost use Rattle.std.specs.Char.{digit_char};
 ghost use Rattle.std.specs.Fmt.{decimal};
 ghost use Rattle.std.specs.String.{string_bytes};
-ghost use Rattle.bc_super.specs.Show.{IsShown, backing_line, cache_line, hex, mode_text, pair, replacement_text, state_text, uuid_line};
+ghost use Rattle.bc_mode.specs.Mode.{mode_text};
+ghost use Rattle.bc_super.specs.Show.{IsShown, backing_line, cache_line, hex, pair, replacement_text, state_text, uuid_line};
 
 use crate::backing::BackingSuper;
 use crate::cache::CacheSuper;
-use crate::mode::Mode;
 use crate::state::BackingState;
+use bc_mode::Mode;
 use std::alloc::{AllocError, Global};
 
 fn mode_word(mode: Mode) -> &'static str

@@ -13,7 +13,7 @@ use Rattle.bc_super.specs.declared.backing.BackingSuper.{BackingSuper}
 use Rattle.bc_super.specs.declared.cache.CacheSuper.{CacheSuper}
 use Rattle.bc_super.specs.declared.error.SuperError.{SuperError}
 use Rattle.bc_super.specs.declared.error.SuperError.TheVariants as fault
-use Rattle.bc_super.specs.declared.mode.Mode.TheVariants as mode
+use Rattle.bc_mode.specs.declared.mode.Mode.TheVariants as mode
 use Rattle.bc_super.specs.declared.state.BackingState.TheVariants as state
 use Rattle.bc_top.specs.declared.opening.OpenError.{OpenError}
 use Rattle.bc_top.specs.declared.opening.OpenError.TheVariants as errors

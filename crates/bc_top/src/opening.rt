@@ -6,10 +6,10 @@ ghost use Rattle.bc_super.specs.Division.{IsPassThrough};
 ghost use Rattle.bc_top.specs.Opened.{IsBackingCause, IsJudged, IsOpened, IsPairCause, IsSameDevice, IsToldAs};
 
 use bc_disk::disk::{Device, Disk};
+use bc_mode::Mode;
 use bc_super::backing::{BackingSuper, read_backing};
 use bc_super::cache::{CacheSuper, initialised, read_cache};
 use bc_super::error::SuperError;
-use bc_super::mode::Mode;
 use bc_super::state::BackingState;
 
 /// Why a pair isn't served.

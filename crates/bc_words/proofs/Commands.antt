@@ -8,12 +8,13 @@ use Rattle.clap.specs.Words.{Row, Text, first_of, subcommand_of}
 use Rattle.bc_words.specs.Program.{program}
 use Rattle.bc_words.specs.Reading.{Reads, ReadsValues}
 use Rattle.bc_words.specs.declared.error.WordsError.{WordsError}
-use Rattle.bc_words.specs.Words.{AreOptions, AreParsed, IsFormat, IsInRange, IsModeIfGiven, IsNumberOr, SaysFormat, SaysOptions, SaysValues, Spells, mode_text, name_of}
+use Rattle.bc_words.specs.Words.{AreOptions, AreParsed, IsFormat, IsInRange, IsModeIfGiven, IsNumberOr, SaysFormat, SaysOptions, SaysValues, Spells, name_of}
 use Rattle.bc_words.specs.declared.command.Command.{Command}
 use Rattle.bc_words.specs.declared.command.Command.TheVariants.{Format, Adopt, Show, Serve}
 use Rattle.bc_words.specs.declared.command.Options.{Options}
-use Rattle.bc_words.specs.declared.mode.Mode.{Mode}
-use Rattle.bc_words.specs.declared.mode.Mode.TheVariants.{Writethrough, Writeback, Writearound, NoCache}
+use Rattle.bc_mode.specs.declared.mode.Mode.{Mode}
+use Rattle.bc_mode.specs.declared.mode.Mode.TheVariants as modes
+use Rattle.bc_mode.specs.Mode.{mode_text}
 use Rattle.bc_words.proofs.Uuids.{uuid_injective}
 
 -- one text says one number, one mode and one command
@@ -22,22 +23,22 @@ one_number default None a b low high is is' = is ∙ sym is'
 one_number default (Some word) a b low high is is' = decimal_injective a b low high (sym is ∙ is')
 
 mode_injective : (a b : Mode) → mode_text a ≡ mode_text b → a ≡ b
-mode_injective Writethrough Writethrough same = refl
-mode_injective Writethrough Writeback same = cc
-mode_injective Writethrough Writearound same = cc
-mode_injective Writethrough NoCache same = cc
-mode_injective Writeback Writethrough same = cc
-mode_injective Writeback Writeback same = refl
-mode_injective Writeback Writearound same = cc
-mode_injective Writeback NoCache same = cc
-mode_injective Writearound Writethrough same = cc
-mode_injective Writearound Writeback same = cc
-mode_injective Writearound Writearound same = refl
-mode_injective Writearound NoCache same = cc
-mode_injective NoCache Writethrough same = cc
-mode_injective NoCache Writeback same = cc
-mode_injective NoCache Writearound same = cc
-mode_injective NoCache NoCache same = refl
+mode_injective modes.Writethrough modes.Writethrough same = refl
+mode_injective modes.Writethrough modes.Writeback same = cc
+mode_injective modes.Writethrough modes.Writearound same = cc
+mode_injective modes.Writethrough modes.None same = cc
+mode_injective modes.Writeback modes.Writethrough same = cc
+mode_injective modes.Writeback modes.Writeback same = refl
+mode_injective modes.Writeback modes.Writearound same = cc
+mode_injective modes.Writeback modes.None same = cc
+mode_injective modes.Writearound modes.Writethrough same = cc
+mode_injective modes.Writearound modes.Writeback same = cc
+mode_injective modes.Writearound modes.Writearound same = refl
+mode_injective modes.Writearound modes.None same = cc
+mode_injective modes.None modes.Writethrough same = cc
+mode_injective modes.None modes.Writeback same = cc
+mode_injective modes.None modes.Writearound same = cc
+mode_injective modes.None modes.None same = refl
 
 one_mode : (word : Option Text) (a b : Option Mode) → IsModeIfGiven word a → IsModeIfGiven word b → a ≡ b
 one_mode None None None is is' = refl

@@ -2,7 +2,7 @@
 use Rattle.std.specs.Prelude.{ℕ, List, [], ◌∷◌, Some, None, codes, replicate, ◌++◌}
 use Rattle.bc_words.specs.declared.command.Command.{Command}
 use Rattle.bc_words.specs.declared.command.Command.TheVariants.{Format, Serve}
-use Rattle.bc_words.specs.declared.mode.Mode.TheVariants.{Writeback}
+use Rattle.bc_mode.specs.declared.mode.Mode.TheVariants.{Writeback}
 
 -- a cache set with blocks of one sector, which isn't said, and buckets of 64
 abbrev pub format_command : Command

@@ -8,8 +8,8 @@ use Rattle.bc_words.specs.Program.{program}
 use Rattle.bc_words.specs.declared.command.Command.{Command}
 use Rattle.bc_words.specs.declared.command.Command.TheVariants.{Format, Adopt, Show, Serve}
 use Rattle.bc_words.specs.declared.command.Options.{Options}
-use Rattle.bc_words.specs.declared.mode.Mode.{Mode}
-use Rattle.bc_words.specs.declared.mode.Mode.TheVariants.{Writethrough, Writeback, Writearound, NoCache}
+use Rattle.bc_mode.specs.declared.mode.Mode.{Mode}
+use Rattle.bc_mode.specs.Mode.{mode_text}
 
 -- ---- what clap makes of the words
 
@@ -24,12 +24,6 @@ pub record AreParsed (words : List Text) (name : Text) (rows : List Row) : Type 
 abbrev pub IsNumberOr : ℕ → Option Text → ℕ → Type 0
 IsNumberOr default None number = number ≡ default
 IsNumberOr default (Some word) number = word ≡ decimal number
-
-abbrev pub mode_text : Mode → Text
-mode_text Writethrough = codes "writethrough"
-mode_text Writeback = codes "writeback"
-mode_text Writearound = codes "writearound"
-mode_text NoCache = codes "none"
 
 abbrev pub IsModeIfGiven : Option Text → Option Mode → Type 0
 IsModeIfGiven None None = Unit {0}

@@ -1,5 +1,5 @@
 //! What a command line asks for.
-use crate::mode::Mode;
+use bc_mode::Mode;
 
 /// What the words of a command line ask for.
 #[derive(Clone, Copy, Debug, PartialEq, Eq, Drop)]

@@ -12,7 +12,6 @@ mod read;
 
 pub use command::{Command, Options};
 pub use error::WordsError;
-pub use mode::Mode;
 pub use read::read_words;
 
 #[cfg(test)]

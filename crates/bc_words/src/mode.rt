@@ -1,20 +1,9 @@
-//! How a cache treats writes.
-ghost use Rattle.std.specs.Prelude.{◌≡◌, ℕ, List, MatchOption};
-ghost use Rattle.bc_words.specs.Words.{mode_text};
-ghost use Rattle.bc_words.specs.declared.mode.Mode.{Mode};
+//! The word of a mode.
+ghost use Rattle.std.specs.Prelude.{◌≡◌, MatchOption};
+ghost use Rattle.bc_mode.specs.declared.mode.Mode.{Mode};
+ghost use Rattle.bc_mode.specs.Mode.{mode_text};
 
-/// How a cache treats writes.
-#[derive(Clone, Copy, Debug, PartialEq, Eq, Drop)]
-pub enum Mode {
-    /// To the backing device, and into the cache.
-    Writethrough,
-    /// Into the cache, and later to the backing device.
-    Writeback,
-    /// To the backing device alone.
-    Writearound,
-    /// There is no cache.
-    NoCache,
-}
+use bc_mode::Mode;
 
 // The mode that a word names.
 pub(crate) fn mode_of(word: &str) -> Option<Mode>
@@ -25,7 +14,7 @@ pub(crate) fn mode_of(word: &str) -> Option<Mode>
         "writethrough" => Some(Mode::Writethrough),
         "writeback" => Some(Mode::Writeback),
         "writearound" => Some(Mode::Writearound),
-        "none" => Some(Mode::NoCache),
+        "none" => Some(Mode::None),
         _ => None,
     }
 }

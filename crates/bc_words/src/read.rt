@@ -6,12 +6,13 @@ ghost use Rattle.clap.specs.Words.{first_of, first_value, found_of, rows_of};
 ghost use Rattle.bc_words.specs.Words.{IsNumberOr, IsModeIfGiven, IsUuid, IsSize, IsWithin, IsInRange, Spells};
 ghost use Rattle.bc_words.specs.Reading.{IsCause, Reads, ReadsOptions, ReadsValues};
 ghost use Rattle.bc_words.specs.declared.command.Command.{Command};
-ghost use Rattle.bc_words.specs.declared.mode.Mode.{Mode};
+ghost use Rattle.bc_mode.specs.declared.mode.Mode.{Mode};
 
 use crate::command::{Command, Options};
 use crate::error::WordsError;
-use crate::mode::{Mode, mode_of};
+use crate::mode::mode_of;
 use crate::parser::parse;
+use bc_mode::Mode;
 use clap::ArgMatches;
 use hex::{FromHex, encode_to_slice};
 use std::alloc::Global;

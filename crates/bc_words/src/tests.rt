@@ -1,4 +1,5 @@
-use crate::{Command, Mode, Options, WordsError, read_words};
+use crate::{Command, Options, WordsError, read_words};
+use bc_mode::Mode;
 use std::alloc::{AllocError, Global};
 use std::test::Fail;
 
@@ -44,16 +45,30 @@ fn commands(rt: HostRuntime) -> Result<(), Fail> {
         ),
         (
             "serve --slots=1 --mode=none",
-            serve(Some(Mode::NoCache), 8192, 1),
+            serve(Some(Mode::None), 8192, 1),
+        ),
+        (
+            "serve --mode=writeback",
+            serve(Some(Mode::Writeback), 8192, 1024),
+        ),
+        (
+            "serve --mode writethrough",
+            serve(Some(Mode::Writethrough), 8192, 1024),
         ),
         ("serve --cutoff 1099511627776", serve(None, 1 << 40, 1024)),
+        ("serve --cutoff=1099511627776", serve(None, 1 << 40, 1024)),
         ("serve --cutoff=0 --slots 1024", serve(None, 0, 1024)),
+        ("serve --cutoff 0 --slots=1024", serve(None, 0, 1024)),
+        ("serve --slots 1", serve(None, 8192, 1)),
     ] {
         assert_eq!(rt; read(alloc, text)?, Ok(command), "{text}");
     }
     for (more, block, bucket) in [
         ("", 1, 1024),
         (" --block 8", 8, 1024),
+        (" --block=8 --bucket 64", 8, 64),
+        (" --block=1 --bucket=32768", 1, 32_768),
+        (" --block 1", 1, 1024),
         (" --bucket=64 --block=2", 2, 64),
         (" --bucket 32768", 1, 32_768),
     ] {
@@ -94,6 +109,16 @@ fn refused_words(rt: HostRuntime) -> Result<(), Fail> {
         "serve --mode fast",
         "serve --mode=",
         "serve --mode none --mode none",
+        "serve --mode=none --mode=writeback",
+        "serve --mode fast --mode none",
+        "serve --cutoff",
+        "serve --cutoff 1 --cutoff=1",
+        "serve --cutoff 1099511627777",
+        "serve --slots",
+        "serve --slots=",
+        "serve --slots 1 --slots 1",
+        "serve --slots=0",
+        "serve --slots=1025",
         "serve --cutoff=1099511627777",
         "serve --cutoff 007",
         "serve --cutoff=-1",
@@ -117,11 +142,21 @@ fn refused_words(rt: HostRuntime) -> Result<(), Fail> {
         " --block",
         " --block=",
         " --block 1 --block 1",
+        " --block=0",
+        " --block=16",
+        " --bucket",
+        " --bucket=",
+        " --bucket 64 --bucket=64",
+        " --bucket 63",
+        " --bucket=65",
+        " --bucket 32769",
         " --bucket 32",
         " --bucket 100",
         " --bucket 65536",
         " --bucket 064",
         " --set=000123456789abcdef000000000000ff",
+        " --cuuid 00000000000000000000000000000000",
+        " --buuid=101112131415161718191a1b1c1d1e1f",
         " --mode none",
         " --offset 16",
         " 1024",
@@ -141,6 +176,33 @@ fn refused_words(rt: HostRuntime) -> Result<(), Fail> {
             read(alloc, text.as_str())?,
             Err(WordsError::Usage),
             "{uuid}"
+        );
+    }
+    Ok(())
+}
+
+#[test]
+fn words_of_a_pair(rt: HostRuntime) -> Result<(), Fail> {
+    let alloc = rt.alloc();
+    let spaced =
+        "format --buuid 101112131415161718191a1b1c1d1e1f --set 000123456789abcdef000000000000ff --cuuid 00000000000000000000000000000000";
+    assert_eq!(rt; read(alloc, spaced)?, format(alloc, "")?);
+    for words in [
+        [SET, CACHE, ""],
+        [SET, BACKING, ""],
+        [CACHE, BACKING, ""],
+        [SET, CACHE, "--buuid"],
+        [SET, CACHE, "--buuid="],
+        [SET, BACKING, "--cuuid"],
+        [SET, BACKING, "--cuuid="],
+        [CACHE, BACKING, "--set"],
+        [CACHE, BACKING, "--set="],
+    ] {
+        let text = format!(in alloc; "format {} {} {}", words[0], words[1], words[2])?;
+        assert_eq!(rt;
+            read(alloc, text.as_str())?,
+            Err(WordsError::Usage),
+            "{text}"
         );
     }
     Ok(())

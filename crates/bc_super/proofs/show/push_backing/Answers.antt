@@ -2,7 +2,8 @@ use Rattle.std.proofs.Common.{◌≡◌, ◌++◌, refl}
 use Rattle.std.specs.Prelude.{codes}
 use Rattle.std.specs.Fmt.{decimal}
 use Rattle.std.specs.String.{string_bytes}
-use Rattle.bc_super.specs.Show.{pair, mode_text, state_text}
+use Rattle.bc_mode.specs.Mode.{mode_text}
+use Rattle.bc_super.specs.Show.{pair, state_text}
 use Rattle.bc_super.proofs.Texts.{added, ended_so}
 use Rattle.bc_super.proofs.show.push_backing.Goals as goal
 
