@@ -18,5 +18,5 @@ pub record IsKept (r : Inside) : Type 0 where
   pub short : (i : ℕ) → length (slice_index_or r.lists.items i no_reserve).buckets ≤ (slice_index_or r.lists.items i no_reserve).room
   pub flagged : IsFlagged (reserves_in r) r.listed.items
   pub raised_room : r.raised.room ≡ r.count
-  pub heap_room : r.count ≤ heap_capacity r.urgencies
+  pub heap_room : r.count ≤ heap_capacity r.ranks
   pub taken_room : r.count ≤ vec_capacity r.taken

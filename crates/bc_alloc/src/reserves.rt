@@ -27,7 +27,7 @@ pub struct Reserves {
     // For each bucket, whether it stands on a list or is raised.
     listed: Vec<bool>,
     // What a search for victims uses.
-    urgencies: BinaryHeap<u64>,
+    ranks: BinaryHeap<u64>,
     taken: Vec<u32>,
 }
 
@@ -113,14 +113,14 @@ impl Reserves {
         let lists = empty_lists(alloc, g)?;
         let raised = Reserve::new(alloc, count)?;
         let listed = vec![in alloc; false; count as usize]?;
-        let urgencies = BinaryHeap::with_capacity(alloc, count as usize)?;
+        let ranks = BinaryHeap::with_capacity(alloc, count as usize)?;
         let taken = Vec::with_capacity(alloc, count as usize)?;
         Ok(Reserves {
             count,
             lists,
             raised,
             listed,
-            urgencies,
+            ranks,
             taken,
         })
     }
@@ -430,14 +430,7 @@ impl Reserves {
     {
         let most = self.wanted();
         let listed = &self.listed;
-        find_first(
-            b.records(),
-            listed,
-            self.count,
-            most,
-            &mut self.urgencies,
-            into,
-        );
+        find_first(b.records(), listed, self.count, most, &mut self.ranks, into);
     }
 
     /// Raises victims, in order, until the lists would be full or there is no further one, and
@@ -459,7 +452,7 @@ impl Reserves {
             &self.listed,
             self.count,
             most,
-            &mut self.urgencies,
+            &mut self.ranks,
             taken,
         );
         raise_all(&mut self.raised, &mut self.listed, b, &self.taken);

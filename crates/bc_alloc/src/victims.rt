@@ -1,10 +1,11 @@
 //! Which buckets are given up next.
-ghost use Rattle.std.specs.Prelude.{◌≡◌, ◌≢◌, ◌↔◌, ℕ, ◌+◌, ◌-◌, ◌*◌, ◌<◌, ◌≤◌, ◌^◌, ◌%◌, [], false, true, length, slice_index_or, vec_capacity, IsTrue, IfSome, IfNone, List, Bool};
+ghost use Rattle.std.specs.Prelude.{◌≡◌, ◌≢◌, ◌↔◌, ℕ, ◌+◌, ◌<◌, ◌≤◌, ◌∷◌, [], All, false, true, length, slice_index_or, vec_capacity, IsTrue, IfSome, IfNone, List, Bool};
 ghost use Rattle.bc_bucket.specs.declared.bucket.Bucket.{Bucket};
 ghost use Rattle.bc_bucket.specs.Bucket.{no_bucket};
 ghost use Rattle.std.specs.Ordering.{nat_cmp};
 ghost use Rattle.std.specs.BinaryHeap.{IsHeap, heap_capacity, heap_items, heap_len};
-ghost use Rattle.bc_alloc.specs.Choice.{Splits, number_of, urgency_of};
+ghost use Rattle.std.specs.List.Sorted.{IsPermutation};
+ghost use Rattle.bc_alloc.specs.Choice.{AreChosen, number_of, rank_of};
 ghost use Rattle.bc_alloc.specs.Victims.{AreFirst, IsBefore, IsOpen};
 
 use bc_bucket::Bucket;
@@ -52,98 +53,143 @@ pub(crate) fn first_open(records: &[Bucket], listed: &[bool], count: u32) -> Opt
     first
 }
 
-// Above each number that stands for a priority and a bucket.
-const TOP: u64 = (1 << 48) - 1;
-
-// A number that is the greater the earlier the bucket is given up.
-fn urgency(known: &Bucket, k: u32) -> u64
-    ensures value { result ≡ urgency_of known.now.priority k }
-    ensures fits { known.now.priority < 2 ^ 16 }
+// A number that is the less the earlier the bucket is given up.
+fn rank_of(known: &Bucket, k: u32) -> u64
+    ensures { result ≡ rank_of known.now.priority k }
 {
-    TOP - (u64::from(known.priority) * (1 << 32) + u64::from(k))
+    u64::from(known.priority) * (1 << 32) + u64::from(k)
 }
 
-// The bucket with this urgency.
-fn number_of(urgency: u64) -> u32
-    ensures { result ≡ number_of urgency }
+// The bucket with this rank.
+fn number_of(rank: u64) -> u32
+    ensures { result ≡ number_of rank }
 {
-    (TOP.saturating_sub(urgency) % (1 << 32)) as u32
+    (rank % (1 << 32)) as u32
 }
 
-// Puts the urgency of the next bucket into a heap, if it is open.
-fn offer(records: &[Bucket], listed: &[bool], k: u32, urgencies: &mut BinaryHeap<u64>)
-    requires there { k < length records.now }
-    requires flag { k < length listed.now }
-    requires heap { IsHeap nat_cmp (heap_items urgencies.old) }
-    requires splits { Splits records.now listed.now k (heap_items urgencies.old) [] }
-    requires room { heap_len urgencies.old < heap_capacity urgencies.old }
-    ensures heap { IsHeap nat_cmp (heap_items urgencies.new) }
-    ensures splits { Splits records.now listed.now (k + 1) (heap_items urgencies.new) [] }
-    ensures len { heap_len urgencies.new ≤ heap_len urgencies.old + 1 }
-    ensures room { heap_capacity urgencies.old ≤ heap_capacity urgencies.new }
+// Takes the greatest rank out of a heap, if it is above this one.
+fn take_above(rank: u64, ranks: &mut BinaryHeap<u64>) -> Option<u64>
+    requires heap { IsHeap nat_cmp (heap_items ranks.old) }
+    ensures heap { IsHeap nat_cmp (heap_items ranks.new) }
+    ensures above { IfSome result (λ top. rank < top) }
+    ensures out { IfSome result (λ top.
+        IsPermutation (heap_items ranks.old) (top ∷ heap_items ranks.new)) }
+    ensures last { IfSome result (λ top. All (λ y. y ≤ top) (heap_items ranks.new)) }
+    ensures none { IfNone result (All (λ y. y ≤ rank) (heap_items ranks.old)) }
+    ensures same { IfNone result ((heap_items ranks.new ≡ heap_items ranks.old)
+        × (heap_len ranks.new ≡ heap_len ranks.old)) }
+    ensures len { IfSome result (λ top. heap_len ranks.new + 1 ≡ heap_len ranks.old) }
+    ensures room { heap_capacity ranks.new ≡ heap_capacity ranks.old }
 {
-    if !is_open(records, listed, k) {
-        return;
+    let top = *ranks.peek()?;
+    if top <= rank {
+        return None;
     }
-    let Ok(()) = urgencies.push(urgency(&records[k as usize], k)) else {
+    ranks.pop()
+}
+
+// Puts one more rank into a heap.
+fn put(rank: u64, ranks: &mut BinaryHeap<u64>)
+    requires heap { IsHeap nat_cmp (heap_items ranks.old) }
+    requires room { heap_len ranks.old < heap_capacity ranks.old }
+    ensures heap { IsHeap nat_cmp (heap_items ranks.new) }
+    ensures more { IsPermutation (rank ∷ heap_items ranks.old) (heap_items ranks.new) }
+    ensures len { heap_len ranks.new ≡ heap_len ranks.old + 1 }
+    ensures room { heap_capacity ranks.old ≤ heap_capacity ranks.new }
+{
+    let Ok(()) = ranks.push(rank) else {
         unreachable!()
     };
 }
 
-// Puts the urgency of each open bucket into a heap.
-fn collect(records: &[Bucket], listed: &[bool], count: u32, urgencies: &mut BinaryHeap<u64>)
+// Puts the rank of the next bucket into a heap of the `most` least ones so far, if it is open and
+// one of these.
+fn offer(records: &[Bucket], listed: &[bool], k: u32, most: usize, ranks: &mut BinaryHeap<u64>)
+    requires there { k < length records.now }
+    requires flag { k < length listed.now }
+    requires heap { IsHeap nat_cmp (heap_items ranks.old) }
+    requires chosen { AreChosen records.now listed.now k most (heap_items ranks.old) [] }
+    requires room { heap_len ranks.old < heap_capacity ranks.old }
+    ensures heap { IsHeap nat_cmp (heap_items ranks.new) }
+    ensures chosen { AreChosen records.now listed.now (k + 1) most (heap_items ranks.new) [] }
+    ensures len { heap_len ranks.new ≤ heap_len ranks.old + 1 }
+    ensures room { heap_capacity ranks.old ≤ heap_capacity ranks.new }
+{
+    if !is_open(records, listed, k) {
+        return;
+    }
+    let rank = rank_of(&records[k as usize], k);
+    if ranks.len() < most {
+        put(rank, ranks);
+        return;
+    }
+    let Some(_last) = take_above(rank, ranks) else {
+        return;
+    };
+    put(rank, ranks);
+}
+
+// Puts the `most` least ranks of open buckets into a heap, or all of them.
+fn collect(
+    records: &[Bucket],
+    listed: &[bool],
+    count: u32,
+    most: usize,
+    ranks: &mut BinaryHeap<u64>,
+)
     requires records { length records.now ≡ count }
     requires flags { length listed.now ≡ count }
-    requires room { count ≤ heap_capacity urgencies.old }
-    ensures heap { IsHeap nat_cmp (heap_items urgencies.new) }
-    ensures splits { Splits records.now listed.now count (heap_items urgencies.new) [] }
-    ensures len { heap_len urgencies.new ≤ count }
-    ensures room { count ≤ heap_capacity urgencies.new }
+    requires room { count ≤ heap_capacity ranks.old }
+    ensures heap { IsHeap nat_cmp (heap_items ranks.new) }
+    ensures chosen { AreChosen records.now listed.now count most (heap_items ranks.new) [] }
+    ensures len { heap_len ranks.new ≤ count }
+    ensures room { count ≤ heap_capacity ranks.new }
 {
-    urgencies.clear();
+    ranks.clear();
     for k in 0..count {
-        offer(records, listed, k, urgencies);
+        offer(records, listed, k, most, ranks);
     }
 }
 
-// Takes the first buckets out of a heap of urgencies, `most` at most.
-fn take_first(urgencies: &mut BinaryHeap<u64>, most: usize, taken: &mut Vec<u32>)
-    requires heap { IsHeap nat_cmp (heap_items urgencies.old) }
-    requires room { heap_len urgencies.old ≤ vec_capacity taken.old }
-    ensures first { (records : List Bucket) (listed : List Bool)
-        → Splits records listed (length records) (heap_items urgencies.old) []
-        → AreFirst (IsOpen records listed) records most taken.new.items }
-    ensures rooms { (heap_capacity urgencies.new ≡ heap_capacity urgencies.old)
+// Takes all buckets out of a heap of ranks, the last one first.
+fn take_all(ranks: &mut BinaryHeap<u64>, taken: &mut Vec<u32>)
+    requires heap { IsHeap nat_cmp (heap_items ranks.old) }
+    requires room { heap_len ranks.old ≤ vec_capacity taken.old }
+    ensures chosen { (records : List Bucket) (listed : List Bool) (n most : ℕ)
+        → AreChosen records listed n most (heap_items ranks.old) []
+        → AreChosen records listed n most [] taken.new.items }
+    ensures rooms { (heap_capacity ranks.new ≡ heap_capacity ranks.old)
         × (vec_capacity taken.old ≤ vec_capacity taken.new) }
 {
     taken.clear();
-    for _i in 0..most {
-        let Some(urgency) = urgencies.pop() else {
-            return;
+    for _i in 0..ranks.len() {
+        let Some(rank) = ranks.pop() else {
+            unreachable!()
         };
-        let Ok(()) = taken.push(number_of(urgency)) else {
+        let Ok(()) = taken.push(number_of(rank)) else {
             unreachable!()
         };
     }
 }
 
-// Finds the first open buckets, `most` at most.
+// Finds the first open buckets, `most` at most, in some n log m steps for n buckets and m of them.
 pub(crate) fn find_first(
     records: &[Bucket],
     listed: &[bool],
     count: u32,
     most: usize,
-    urgencies: &mut BinaryHeap<u64>,
+    ranks: &mut BinaryHeap<u64>,
     taken: &mut Vec<u32>,
 )
     requires records { length records.now ≡ count }
     requires flags { length listed.now ≡ count }
-    requires heap_room { count ≤ heap_capacity urgencies.old }
+    requires heap_room { count ≤ heap_capacity ranks.old }
     requires room { count ≤ vec_capacity taken.old }
     ensures first { AreFirst (IsOpen records.now listed.now) records.now most taken.new.items }
-    ensures heap_room { count ≤ heap_capacity urgencies.new }
+    ensures heap_room { count ≤ heap_capacity ranks.new }
     ensures room { count ≤ vec_capacity taken.new }
 {
-    collect(records, listed, count, urgencies);
-    take_first(urgencies, most, taken);
+    collect(records, listed, count, most, ranks);
+    take_all(ranks, taken);
+    taken.reverse();
 }

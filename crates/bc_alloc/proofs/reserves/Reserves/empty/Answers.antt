@@ -11,6 +11,6 @@ invariant_of-result c =
       short = subst (λ (ls : List Reserve). AreShort ls) (sym c.in_ok-lists.ensures) (empty_short c.args.g.now);
       flagged = empty_flagged c.args.g.now c.in_ok-lists.lists.items c.in_ok-raised.raised.buckets c.in_ok-listed.listed.items c.in_ok-lists.ensures (ap (λ (r : Reserve). r.buckets) c.in_ok-raised.ensures) free;
       raised_room = ap (λ (r : Reserve). r.room) c.in_ok-raised.ensures;
-      heap_room = c.in_ok-urgencies.ensures.capacity;
+      heap_room = c.in_ok-ranks.ensures.capacity;
       taken_room = c.in_ok-taken.ensures.capacity;
     }
