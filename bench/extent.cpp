@@ -95,17 +95,17 @@ static void erase_one(Extents &map, uint64_t places) {
     erase(map, first, first + 1 + below(LONGEST));
 }
 
-static long long micros() {
+static long long nanos() {
     timespec now;
     clock_gettime(CLOCK_PROCESS_CPUTIME_ID, &now);
-    return now.tv_sec * 1000000LL + now.tv_nsec / 1000;
+    return now.tv_sec * 1000000000LL + now.tv_nsec;
 }
 
-// The microseconds of processor time that the calls take.
-template <typename Calls> static long long micros_of(Calls calls) {
-    long long start = micros();
+// The nanoseconds of processor time that the calls take.
+template <typename Calls> static long long nanos_of(Calls calls) {
+    long long start = nanos();
     calls();
-    return micros() - start;
+    return nanos() - start;
 }
 
 int main(int count, char **words) {
@@ -119,25 +119,30 @@ int main(int count, char **words) {
     uint64_t all = first_sector(keys);
     uint64_t places = all - LONGEST;
 
-    long long inserted = micros_of([&] {
+    long long inserted = nanos_of([&] {
         for (uint64_t n = 0; n < calls; n++)
             insert_one(map, places, keys + n);
     });
-    long long replaced = micros_of([&] {
+    long long replaced = nanos_of([&] {
         for (uint64_t n = 0; n < calls; n++)
             replace_one(map, all);
     });
-    long long erased = micros_of([&] {
-        for (uint64_t n = 0; n < calls; n++) {
-            erase_one(map, places);
+    // Some erases at a time, with as many inserts after them.
+    uint64_t block = keys / 8 + 1;
+    long long erased = 0;
+    for (uint64_t round = 0; round < calls / block; round++) {
+        erased += nanos_of([&] {
+            for (uint64_t n = 0; n < block; n++)
+                erase_one(map, places);
+        });
+        for (uint64_t n = 0; n < block; n++)
             insert_one(map, places, keys + n);
-        }
-    });
+    }
 
     uint64_t sum = 0;
     for (auto &[first, extent] : map)
         for (uint64_t word : {first, extent.end, extent.offset, uint64_t(extent.dirty)})
             sum = sum * 31 + word;
     printf("%zu keys, sum %llu\n", map.size(), (unsigned long long)sum);
-    printf("%lld us\n%lld us\n%lld us\n", inserted, replaced, erased);
+    printf("%lld us\n%lld us\n%lld us\n", inserted / 1000, replaced / 1000, erased / 1000);
 }

@@ -1,7 +1,7 @@
 #!/usr/bin/env bash
 # The extent map beside an ordered map of C++, std::map, in which the same calls make the same cuts: a million random inserts of
-# extents of 1 to 8 sectors, as many keys looked up and replaced, and as many erases, each with an insert, in maps of 1,000, 10,000
-# and 100,000 keys. Both have to end with the same keys.
+# extents of 1 to 8 sectors, as many keys looked up and replaced, and as many erases, in maps of 1,000, 10,000 and 100,000 keys.
+# After some erases as many inserts bring keys back, which aren't timed. Both have to end with the same keys.
 #
 # For each number of keys it prints the nanoseconds of processor time of a call in both, and their ratio, and at the end the bytes
 # that a key takes in both: the memory that a map of 100,000 keys has above one of 4. What is timed are the calls alone, of a program
@@ -24,7 +24,7 @@ for keys in 1000 10000 100000; do
     "$folder/extent" "$keys" "$calls" > "$folder/plain"
     cmp <(head -n 1 "$folder/proved") <(head -n 1 "$folder/plain")
     paste <(tail -n 3 "$folder/proved") <(tail -n 3 "$folder/plain") | awk -v keys="$keys" -v calls="$calls" '
-        BEGIN { split("insert,look up and replace,erase and insert", name, ",") }
+        BEGIN { split("insert,look up and replace,erase", name, ",") }
         { printf "%7d %-19s %6.0f %7.0f %7.2f\n", keys, name[NR], 1000 * $1 / calls, 1000 * $3 / calls, $1 / $3 }'
 done
 

@@ -12,3 +12,4 @@ pub mod SameKeys
 pub mod Found
 pub mod Outcomes
 pub mod Composed
+pub mod Moves

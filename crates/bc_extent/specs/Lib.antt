@@ -8,3 +8,4 @@ pub mod PtrWord
 pub mod Slot
 pub mod Turned
 pub mod Rings
+pub mod Moved

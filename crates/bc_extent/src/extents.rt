@@ -1,4 +1,4 @@
-ghost use Rattle.std.specs.Prelude.{◌≡◌, ◌↔◌, ℕ, ◌+◌, ◌<◌, ◌≤◌, ◌++◌, [], ◌∷◌, ◌*◌, length, slice_get, slice_set, slice_index_or, vec_len, All, Contains, IsTrue, IsNone, IfSome, OnOk, OnErr};
+ghost use Rattle.std.specs.Prelude.{◌≡◌, ◌↔◌, ℕ, ◌+◌, ◌<◌, ◌≤◌, ◌++◌, [], ◌∷◌, ◌*◌, ◌^◌, length, slice_get, slice_set, slice_index_or, vec_len, All, Contains, IsTrue, IsNone, IfSome, OnOk, OnErr};
 ghost use Rattle.std.specs.Bool.{OnTrue, OnFalse};
 ghost use Rattle.bc_key.specs.Key.{IsExtent, Covers};
 ghost use Rattle.bc_extent.specs.LastKey.{last_key};
@@ -95,7 +95,9 @@ impl Extents {
 
     /// How many keys there are.
     pub fn len(&self) -> usize
-        ensures { result ≡ length self.now.keys }
+        ensures count { result ≡ length self.now.keys }
+        ensures small { result ≤ 2 ^ 55 }
+        ensures order { IsInOrder self.now.keys }
     {
         self.rows.len()
     }
@@ -188,6 +190,14 @@ impl Extents {
             overlay(&mut self.rows, &mut self.boxes, first, end, &None);
             self.spare = kept_spare(spare, &self.rows, self.boxes.len());
         }
+    }
+
+    /// Takes out all keys. The room stays. Takes no memory.
+    pub fn clear(&mut self)
+        ensures keys { self.new.keys ≡ [] }
+        ensures spare { self.new.spare ≡ self.old.spare }
+    {
+        self.rows.clear();
     }
 
     /// Inserts a key in the place of one with the same range, and says whether that key, unchanged,

@@ -2,6 +2,7 @@
 //! and one that goes out at the other, without being touched.
 
 ghost use Rattle.std.specs.Prelude.{◌≡◌, ℕ, ◌+◌, ◌<◌, ◌≤◌, List, ◌∷◌, ◌++◌, [], length, take, drop, insert, slice_set, slice_index_or, OnOk, IfOk};
+ghost use Rattle.bc_extent.specs.Moved.{IsMoved};
 ghost use Rattle.bc_extent.specs.Turned.{turned};
 ghost use Rattle.bc_key.specs.declared.key.Key.{Key};
 
@@ -37,6 +38,8 @@ fn place(head: usize, i: usize) -> usize
     requires head { head < 256 }
     requires within { i < 256 }
     ensures within { result < 256 }
+    ensures before_end { head + i < 256 → result ≡ head + i }
+    ensures behind_end { 256 ≤ head + i → result + 256 ≡ head + i }
     ensures is { (slots : List Key) → length slots ≡ 256 → (d : Key)
         → slice_index_or (turned head slots) i d ≡ slice_index_or slots result d }
     ensures set { (slots : List Key) → length slots ≡ 256 → (key : Key)
@@ -48,6 +51,35 @@ fn place(head: usize, i: usize) -> usize
     } else {
         place - LENGTH
     }
+}
+
+/// Puts a key at place `a`, moves those from there on back by one, and takes out what stood at `b`.
+fn shift_up(slots: &mut [Slot], a: usize, b: usize, slot: Slot) -> Slot
+    requires order { a ≤ b }
+    requires within { b < length slots.old }
+    ensures moved { IsMoved a b slots.old slots.new }
+    ensures first { (d : Key) → slice_index_or slots.new a d ≡ slot }
+    ensures out { (d : Key) → result ≡ slice_index_or slots.old b d }
+    ensures length { length slots.new ≡ length slots.old }
+{
+    let out = mem::replace(&mut slots[b], slot);
+    slots[a..b + 1].rotate_right(1);
+    out
+}
+
+/// Puts a key at place `b`, moves those up to there to the front by one, and takes out what stood at
+/// `a`.
+fn shift_down(slots: &mut [Slot], a: usize, b: usize, slot: Slot) -> Slot
+    requires order { a ≤ b }
+    requires within { b < length slots.old }
+    ensures moved { IsMoved a b slots.new slots.old }
+    ensures last { (d : Key) → slice_index_or slots.new b d ≡ slot }
+    ensures out { (d : Key) → result ≡ slice_index_or slots.old a d }
+    ensures length { length slots.new ≡ length slots.old }
+{
+    let out = mem::replace(&mut slots[a], slot);
+    slots[a..b + 1].rotate_left(1);
+    out
 }
 
 impl Ring {
@@ -112,6 +144,21 @@ impl Ring {
         ensures moved { insert self.new (last + 1) result ≡ insert self.old from slot }
         ensures length { (length self.old ≡ 256) × (length self.new ≡ 256) }
     {
+        let a = place(self.head, from);
+        let b = place(self.head, last);
+        if a > b {
+            return self.carry_up(from, last, slot);
+        }
+        shift_up(&mut self.slots, a, b, slot)
+    }
+
+    /// The same across the end of the slots, one by one.
+    fn carry_up(&mut self, from: usize, last: usize, slot: Slot) -> Slot
+        requires order { from ≤ last }
+        requires within { last < 256 }
+        ensures moved { insert self.new (last + 1) result ≡ insert self.old from slot }
+        ensures length { (length self.old ≡ 256) × (length self.new ≡ 256) }
+    {
         let _ = &self.slots;
         let mut carried = slot;
         for i in from..last + 1 {
@@ -123,6 +170,21 @@ impl Ring {
     /// Takes out what stands at a place, moves those behind it to the front by one, and puts a key at
     /// the last place.
     fn move_down(&mut self, from: usize, last: usize, slot: Slot) -> Slot
+        requires order { from ≤ last }
+        requires within { last < 256 }
+        ensures moved { insert self.new from result ≡ insert self.old (last + 1) slot }
+        ensures length { (length self.old ≡ 256) × (length self.new ≡ 256) }
+    {
+        let a = place(self.head, from);
+        let b = place(self.head, last);
+        if a > b {
+            return self.carry_down(from, last, slot);
+        }
+        shift_down(&mut self.slots, a, b, slot)
+    }
+
+    /// The same across the end of the slots, one by one.
+    fn carry_down(&mut self, from: usize, last: usize, slot: Slot) -> Slot
         requires order { from ≤ last }
         requires within { last < 256 }
         ensures moved { insert self.new from result ≡ insert self.old (last + 1) slot }

@@ -131,6 +131,14 @@ impl Rows {
         self.count -= 1;
     }
 
+    /// Takes out all keys. The room stays. Takes no memory.
+    pub fn clear(&mut self)
+        ensures keys { self.new.keys ≡ [] }
+        ensures spare { self.old.spare ≤ self.new.spare }
+    {
+        self.count = 0;
+    }
+
     /// Takes memory for one more ring.
     fn grow(&mut self, alloc: Global) -> Result<(), AllocError>
         ensures keys { self.new.keys ≡ self.old.keys }

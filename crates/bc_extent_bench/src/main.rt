@@ -1,6 +1,6 @@
 //! Measures what the calls of a large extent map cost: inserts of random small extents over sectors
 //! that a given number of keys cover, keys replaced by what they are without their dirty bit, and
-//! erases, each with an insert. `bench/extent.cpp` makes the same calls of an ordered map.
+//! erases. `bench/extent.cpp` makes the same calls of an ordered map.
 #![tactic(auto)]
 
 ghost use Rattle.std.specs.Prelude.{◌≡◌, ℕ, ◌+◌, ◌*◌, ◌<◌, ◌≤◌, ◌^◌, ◌++◌, [], ◌∷◌, OnOk};
@@ -98,9 +98,14 @@ fn filled(alloc: Global, keys: u32) -> Result<Extents, AllocError> {
 }
 
 // Inserts so many extents of 1 to 8 sectors, somewhere in the sectors of the first keys.
-fn insert_all(map: &mut Extents, random: &mut Random, work: Work) -> Result<(), AllocError> {
+fn insert_some(
+    map: &mut Extents,
+    random: &mut Random,
+    work: Work,
+    count: u32,
+) -> Result<(), AllocError> {
     let places = first_sector(work.keys) - LONGEST;
-    for n in 0..work.calls {
+    for n in 0..count {
         let first = random.below(places);
         let size = 1 + random.below(LONGEST) as u16;
         let number = u64::from(work.keys) + u64::from(n);
@@ -121,18 +126,41 @@ fn replace_all(map: &mut Extents, random: &mut Random, work: Work) {
     }
 }
 
-// Erases so many ranges of 1 to 8 sectors, and inserts an extent after each.
-fn erase_all(map: &mut Extents, random: &mut Random, work: Work) -> Result<(), AllocError> {
+// Erases so many ranges of 1 to 8 sectors.
+fn erase_some(
+    map: &mut Extents,
+    random: &mut Random,
+    work: Work,
+    count: u32,
+) -> Result<(), AllocError> {
     let places = first_sector(work.keys) - LONGEST;
-    for n in 0..work.calls {
+    for _ in 0..count {
         map.reserve(1)?;
-        map.erase(random.below(places), 1 + random.below(LONGEST) as u32);
         let first = random.below(places);
-        let size = 1 + random.below(LONGEST) as u16;
-        let number = u64::from(work.keys) + u64::from(n);
-        add(map, &extent(first, size, number))?;
+        map.erase(first, 1 + random.below(LONGEST) as u32);
     }
     Ok(())
+}
+
+// Erases as many ranges as are asked for, some at a time, with as many inserts after them, and answers
+// what processor time the erases took.
+fn erase_all<R: CpuClock + AllocGlobal>(
+    rt: &R,
+    map: &mut Extents,
+    random: &mut Random,
+    work: Work,
+) -> io::Result<Duration> {
+    let block = work.keys / 8 + 1;
+    let mut spent = Duration::ZERO;
+    for _ in 0..work.calls / block {
+        let begun = rt.process_cpu_time()?;
+        erase_some(map, random, work, block)?;
+        let ended = rt.process_cpu_time()?;
+        let more = ended.checked_sub(begun).unwrap_or(Duration::ZERO);
+        spent = spent.saturating_add(more);
+        insert_some(map, random, work, block)?;
+    }
+    Ok(spent)
 }
 
 // A number that tells the keys from others.
@@ -174,16 +202,16 @@ fn run<R: CpuClock + Print + AllocGlobal>(rt: &R, work: Work, timed: bool) -> io
     let mut map = filled(rt.alloc(), work.keys)?;
     let mut random = Random(7);
     let begun = rt.process_cpu_time()?;
-    insert_all(&mut map, &mut random, work)?;
+    insert_some(&mut map, &mut random, work, work.calls)?;
     let inserted = rt.process_cpu_time()?;
     replace_all(&mut map, &mut random, work);
     let replaced = rt.process_cpu_time()?;
-    erase_all(&mut map, &mut random, work)?;
-    let erased = rt.process_cpu_time()?;
+    let erasing = erase_all(rt, &mut map, &mut random, work)?;
     println!(rt; "{} keys, sum {}", map.len(), sum_of(&map))?;
     if timed {
-        for (from, to) in [(begun, inserted), (inserted, replaced), (replaced, erased)] {
-            let spent = to.checked_sub(from).unwrap_or(Duration::ZERO);
+        let inserting = inserted.checked_sub(begun).unwrap_or(Duration::ZERO);
+        let replacing = replaced.checked_sub(inserted).unwrap_or(Duration::ZERO);
+        for spent in [inserting, replacing, erasing] {
             println!(rt; "{} us", spent.as_micros())?;
         }
     }

@@ -1,7 +1,7 @@
 use Rattle.std.proofs.Common.{◌≡◌, ℕ, ◌<◌, ◌≤◌, ◌+◌, ◌∷◌, ◌++◌, ◌-◌, length, take, drop, get_or}
 use Rattle.std.specs.Prelude.{insert}
 use Rattle.bc_key.specs.declared.key.Key.{Key}
-use Rattle.bc_extent.proofs.ring.Ring.move_down.Given as goal
+use Rattle.bc_extent.proofs.ring.Ring.carry_down.Given as goal
 
 abbrev pub invariant-loop-i : goal.invariant-loop-i
 invariant-loop-i l = record {
