@@ -1,6 +1,7 @@
 pub mod Cases
 pub mod Words
 pub mod Numbers
+pub mod Fronts
 pub mod Lines
 pub mod Told
 pub mod Printed
@@ -10,3 +11,4 @@ pub mod OneReading
 pub mod Outcomes
 pub mod Drawn
 pub mod Sums
+pub mod Examples

@@ -1,5 +1,6 @@
 -- The lines of a text, as its bytes come.
-use Rattle.std.proofs.Common.{◌≡◌, ◌≢◌, inl, inr, ℕ, suc, ◌<◌, ◌≤◌, Bool, true, false, ◌==◌, List, [], ◌∷◌, ◌++◌, length, refl, sym, ap, ◌∙◌, subst, arith, if◌then◌else◌, append_assoc, append-nil, length-append}
+use Rattle.std.proofs.Common.{◌≡◌, ◌≢◌, inl, inr, ℕ, zero, suc, ◌<◌, ◌≤◌, Bool, true, false, ◌==◌, List, [], ◌∷◌, ◌++◌, length, refl, sym, ap, ◌∙◌, subst, arith, if◌then◌else◌, append_assoc, append-nil, length-append, take, drop, get_or, ◌+◌}
+use Rattle.std.proofs.lemmas.List.{take_more, drop_more, take-append-drop}
 use Rattle.std.specs.Prelude.{Ok, Err}
 use Rattle.std.specs.List.{onto_first}
 use Rattle.bc_script.specs.declared.line.Line.{Line}
@@ -49,10 +50,6 @@ some_line b left = go (b == 10)
     go true = ([], lines_of left, refl)
     go false = let o = onto b (lines_of left) in (b ∷ o.0, o.1, o.2)
 
-part_push : (part : List ℕ) (b : ℕ) → HasNoNewline part → b ≢ 10 → HasNoNewline (part ++ b ∷ [])
-part_push [] b h other = (other, tt)
-part_push (x ∷ xs) b h other = (h.0, part_push xs b h.1 other)
-
 spell_push : (phase end : ℕ) (front : List (List ℕ)) (lines : List Line) (text : List ℕ) (form : Form) → SpellTo phase front lines end → line_in text ≡ Ok form
     → SpellTo phase (front ++ text ∷ []) (lines ++ line_of end form ∷ []) (phase_after end form)
 spell_push phase end [] [] text form h read =
@@ -67,12 +64,6 @@ spell_length phase end [] [] h = refl
 spell_length phase end [] (l ∷ ls) h = absurd h
 spell_length phase end (t ∷ ts) [] h = absurd h
 spell_length phase end (t ∷ ts) (l ∷ ls) h = ap suc (spell_length (phase_after phase h.0) end ts ls h.3)
-
--- one byte of a line comes
-pub pushed : (text : List ℕ) (lines : List Line) (phase : ℕ) (part new left : List ℕ) (b : ℕ) → b ≢ 10 → new ≡ part ++ b ∷ [] → IsSoFar text lines phase part (b ∷ left) → IsSoFar text lines phase new left
-pushed text lines phase part new left b other is h =
-    let P : List ℕ → Type 0 = λ p. IsSoFar text lines phase p left in
-    subst P (sym is) (h.0, h.1 ∙ ap (λ (bs : List ℕ). h.0 ++ lines_of bs) (sym (append_assoc part (b ∷ []) left)), h.2, part_push part b h.3 other)
 
 -- its newline comes
 pub ended : (text : List ℕ) (lines new : List Line) (phase next : ℕ) (part now left : List ℕ) (form : Form) → line_in part ≡ Ok form → new ≡ lines ++ line_of phase form ∷ [] → next ≡ phase_after phase form → now ≡ []
@@ -128,18 +119,47 @@ unfolding line_in form_in
 too_long text long = by_le (length text) 80 (λ b. ((if b then (if is_comment text then Ok Quiet else said_in (words text)) else Err Length) >>= if_served) ≡ Err Length)
     (λ short. absurd (omega arith)) (λ _. refl)
 
-pub refused_long : (text : List ℕ) (lines : List Line) (phase : ℕ) (part left : List ℕ) (b : ℕ) (e : TraceError) → length lines < most_lines → b ≢ 10 → length part ≡ 80
-    → e ≡ Script (record { line = suc (length lines); why = Length }) → IsSoFar text lines phase part (b ∷ left) → Stops text e
-refused_long text lines phase part left b e few other long made h =
-    let next = pushed text lines phase part (part ++ b ∷ []) left b other refl h in
-    let count = length-append part (b ∷ []) in
-    let o = begun (part ++ b ∷ []) left next.3 (omega arith) in
-    let more = length-append (part ++ b ∷ []) o.0 in
-    refused text lines phase next.0 o.1 ((part ++ b ∷ []) ++ o.0) Length e (next.1 ∙ ap (λ (ls : List (List ℕ)). next.0 ++ ls) o.2) next.2
-    (inr (few, too_long ((part ++ b ∷ []) ++ o.0) (omega arith))) made
+-- bytes of the line come
+append_part : (part bytes : List ℕ) → HasNoNewline part → HasNoNewline bytes → HasNoNewline (part ++ bytes)
+append_part [] bytes h more = more
+append_part (x ∷ xs) bytes h more = (h.0, append_part xs bytes h.1 more)
 
-pub refused_many : (text : List ℕ) (lines : List Line) (phase : ℕ) (part left : List ℕ) (b : ℕ) (e : TraceError) → length lines ≡ most_lines → part ≡ []
-    → e ≡ Script (record { line = suc (length lines); why = TooMany }) → IsSoFar text lines phase part (b ∷ left) → Stops text e
-refused_many text lines phase part left b e full none made h =
+-- no newline stands among the first so many bytes, and among one more
+one_more : (text : List ℕ) (i : ℕ) → i < length text → (get_or text i 0 ≡ 10 → ⊥) → HasNoNewline (take i text) → HasNoNewline (take (i + 1) text)
+one_more text i lt other h =
+    let P : List ℕ → Type 0 = λ bs. HasNoNewline bs in
+    subst P (sym (take_more text i 0 lt)) (append_part (take i text) (get_or text i 0 ∷ []) h (other, tt))
+
+pub none_among : (text : List ℕ) (n : ℕ) → n ≤ length text → ((k : ℕ) → k < n → get_or text k 0 ≡ 10 → ⊥) → HasNoNewline (take n text)
+none_among text zero le none = tt
+none_among text (suc n) le none =
+    let P : ℕ → Type 0 = λ k. HasNoNewline (take k text) in
+    let e : n + 1 ≡ suc n = omega arith in
+    subst P e (one_more text n (omega arith) (none n (omega arith)) (none_among text n (omega arith) (λ k lt. none k (omega arith))))
+
+-- the newline cuts the text
+pub cut_at : (text : List ℕ) (i : ℕ) → i < length text → get_or text i 0 ≡ 10 → text ≡ take i text ++ 10 ∷ drop (i + 1) text
+cut_at text i lt is =
+    sym (take-append-drop i text) ∙ ap (λ (bs : List ℕ). take i text ++ bs) (drop_more text i 0 lt ∙ ap (λ b. b ∷ drop (i + 1) text) is)
+
+pub pushed_all : (text : List ℕ) (lines : List Line) (phase : ℕ) (part bytes new left : List ℕ) → HasNoNewline bytes → new ≡ part ++ bytes → IsSoFar text lines phase part (bytes ++ left) → IsSoFar text lines phase new left
+pushed_all text lines phase part bytes new left more is h =
+    let P : List ℕ → Type 0 = λ p. IsSoFar text lines phase p left in
+    subst P (sym is) (h.0, h.1 ∙ ap (λ (bs : List ℕ). h.0 ++ lines_of bs) (sym (append_assoc part bytes left)), h.2, append_part part bytes h.3 more)
+
+pub refused_long : (text : List ℕ) (lines : List Line) (phase : ℕ) (part bytes left : List ℕ) (e : TraceError) → length lines < most_lines → HasNoNewline bytes → 80 < length part + length bytes
+    → e ≡ Script (record { line = suc (length lines); why = Length }) → IsSoFar text lines phase part (bytes ++ left) → Stops text e
+refused_long text lines phase part bytes left e few more long made h =
+    let next = pushed_all text lines phase part bytes (part ++ bytes) left more refl h in
+    let count = length-append part bytes in
+    let o = begun (part ++ bytes) left next.3 (omega arith) in
+    let all = length-append (part ++ bytes) o.0 in
+    refused text lines phase next.0 o.1 ((part ++ bytes) ++ o.0) Length e (next.1 ∙ ap (λ (ls : List (List ℕ)). next.0 ++ ls) o.2) next.2
+    (inr (few, too_long ((part ++ bytes) ++ o.0) (omega arith))) made
+
+pub refused_many : (text : List ℕ) (lines : List Line) (phase : ℕ) (part bytes : List ℕ) (e : TraceError) → length lines ≡ most_lines → part ≡ [] → 0 < length bytes
+    → e ≡ Script (record { line = suc (length lines); why = TooMany }) → IsSoFar text lines phase part bytes → Stops text e
+refused_many text lines phase part [] e full none some made h = absurd (omega arith)
+refused_many text lines phase part (b ∷ left) e full none some made h =
     let o = some_line b left in
     refused text lines phase h.0 o.1 o.0 TooMany e (h.1 ∙ ap (λ (bs : List ℕ). h.0 ++ lines_of (bs ++ b ∷ left)) none ∙ ap (λ (ls : List (List ℕ)). h.0 ++ ls) o.2) h.2 (inl (full, refl)) made

@@ -1,5 +1,5 @@
 -- A history whose entries are marked with the numbers of their lines.
-use Rattle.std.proofs.Common.{◌≡◌, ◌≢◌, ◌⊎◌, inl, inr, ℕ, zero, suc, ◌+◌, ◌<◌, ◌≤◌, Bool, true, false, ◌==◌, if◌then◌else◌, List, [], ◌∷◌, ◌++◌, map, length, Option, Some, None, refl, sym, ap, ◌∙◌, subst, arith, append-nil, length-append}
+use Rattle.std.proofs.Common.{◌≡◌, ◌≢◌, ◌⊎◌, inl, inr, ℕ, zero, suc, ◌+◌, ◌<◌, ◌≤◌, if◌then◌else◌, List, [], ◌∷◌, ◌++◌, length, Option, Some, None, refl, sym, ap, ◌∙◌, subst, arith, append-nil, length-append}
 use Rattle.std.specs.Prelude.{All, slice_get}
 use Rattle.std.proofs.lemmas.List.Elements.{All-head, All-tail}
 use Rattle.std.specs.List.{AllByRecursion}
@@ -41,8 +41,11 @@ marked_entries number (e ∷ es) later = ap (λ (xs : List Entry). e ∷ xs) (ma
 own_here : (number : ℕ) (e : Entry) (ms : List Marked) → own number (record { number = number; entry = e } ∷ ms) ≡ e ∷ own number ms
 own_here number e ms = by_test number number (λ t. (if t then e ∷ own number ms else own number ms) ≡ e ∷ own number ms) (λ same. refl) (λ other. absurd (other refl))
 
-own_other : (number : ℕ) (m : Marked) (ms : List Marked) → m.number ≢ number → own number (m ∷ ms) ≡ own number ms
+pub own_other : (number : ℕ) (m : Marked) (ms : List Marked) → m.number ≢ number → own number (m ∷ ms) ≡ own number ms
 own_other number m ms other = by_test m.number number (λ t. (if t then m.entry ∷ own number ms else own number ms) ≡ own number ms) (λ same. absurd (other same)) (λ _. refl)
+
+pub own_is : (number : ℕ) (m : Marked) (ms : List Marked) → m.number ≡ number → own number (m ∷ ms) ≡ m.entry ∷ own number ms
+own_is number m ms is = by_test m.number number (λ t. (if t then m.entry ∷ own number ms else own number ms) ≡ m.entry ∷ own number ms) (λ same. refl) (λ other. absurd (other is))
 
 own_marked : (number : ℕ) (es : List Entry) (later : List Marked) → own number (mark number es ++ later) ≡ es ++ own number later
 own_marked number [] later = refl

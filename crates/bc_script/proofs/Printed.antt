@@ -1,22 +1,28 @@
 -- The runs that were printed, and the one that goes on.
-use Rattle.std.proofs.Common.{◌≡◌, ◌⊎◌, inl, inr, ℕ, zero, suc, ◌+◌, ◌<◌, ◌≤◌, Bool, true, false, List, [], ◌∷◌, ◌++◌, length, take, Some, refl, sym, ap, ◌∙◌, subst, arith, if◌then◌else◌, append_assoc, append-nil}
-use Rattle.std.specs.Prelude.{replicate, map, slice_get}
+use Rattle.std.proofs.Common.{◌≡◌, ◌⊎◌, inl, inr, ℕ, zero, suc, ◌+◌, ◌<◌, ◌≤◌, ◌^◌, Bool, true, false, List, [], ◌∷◌, ◌++◌, length, take, Some, refl, sym, ap, ◌∙◌, subst, arith, if◌then◌else◌, append_assoc, append-nil, length-append, get_or}
+use Rattle.std.specs.Prelude.{replicate, map, slice_get, Option, option_to_list, Result, Ok, Err, OnOk, All}
+use Rattle.std.proofs.Math.Seq.{drop-append_seam}
+use Rattle.std.proofs.lemmas.List.Elements.{All-drop}
 use Rattle.std.specs.List.{join_with_byte}
 use Rattle.std.proofs.lemmas.Bool.{eqb-true}
-use Rattle.std.proofs.lemmas.List.{replicate_more, take_more, length-take-le}
+use Rattle.std.proofs.lemmas.Grind.{flat_map-append}
+use Rattle.std.proofs.lemmas.List.{take_more, length-take-le, replicate-append-replicate, length-replicate}
 use Rattle.std.proofs.lemmas.Option.{get_or_from_slice_get}
 use Rattle.bc_model.specs.Sector.{Value}
+use Rattle.bc_model.specs.Pattern.{zeros}
+use Rattle.bc_model.specs.Values.{all_values, patterns, values_in, IsRun}
+use Rattle.bc_model.specs.declared.run.Run.{Run as Kept}
+use Rattle.bc_model.specs.declared.run.Run.TheVariants.{Pattern, Zero as Zeros}
+use Rattle.bc_model.proofs.Lists.{length_patterns}
+use Rattle.bc_script.specs.declared.last.Last.{Last}
 use Rattle.bc_script.specs.declared.seen.Seen.{Seen}
 use Rattle.bc_script.specs.declared.seen.Seen.TheVariants.{Stamp, Zero, Other}
+use Rattle.bc_script.specs.Last.{Goes, IsLast, Prints}
 use Rattle.bc_script.specs.Runs.{IsSeen, AreSeen, is_joined, Run, onto_runs, runs_of, seen_text, run_text, runs_text}
 
--- the sectors so far are printed but for a run that may go on
-abbrev pub IsPrinted : ℕ → List Value → Seen → ℕ → List ℕ → Type 0
-IsPrinted first values run count text = (seen : List Seen) × AreSeen first values seen × ((rest : List Seen) → runs_text (seen ++ rest) ≡ text ++ runs_text (replicate count run ++ rest))
-
 -- a run of more than one sector is of those that are joined
-abbrev pub IsOneRun : Seen → ℕ → Type 0
-IsOneRun run count = (1 ≤ count) × ((count ≡ 1) ⊎ (is_joined run run ≡ true))
+abbrev IsOneRun : Seen → ℕ → Type 0
+IsOneRun run count = (1 ≤ count) × ((count ≤ 1) ⊎ (is_joined run run ≡ true))
 
 same : (x y : Seen) → is_joined x y ≡ true → x ≡ y
 same (Stamp a) (Stamp b) h = ap Stamp (eqb-true a b h)
@@ -28,9 +34,6 @@ same Zero (Other b) h = absurd (cc)
 same (Other a) (Stamp b) h = absurd (cc)
 same (Other a) Zero h = absurd (cc)
 same (Other a) (Other b) h = absurd (cc)
-
-pub self_joined : (x y : Seen) → is_joined x y ≡ true → is_joined x x ≡ true
-self_joined x y h = subst (λ (z : Seen). is_joined x z ≡ true) (sym (same x y h)) h
 
 pub seen_push : (first : ℕ) (vs : List Value) (xs : List Seen) (v : Value) (x : Seen) → AreSeen first vs xs → IsSeen (first + length vs) v x → AreSeen first (vs ++ v ∷ []) (xs ++ x ∷ [])
 seen_push first [] [] v x h one = let P : ℕ → Type 0 = λ n. IsSeen n v x in (subst P (omega arith) one, tt)
@@ -62,7 +65,7 @@ one_apart x y ys apart =
     ∙ ap (λ (rs : List Run). record { seen = x; count = 1 } ∷ rs) (sym h.2)
 
 -- a whole run, where the sectors behind it are of another
-stretch : (n : ℕ) (x : Seen) (zs : List Seen) → runs_of (x ∷ zs) ≡ record { seen = x; count = 1 } ∷ runs_of zs → (suc n ≡ 1) ⊎ (is_joined x x ≡ true)
+stretch : (n : ℕ) (x : Seen) (zs : List Seen) → runs_of (x ∷ zs) ≡ record { seen = x; count = 1 } ∷ runs_of zs → (suc n ≤ 1) ⊎ (is_joined x x ≡ true)
     → runs_of (replicate (suc n) x ++ zs) ≡ record { seen = x; count = suc n } ∷ runs_of zs
 stretch zero x zs ends one = ends
 stretch (suc n) x zs ends (inl few) = absurd (omega arith)
@@ -86,54 +89,179 @@ text_apart n x y ys apart one =
 text_last : (n : ℕ) (x : Seen) → IsOneRun x n → runs_text (replicate n x ++ []) ≡ seen_text x n
 text_last n x one = ap (λ (rs : List Run). join_with_byte 32 (map run_text rs)) (whole_run n x [] refl one)
 
--- the first sector
-pub begins : (first : ℕ) (values : List Value) (v : Value) (x : Seen) → 0 < length values → slice_get values 0 ≡ Some v → IsSeen first v x → IsPrinted first (take 1 values) x 1 []
-begins first [] v x some is one = absurd (omega arith)
-begins first (w ∷ ws) v x some is one =
-    let P : Value → Type 0 = λ u. IsSeen first u x in
-    (x ∷ [], (subst P (sym (get_or_from_slice_get (w ∷ ws) 0 v w is)) one, tt), λ rest. refl)
+-- sectors of other values behind those
+pub seen_append : (first : ℕ) (vs ws : List Value) (xs ys : List Seen) → AreSeen first vs xs → AreSeen (first + length vs) ws ys → AreSeen first (vs ++ ws) (xs ++ ys)
+seen_append first [] ws [] ys h more = let P : ℕ → Type 0 = λ n. AreSeen n ws ys in subst P (omega arith) more
+seen_append first [] ws (x ∷ xs) ys h more = absurd h
+seen_append first (v ∷ vs) ws [] ys h more = absurd h
+seen_append first (v ∷ vs) ws (x ∷ xs) ys h more =
+    let P : ℕ → Type 0 = λ n. AreSeen n ws ys in
+    let e : first + suc (length vs) ≡ suc first + length vs = omega arith in
+    (h.0, seen_append (suc first) vs ws xs ys h.1 (subst P e more))
 
--- the values with one more
-taken : (values : List Value) (place : ℕ) (v : Value) → place < length values → slice_get values place ≡ Some v → take (place + 1) values ≡ take place values ++ v ∷ []
-taken values place v lt is = take_more values place v lt ∙ ap (λ (u : Value). take place values ++ u ∷ []) (get_or_from_slice_get values place v v is)
+-- what is seen in the sectors of a run
+pub patterns_seen : (n stamp first : ℕ) → 1 ≤ stamp → stamp < 2 ^ 64 → AreSeen first (patterns stamp first n) (replicate n (Stamp stamp))
+patterns_seen zero stamp first some fits = tt
+patterns_seen (suc n) stamp first some fits = (((some, refl), fits), patterns_seen n stamp (suc first) some fits)
 
--- one sector more of the run
-pub goes_on : (first place count : ℕ) (values : List Value) (v : Value) (run next : Seen) (text : List ℕ) → place < length values → slice_get values place ≡ Some v
-    → IsSeen (first + place) v next → is_joined run next ≡ true → IsPrinted first (take place values) run count text → IsPrinted first (take (place + 1) values) run (count + 1) text
-goes_on first place count values v run next text lt is one joined h =
-    let len = length-take-le place values (omega arith) in
-    let P : ℕ → Type 0 = λ n. IsSeen n v next in
-    let Q : List Value → Type 0 = λ vs. IsPrinted first vs run (count + 1) text in
-    subst Q (sym (taken values place v lt is)) (
-      h.0 ++ next ∷ [],
-      seen_push first (take place values) h.0 v next h.1 (subst P (ap (λ n. first + n) (sym len)) one),
-      λ rest. ap (λ (xs : List Seen). runs_text xs) (append_assoc h.0 (next ∷ []) rest) ∙ h.2 (next ∷ rest)
-          ∙ ap (λ (y : Seen). text ++ runs_text (replicate count run ++ y ∷ rest)) (sym (same run next joined))
-          ∙ ap (λ (xs : List Seen). text ++ runs_text xs) (sym (append_assoc (replicate count run) (run ∷ []) rest) ∙ ap (λ (xs : List Seen). xs ++ rest) (replicate_more count run)),
-    )
+pub zeros_seen : (n first : ℕ) → AreSeen first (replicate n zeros) (replicate n Zero)
+zeros_seen zero first = tt
+zeros_seen (suc n) first = (refl, zeros_seen n (suc first))
 
--- a sector of another run
-pub next_run : (first place count : ℕ) (values : List Value) (v : Value) (run next : Seen) (text after new : List ℕ) → place < length values → slice_get values place ≡ Some v
-    → IsSeen (first + place) v next → is_joined run next ≡ false → IsOneRun run count → after ≡ text ++ seen_text run count → new ≡ after ++ 32 ∷ []
-    → IsPrinted first (take place values) run count text → IsPrinted first (take (place + 1) values) next 1 new
-next_run first place count values v run next text after new lt is one apart whole is_after is_new h =
-    let len = length-take-le place values (omega arith) in
-    let P : ℕ → Type 0 = λ n. IsSeen n v next in
-    let Q : List Value → Type 0 = λ vs. IsPrinted first vs next 1 new in
-    subst Q (sym (taken values place v lt is)) (
-      h.0 ++ next ∷ [],
-      seen_push first (take place values) h.0 v next h.1 (subst P (ap (λ n. first + n) (sym len)) one),
-      λ rest. ap (λ (xs : List Seen). runs_text xs) (append_assoc h.0 (next ∷ []) rest) ∙ h.2 (next ∷ rest)
-          ∙ ap (λ (bs : List ℕ). text ++ bs) (text_apart count run next rest apart whole)
-          ∙ sym (append_assoc text (seen_text run count) (32 ∷ runs_text (next ∷ rest)))
-          ∙ ap (λ (bs : List ℕ). bs ++ 32 ∷ runs_text (next ∷ rest)) (sym is_after)
-          ∙ sym (append_assoc after (32 ∷ []) (runs_text (next ∷ rest)))
-          ∙ ap (λ (bs : List ℕ). bs ++ runs_text (next ∷ rest)) (sym is_new),
-    )
+-- ---- the run that goes on
 
--- the last run is printed
-pub ends : (first place count : ℕ) (values : List Value) (run : Seen) (text new : List ℕ) → take place values ≡ values → IsOneRun run count → new ≡ text ++ seen_text run count
-    → IsPrinted first (take place values) run count text → (seen : List Seen) × AreSeen first values seen × (new ≡ runs_text seen)
-ends first place count values run text new all whole is_new h =
-    let P : List Value → Type 0 = λ vs. AreSeen first vs h.0 in
-    (h.0, subst P all h.1, is_new ∙ ap (λ (bs : List ℕ). text ++ bs) (sym (text_last count run whole)) ∙ sym (h.2 []) ∙ ap (λ (xs : List Seen). runs_text xs) (append-nil h.0))
+-- nothing came yet
+pub prints_none : (last : Last) → last.count ≡ 0 → Prints [] last []
+prints_none last none = λ rest. sym (ap (λ n. runs_text (replicate n last.seen ++ rest)) none)
+
+-- the first sectors come
+pub prints_first : (xs : List Seen) (x : Seen) (n : ℕ) (old new : Last) (text : List ℕ) → old.count ≡ 0 → new.seen ≡ x → new.count ≡ n → Prints xs old text → Prints (xs ++ replicate n x) new text
+prints_first xs x n old new text none seen count h = λ rest.
+    ap (λ (zs : List Seen). runs_text zs) (append_assoc xs (replicate n x) rest) ∙ h (replicate n x ++ rest)
+    ∙ ap (λ k. text ++ runs_text (replicate k old.seen ++ (replicate n x ++ rest))) none
+    ∙ ap (λ (y : Seen). text ++ runs_text (replicate n y ++ rest)) (sym seen) ∙ ap (λ k. text ++ runs_text (replicate k new.seen ++ rest)) (sym count)
+
+-- the run goes on
+pub prints_joined : (xs : List Seen) (x : Seen) (n : ℕ) (old new : Last) (text : List ℕ) → is_joined old.seen x ≡ true → new.seen ≡ old.seen → new.count ≡ old.count + n
+    → Prints xs old text → Prints (xs ++ replicate n x) new text
+prints_joined xs x n old new text joined seen count h = λ rest.
+    ap (λ (zs : List Seen). runs_text zs) (append_assoc xs (replicate n x) rest) ∙ h (replicate n x ++ rest)
+    ∙ ap (λ (y : Seen). text ++ runs_text (replicate old.count old.seen ++ (replicate n y ++ rest))) (sym (same old.seen x joined))
+    ∙ ap (λ (zs : List Seen). text ++ runs_text zs) (sym (append_assoc (replicate old.count old.seen) (replicate n old.seen) rest) ∙ ap (λ (zs : List Seen). zs ++ rest) (replicate-append-replicate old.count n old.seen))
+    ∙ ap (λ (y : Seen). text ++ runs_text (replicate (old.count + n) y ++ rest)) (sym seen) ∙ ap (λ k. text ++ runs_text (replicate k new.seen ++ rest)) (sym count)
+
+-- another one comes
+pub prints_next : (xs : List Seen) (x : Seen) (n : ℕ) (old new : Last) (text after then_ : List ℕ) → is_joined old.seen x ≡ false → 1 ≤ old.count → IsLast old → 1 ≤ n → new.seen ≡ x → new.count ≡ n
+    → after ≡ text ++ seen_text old.seen old.count → then_ ≡ after ++ 32 ∷ [] → Prints xs old text → Prints (xs ++ replicate n x) new then_
+prints_next xs x zero old new text after then_ apart some one more seen count is_after is_then h = absurd (omega arith)
+prints_next xs x (suc n) old new text after then_ apart some one more seen count is_after is_then h = λ rest.
+    let next = x ∷ (replicate n x ++ rest) in
+    ap (λ (zs : List Seen). runs_text zs) (append_assoc xs (replicate (suc n) x) rest) ∙ h next
+    ∙ ap (λ (bs : List ℕ). text ++ bs) (text_apart old.count old.seen x (replicate n x ++ rest) apart (some, one))
+    ∙ sym (append_assoc text (seen_text old.seen old.count) (32 ∷ runs_text next))
+    ∙ ap (λ (bs : List ℕ). bs ++ 32 ∷ runs_text next) (sym is_after)
+    ∙ sym (append_assoc after (32 ∷ []) (runs_text next))
+    ∙ ap (λ (bs : List ℕ). bs ++ runs_text next) (sym is_then)
+    ∙ ap (λ (y : Seen). then_ ++ runs_text (replicate (suc n) y ++ rest)) (sym seen) ∙ ap (λ k. then_ ++ runs_text (replicate k new.seen ++ rest)) (sym count)
+
+-- no more comes
+pub prints_end : (xs : List Seen) (last : Last) (text new : List ℕ) → 1 ≤ last.count → IsLast last → new ≡ text ++ seen_text last.seen last.count → Prints xs last text → new ≡ runs_text xs
+prints_end xs last text new some one is_new h =
+    is_new ∙ ap (λ (bs : List ℕ). text ++ bs) (sym (text_last last.count last.seen (some, one))) ∙ sym (h []) ∙ ap (λ (zs : List Seen). runs_text zs) (append-nil xs)
+
+pub prints_nothing : (xs : List Seen) (last : Last) (text : List ℕ) → last.count ≡ 0 → Prints xs last text → text ≡ runs_text xs
+prints_nothing xs last text none h =
+    sym (append-nil text) ∙ ap (λ k. text ++ runs_text (replicate k last.seen ++ [])) (sym none) ∙ sym (h []) ∙ ap (λ (zs : List Seen). runs_text zs) (append-nil xs)
+
+-- ---- values
+
+pub goes_none : (first : ℕ) (last : Last) (text : List ℕ) → IsLast last → Goes first [] last last text text
+goes_none first last text one = record {
+  last = one;
+  few = omega arith;
+  prints = λ xs h. ([], tt, let P : List Seen → Type 0 = λ zs. Prints zs last text in subst P (sym (append-nil xs)) h);
+}
+
+pub goes_then : (first : ℕ) (vs ws : List Value) (a b c : Last) (s t u : List ℕ) → Goes first vs a b s t → Goes (first + length vs) ws b c t u → Goes first (vs ++ ws) a c s u
+goes_then first vs ws a b c s t u h more = record {
+  last = more.last;
+  few = (let p = h.few in let q = more.few in let n = length-append vs ws in omega arith);
+  prints = λ xs is.
+      let one = h.prints xs is in
+      let two = more.prints (xs ++ one.0) one.2 in
+      let P : List Seen → Type 0 = λ zs. Prints zs c u in
+      (one.0 ++ two.0, seen_append first vs ws one.0 two.0 one.1 two.1, subst P (append_assoc xs one.0 two.0) two.2);
+}
+
+-- sectors in which the same is seen
+pub goes_same : (first n : ℕ) (x : Seen) (values : List Value) (a b : Last) (s t : List ℕ) → IsLast b → b.count ≤ a.count + n → length values ≡ n → AreSeen first values (replicate n x)
+    → ((xs : List Seen) → Prints xs a s → Prints (xs ++ replicate n x) b t) → Goes first values a b s t
+goes_same first n x values a b s t one few long seen prints = record {
+  last = one;
+  few = omega arith;
+  prints = λ xs is. (replicate n x, seen, prints xs is);
+}
+
+-- one sector more
+pub goes_one : (first place : ℕ) (values : List Value) (v : Value) (x : Seen) (a b c : Last) (s t u : List ℕ) → place < length values → slice_get values place ≡ Some v → IsSeen (first + place) v x
+    → IsLast c → c.count ≤ b.count + 1 → ((xs : List Seen) → Prints xs b t → Prints (xs ++ x ∷ []) c u) → Goes first (take place values) a b s t → Goes first (take (place + 1) values) a c s u
+goes_one first place values v x a b c s t u lt is seen one few prints h =
+    let len : length (take place values) ≡ place = length-take-le place values (omega arith) in
+    let more : take (place + 1) values ≡ take place values ++ v ∷ [] = take_more values place v lt ∙ ap (λ (w : Value). take place values ++ w ∷ []) (get_or_from_slice_get values place v v is) in
+    let P : ℕ → Type 0 = λ n. IsSeen (first + n) v x in
+    let Q : List Value → Type 0 = λ vs. Goes first vs a c s u in
+    subst Q (sym more) (goes_then first (take place values) (v ∷ []) a b c s t u h (record {
+      last = one;
+      few = few;
+      prints = λ xs was. (x ∷ [], (subst P (sym len) seen, tt), prints xs was);
+    }))
+
+all_more : (i : ℕ) (runs : List Kept) (run : Kept) → i < length runs → run ≡ get_or runs i run → all_values (take (i + 1) runs) ≡ all_values (take i runs) ++ values_in run
+all_more i runs run lt is =
+    ap (λ (rs : List Kept). all_values rs) (take_more runs i run lt ∙ ap (λ (r : Kept). take i runs ++ r ∷ []) (sym is))
+    ∙ flat_map-append values_in (take i runs) (run ∷ []) ∙ ap (λ (vs : List Value). all_values (take i runs) ++ vs) (append-nil (values_in run))
+
+pub length_more : (i : ℕ) (runs : List Kept) (run : Kept) → i < length runs → run ≡ get_or runs i run → length (all_values (take (i + 1) runs)) ≡ length (all_values (take i runs)) + length (values_in run)
+length_more i runs run lt is = ap (λ (vs : List Value). length vs) (all_more i runs run lt is) ∙ length-append (all_values (take i runs)) (values_in run)
+
+-- one run more
+pub goes_run : (first next i : ℕ) (runs : List Kept) (run : Kept) (a b c : Last) (s t u : List ℕ) → i < length runs → run ≡ get_or runs i run → next ≡ first + length (all_values (take i runs))
+    → Goes first (all_values (take i runs)) a b s t → Goes next (values_in run) b c t u → Goes first (all_values (take (i + 1) runs)) a c s u
+goes_run first next i runs run a b c s t u lt is at h more =
+    let P : ℕ → Type 0 = λ n. Goes n (values_in run) b c t u in
+    let Q : List Value → Type 0 = λ vs. Goes first vs a c s u in
+    subst Q (sym (all_more i runs run lt is)) (goes_then first (all_values (take i runs)) (values_in run) a b c s t u h (subst P at more))
+
+-- ---- at a result
+
+pub all_ok : {T E A B C D : Type 0} (r : Result T E) → OnOk r A → OnOk r B → OnOk r C → (A → B → C → D) → OnOk r D
+all_ok (Ok x) a b c f = f a b c
+all_ok (Err e) a b c f = tt
+
+-- sectors with the patterns of a stamp
+pub goes_pattern : {T E : Type 0} (r : Result T E) (first n stamp : ℕ) (a b : Last) (s t : List ℕ) → 1 ≤ stamp → stamp < 2 ^ 64
+    → OnOk r (IsLast b) → OnOk r (b.count ≤ a.count + n) → OnOk r ((xs : List Seen) → Prints xs a s → Prints (xs ++ replicate n (Stamp stamp)) b t) → OnOk r (Goes first (patterns stamp first n) a b s t)
+goes_pattern r first n stamp a b s t some fits one few prints = all_ok r one few prints (λ last count more.
+    goes_same first n (Stamp stamp) (patterns stamp first n) a b s t last count (length_patterns stamp first n) (patterns_seen n stamp first some fits) more)
+
+-- a run of them
+pub goes_run_of : {T E : Type 0} (r : Result T E) (first own n stamp : ℕ) (run : Kept) (a b : Last) (s t : List ℕ) → run ≡ Pattern stamp own n → own ≡ first
+    → OnOk r (Goes first (patterns stamp first n) a b s t) → OnOk r (Goes first (values_in run) a b s t)
+goes_run_of r first own n stamp run a b s t is at h =
+    let values : values_in run ≡ patterns stamp first n = ap (λ (k : Kept). values_in k) is ∙ ap (λ m. patterns stamp m n) at in
+    let P : List Value → Type 0 = λ vs. OnOk r (Goes first vs a b s t) in
+    subst P (sym values) h
+
+-- a run of zeros
+pub goes_zeros : {T E : Type 0} (r : Result T E) (first n : ℕ) (run : Kept) (a b : Last) (s t : List ℕ) → run ≡ Zeros n
+    → OnOk r (IsLast b) → OnOk r (b.count ≤ a.count + n) → OnOk r ((xs : List Seen) → Prints xs a s → Prints (xs ++ replicate n Zero) b t) → OnOk r (Goes first (values_in run) a b s t)
+goes_zeros r first n run a b s t is one few prints = all_ok r one few prints (λ last count more.
+    let P : List Value → Type 0 = λ vs. Goes first vs a b s t in
+    subst P (sym (ap (λ (k : Kept). values_in k) is)) (goes_same first n Zero (replicate n zeros) a b s t last count (length-replicate n zeros) (zeros_seen n first) more))
+
+-- the text at the end
+pub ends : {T E : Type 0} (r : Result T E) (last : Last) (text new : List ℕ) → 1 ≤ last.count → IsLast last → OnOk r (new ≡ text ++ seen_text last.seen last.count)
+    → OnOk r ((xs : List Seen) → Prints xs last text → new ≡ runs_text xs)
+ends (Ok x) last text new some one is = λ xs h. prints_end xs last text new some one is h
+ends (Err e) last text new some one is = tt
+
+-- the run of an option behind others
+pub option_run : (rest : List Kept) (last : Option Kept) → All IsRun (rest ++ option_to_list last) → All IsRun (option_to_list last)
+option_run rest last all =
+    let Q : List Kept → Type 0 = λ rs. All IsRun rs in
+    subst Q (drop-append_seam rest (option_to_list last)) (All-drop IsRun (length rest) (rest ++ option_to_list last) all)
+
+pub room_runs : (rest more : List Kept) (values : List Value) → all_values (rest ++ more) ≡ values → length (all_values rest) + length (all_values more) ≡ length values
+room_runs rest more values is = sym (length-append (all_values rest) (all_values more)) ∙ ap (λ (vs : List Value). length vs) (sym (flat_map-append values_in rest more) ∙ is)
+
+-- all of a read
+pub all_printed : (first next : ℕ) (rest more : List Kept) (values : List Value) (a b c : Last) (s t u : List ℕ) (new : List ℕ) → a.count ≡ 0 → s ≡ [] → next ≡ first + length (all_values rest)
+    → all_values (rest ++ more) ≡ values → Goes first (all_values rest) a b s t → Goes next (all_values more) b c t u → ((xs : List Seen) → Prints xs c u → new ≡ runs_text xs)
+    → (seen : List Seen) × AreSeen first values seen × (new ≡ runs_text seen)
+all_printed first next rest more values a b c s t u new none empty at is h then_ end =
+    let P : ℕ → Type 0 = λ n. Goes n (all_values more) b c t u in
+    let Q : List Value → Type 0 = λ vs. Goes first vs a c s u in
+    let R : List ℕ → Type 0 = λ bs. Prints [] a bs in
+    let all = subst Q (sym (flat_map-append values_in rest more) ∙ is) (goes_then first (all_values rest) (all_values more) a b c s t u h (subst P at then_)) in
+    let got = all.prints [] (subst R (sym empty) (prints_none a none)) in
+    (got.0, got.1, end got.0 got.2)

@@ -6,7 +6,7 @@ use Rattle.std.proofs.lemmas.List.Splits.{slice_split_first, slice_split_none}
 use Rattle.std.proofs.lemmas.List.Sums.{prefix_len-le-length, fails_before_first, passes_at_first}
 use Rattle.std.proofs.lemmas.List.{take_all, drop_all, drop_more}
 use Rattle.std.proofs.lemmas.Bool.{cases_lt}
-use Rattle.bc_script.specs.Line.{is_space, is_word, words}
+use Rattle.bc_script.specs.Line.{is_space, is_word, front, words}
 
 -- spaces in front make no word
 pub behind_blank : (text : List ℕ) → words text ≡ words (drop (position_or_len (λ b. not (is_space b)) text) text)
@@ -79,3 +79,23 @@ a_word text back word rest blank n is_blank is_back is_n some is_word is_rest =
     behind_blank text ∙ ap (λ (bs : List ℕ). words bs) (sym same) ∙ word_taken back (omega arith)
     ∙ ap (λ k. take k back ∷ words (drop k back)) (sym is_n)
     ∙ ap (λ (w : List ℕ). w ∷ words (drop n back)) (sym is_word) ∙ ap (λ (r : List ℕ). word ∷ words r) (sym is_rest)
+
+-- what is left once the spaces are taken begins with a word
+pub some_behind : (text back : List ℕ) (blank : ℕ) → blank ≡ position_or_len (λ b. not (is_space b)) text → back ≡ drop blank text → (length back ≡ 0 → ⊥) → 0 < position_or_len is_space back
+some_behind text back blank is_blank is_back some = go (cases_lt 0 (position_or_len is_space back))
+  where
+    go : (0 < position_or_len is_space back) ⊎ (position_or_len is_space back ≤ 0) → 0 < position_or_len is_space back
+    go (inl lt) = lt
+    go (inr le) =
+        let same : back ≡ drop (position_or_len (λ b. not (is_space b)) text) text = is_back ∙ ap (λ k. drop k text) is_blank in
+        let none : position_or_len is_space back ≡ 0 = omega arith in
+        absurd (some (ap (λ (bs : List ℕ). length bs) (same ∙ word_behind text (ap (λ (bs : List ℕ). position_or_len is_space bs) (sym same) ∙ none))))
+
+pub nothing_behind : (text back : List ℕ) (blank : ℕ) → blank ≡ position_or_len (λ b. not (is_space b)) text → back ≡ drop blank text → back ≡ [] → words text ≡ []
+nothing_behind text back blank is_blank is_back none =
+    behind_blank text ∙ ap (λ k. words (drop k text)) (sym is_blank) ∙ ap (λ (bs : List ℕ). words bs) (sym is_back ∙ none)
+
+pub front_word : (text back rest : List ℕ) (blank end : ℕ) → blank ≡ position_or_len (λ b. not (is_space b)) text → back ≡ drop blank text → 0 < position_or_len is_space back
+    → end ≡ position_or_len is_space back → rest ≡ drop end back → words text ≡ front back ∷ words rest
+front_word text back rest blank end is_blank is_back some is_end is_rest =
+    a_word text back (front back) rest blank (position_or_len is_space back) is_blank is_back refl (λ none. omega arith) refl (is_rest ∙ ap (λ k. drop k back) is_end)

@@ -25,8 +25,12 @@ bytes_read lines part = 81 * length lines + length part
 abbrev pub IsValid : Draft → Type 0
 IsValid draft = IsDraft draft.lines.items draft.phase draft.part.items
 
+-- the same where this is the part
+abbrev pub Reaches : List ℕ → Draft → List ℕ → List ℕ → Type 0
+Reaches text draft part left = IsSoFar text draft.lines.items draft.phase part left
+
 abbrev pub Continues : List ℕ → Draft → List ℕ → Type 0
-Continues text draft left = IsSoFar text draft.lines.items draft.phase draft.part.items left
+Continues text draft left = Reaches text draft draft.part.items left
 
 abbrev pub size_of : Draft → ℕ
 size_of draft = bytes_read draft.lines.items draft.part.items

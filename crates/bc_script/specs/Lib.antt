@@ -5,6 +5,7 @@ pub mod Proper
 pub mod Trace
 pub mod Draft
 pub mod Runs
+pub mod Last
 pub mod Answer
 pub mod Served
 pub mod Example

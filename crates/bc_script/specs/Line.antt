@@ -1,6 +1,6 @@
 -- What the text of one line of a trace says, without its newline: the first word from the left that doesn't fit refuses it.
-use Rattle.std.specs.Prelude.{ℕ, ◌-◌, ◌<◌, ◌≤◌, ◌^◌, ◌&&◌, Bool, true, false, List, [], ◌∷◌, length, filter, codes, ◌==◌, nat_le, nat_lt, Option, Some, None, Result, Ok, Err, if◌then◌else◌}
-use Rattle.std.specs.List.{slice_split, list_all}
+use Rattle.std.specs.Prelude.{ℕ, ◌-◌, ◌^◌, ◌&&◌, Bool, true, false, List, [], ◌∷◌, length, take, filter, codes, ◌==◌, nat_le, nat_lt, Option, Some, None, Result, Ok, Err, if◌then◌else◌}
+use Rattle.std.specs.List.{slice_split, list_all, position_or_len}
 use Rattle.std.specs.Char.{is_ascii_digit}
 use Rattle.std.specs.Str.{bytes_eq}
 use Rattle.std.specs.Str.Parse.{digits_value}
@@ -24,6 +24,10 @@ is_word (b ∷ bs) = true
 -- what stands between the spaces
 abbrev pub words : List ℕ → List (List ℕ)
 words text = filter is_word (slice_split is_space text)
+
+-- the word in front, up to the first space
+abbrev pub front : List ℕ → List ℕ
+front text = take (position_or_len is_space text) text
 
 -- one decimal digit or more, of a value below 2 ^ 64
 unfoldable pub number_in : List ℕ → Option ℕ

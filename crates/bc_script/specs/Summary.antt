@@ -1,7 +1,6 @@
 -- What is said of a trace that was served as a whole.
-use Rattle.std.specs.Prelude.{◌≡◌, ℕ, suc, ◌+◌, ◌%◌, ◌^◌, Bool, true, false, List, [], ◌∷◌, ◌++◌, length, count_by, sum_by, codes}
+use Rattle.std.specs.Prelude.{◌≡◌, ℕ, ◌+◌, ◌%◌, ◌^◌, Bool, true, false, List, [], ◌∷◌, ◌++◌, length, count_by, sum_by, codes}
 use Rattle.std.specs.Fmt.{decimal}
-use Rattle.bc_model.specs.Sector.{Value}
 use Rattle.bc_script.specs.declared.line.Action.{Action}
 use Rattle.bc_script.specs.declared.line.Action.TheVariants.{Write, ForcedWrite, Read, Flush, Round}
 use Rattle.bc_script.specs.declared.line.Line.{Line}

@@ -6,7 +6,7 @@ use crate::line::{Action, Line};
 
 /// What a text of one line says, whichever phase it stands in.
 #[derive(Clone, Copy, Debug, PartialEq, Eq, Drop)]
-pub(crate) enum Form {
+pub enum Form {
     /// It is a comment, or has no words.
     Quiet,
     /// It ends a phase.

@@ -13,7 +13,7 @@ ghost use Rattle.bc_script.specs.Answer.{IsText};
 ghost use Rattle.bc_script.specs.Served.{IsOf, ServesLine, Served, ServedFrom};
 ghost use Rattle.bc_script.specs.Expected.{AllAnswered, answers_of};
 ghost use Rattle.bc_script.specs.Generator.{drawn_line, generated, heights, region_of, worker_of, Touches};
-ghost use Rattle.bc_script.specs.Example.{ten_heights, ten_lines, example_lines, example_answers, example_history, unfinished_history};
+ghost use Rattle.bc_script.specs.Example.{beside_lines, beside_answers, beside_history, undurable_history, phase_lines, phase_answers, phase_history, broken_history, refused_lines, refused_answers, refused_history, missing_history, ten_heights, ten_lines, example_lines, example_answers, example_history, unfinished_history};
 
 /// The lines of a text, each with a newline behind it, are the text, or the text and the newline
 /// that its last line lacks; and no line has a newline in it.
@@ -52,6 +52,27 @@ pub fn served_grows()
 pub fn served_example()
     ensures meets { Served 64 example_lines example_answers example_history }
     ensures misses { Served 64 example_lines example_answers unfinished_history → ⊥ }
+{}
+
+/// Two workers of one phase are served beside each other, a forced write with its acknowledgement;
+/// without that entry they aren't.
+pub fn served_beside()
+    ensures meets { Served 64 beside_lines beside_answers beside_history }
+    ensures misses { Served 64 beside_lines beside_answers undurable_history → ⊥ }
+{}
+
+/// The requests of a phase are served behind those of the phases before, also where another worker
+/// asked.
+pub fn served_in_phases()
+    ensures meets { Served 64 phase_lines phase_answers phase_history }
+    ensures broken { Served 64 phase_lines phase_answers broken_history → ⊥ }
+{}
+
+/// A write whose second piece is refused has the entry of its first, and the device may have tried
+/// the second; without the first entry it isn't served.
+pub fn served_refused()
+    ensures meets { Served 1024 refused_lines refused_answers refused_history }
+    ensures misses { Served 1024 refused_lines refused_answers missing_history → ⊥ }
 {}
 
 /// A trace whose lines have their entries one behind the other is served, and a trace of one worker

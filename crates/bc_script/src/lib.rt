@@ -6,8 +6,9 @@
 
 pub mod answer;
 mod draft;
-mod form;
+pub mod form;
 pub mod generator;
+mod last;
 pub mod laws;
 pub mod line;
 mod parse;

@@ -1,7 +1,7 @@
 //! Reads the text of one line.
 ghost use Rattle.std.specs.Prelude.{◌≡◌, ◌+◌, ◌≤◌, ◌<◌, ◌^◌, ◌-◌, ℕ, List, [], ◌∷◌, Some, None, Ok, Err, MatchOption, MatchResult, IfOk, IsTrue, not, length, ◌↔◌};
 ghost use Rattle.std.specs.List.{position_or_len};
-ghost use Rattle.bc_script.specs.Line.{is_space, is_comment, is_phase_end, words, number_in, number_at, field_at, at_end, range_at, stamped_in, write_in, forced_in, read_in, asked_by, action_in, request_in, said_in, form_in};
+ghost use Rattle.bc_script.specs.Line.{is_space, front, is_comment, is_phase_end, words, number_in, number_at, field_at, at_end, range_at, stamped_in, write_in, forced_in, read_in, asked_by, action_in, request_in, said_in, form_in};
 ghost use Rattle.bc_script.specs.Proper.{IsProper, IsProperForm, IsRange, IsLine};
 ghost use Rattle.bc_script.specs.Serving.{line_in};
 ghost use Rattle.bc_script.specs.Trace.{line_of};
@@ -24,6 +24,7 @@ const MOST_COUNT: u64 = 2048;
 const MOST_WORKER: u64 = 16;
 
 // How many spaces stand in front.
+#[inline(always)]
 fn blank_len(text: &[u8]) -> usize
     ensures place { result ≡ position_or_len (λ b. not (is_space b)) text.now }
     ensures within { result ≤ length text.now }
@@ -37,6 +38,7 @@ fn blank_len(text: &[u8]) -> usize
 }
 
 // How many bytes stand before the first space.
+#[inline(always)]
 fn word_len(text: &[u8]) -> usize
     ensures place { result ≡ position_or_len is_space text.now }
     ensures within { result ≤ length text.now }
@@ -50,6 +52,7 @@ fn word_len(text: &[u8]) -> usize
 }
 
 // The first word, and the text behind it.
+#[inline(always)]
 fn first_word(text: &[u8]) -> Option<(&[u8], &[u8])>
     ensures { MatchOption result (words text.now ≡ [])
         (λ found. words text.now ≡ found.0.now ∷ words found.1.now) }
@@ -62,39 +65,46 @@ fn first_word(text: &[u8]) -> Option<(&[u8], &[u8])>
     Some(text.split_at(end))
 }
 
-// The number that a word spells.
-fn number_of(word: &[u8]) -> Option<u64>
-    ensures { result ≡ number_in word.now }
+// The number in the word in front of a text, and how many bytes it has.
+#[inline(always)]
+fn front_number(text: &[u8]) -> Option<(u64, usize)>
+    requires { 0 < position_or_len is_space text.now }
+    ensures { MatchOption result (number_in (front text.now) ≡ None)
+        (λ found. (number_in (front text.now) ≡ Some found.0)
+        × (found.1 ≡ position_or_len is_space text.now)) }
 {
-    if word.is_empty() {
-        return None;
-    }
     let mut value: u64 = 0;
-    for byte in word {
+    for (at, byte) in text.iter().enumerate() {
         if !byte.is_ascii_digit() {
+            if *byte == b' ' {
+                return Some((value, at));
+            }
             return None;
         }
         value = value.checked_mul(10)?.checked_add((*byte - b'0') as u64)?;
     }
-    Some(value)
+    Some((value, text.len()))
 }
 
 // The number in the first word, and the text behind it.
+#[inline(always)]
 fn first_number(text: &[u8]) -> Result<(u64, &[u8]), Reason>
     ensures { MatchResult result
         (λ found. number_at (words text.now) ≡ Ok (found.0, words found.1.now))
         (λ why. number_at (words text.now) ≡ Err why) }
 {
-    let Some((word, rest)) = first_word(text) else {
+    let (_, text) = text.split_at(blank_len(text));
+    if text.is_empty() {
         return Err(Reason::Word);
-    };
-    match number_of(word) {
-        Some(value) => Ok((value, rest)),
+    }
+    match front_number(text) {
+        Some((value, end)) => Ok((value, text.split_at(end).1)),
         None => Err(Reason::Number),
     }
 }
 
 // The number in the first word, which is to lie in this range, else the line is refused for that.
+#[inline(always)]
 #[tactic(auto, unfolding(crate::specs::Line::field_at))]
 fn first_field(text: &[u8], why: Reason, least: u64, most: u64) -> Result<(u64, &[u8]), Reason>
     ensures found { MatchResult result
@@ -110,6 +120,7 @@ fn first_field(text: &[u8], why: Reason, least: u64, most: u64) -> Result<(u64, 
 }
 
 // What a line asks for that ends here.
+#[inline(always)]
 fn ending(text: &[u8], action: Action) -> Result<Action, Reason>
     ensures { result ≡ at_end (words text.now) action }
 {
@@ -120,6 +131,7 @@ fn ending(text: &[u8], action: Action) -> Result<Action, Reason>
 }
 
 // FIRST and COUNT, and the text behind them.
+#[inline(always)]
 #[tactic(auto, unfolding(crate::specs::Line::range_at))]
 fn first_range(text: &[u8]) -> Result<(u64, u32, &[u8]), Reason>
     ensures found { MatchResult result
@@ -133,6 +145,7 @@ fn first_range(text: &[u8]) -> Result<(u64, u32, &[u8]), Reason>
 }
 
 // FIRST, COUNT and STAMP.
+#[inline(always)]
 #[tactic(auto, unfolding(crate::specs::Line::stamped_in))]
 fn stamped_of(text: &[u8]) -> Result<(u64, u32, u64), Reason>
     ensures found { result ≡ stamped_in (words text.now) }
@@ -146,6 +159,7 @@ fn stamped_of(text: &[u8]) -> Result<(u64, u32, u64), Reason>
     Ok((first, count, stamp))
 }
 
+#[inline(always)]
 #[tactic(auto, unfolding(crate::specs::Line::write_in))]
 fn write_of(text: &[u8]) -> Result<Action, Reason>
     ensures found { result ≡ write_in (words text.now) }
@@ -159,6 +173,7 @@ fn write_of(text: &[u8]) -> Result<Action, Reason>
     })
 }
 
+#[inline(always)]
 #[tactic(auto, unfolding(crate::specs::Line::forced_in))]
 fn forced_of(text: &[u8]) -> Result<Action, Reason>
     ensures found { result ≡ forced_in (words text.now) }
@@ -172,6 +187,7 @@ fn forced_of(text: &[u8]) -> Result<Action, Reason>
     })
 }
 
+#[inline(always)]
 #[tactic(auto, unfolding(crate::specs::Line::read_in))]
 fn read_of(text: &[u8]) -> Result<Action, Reason>
     ensures found { result ≡ read_in (words text.now) }
@@ -181,6 +197,7 @@ fn read_of(text: &[u8]) -> Result<Action, Reason>
     ending(rest, Action::Read { first, count })
 }
 
+#[inline(always)]
 #[tactic(auto, unfolding(crate::specs::Line::asked_by))]
 fn asked_by(letter: u8, text: &[u8]) -> Result<Action, Reason>
     ensures found { result ≡ asked_by letter (words text.now) }
@@ -199,6 +216,7 @@ fn asked_by(letter: u8, text: &[u8]) -> Result<Action, Reason>
 }
 
 // What the words behind the worker's ask for.
+#[inline(always)]
 fn action_of(text: &[u8]) -> Result<Action, Reason>
     ensures found { result ≡ action_in (words text.now) }
     ensures proper { IfOk result IsProper }
@@ -212,6 +230,7 @@ fn action_of(text: &[u8]) -> Result<Action, Reason>
     }
 }
 
+#[inline(always)]
 #[tactic(auto, unfolding(crate::specs::Line::request_in))]
 fn request_of(text: &[u8]) -> Result<Form, Reason>
     ensures found { result ≡ request_in (words text.now) }
@@ -226,6 +245,7 @@ fn request_of(text: &[u8]) -> Result<Form, Reason>
 }
 
 // What the words of a line that is no comment say.
+#[inline(always)]
 fn said_of(text: &[u8]) -> Result<Form, Reason>
     ensures found { result ≡ said_in (words text.now) }
     ensures proper { IfOk result IsProperForm }
@@ -240,6 +260,7 @@ fn said_of(text: &[u8]) -> Result<Form, Reason>
 }
 
 // Whether a text is a comment.
+#[inline(always)]
 fn is_comment(text: &[u8]) -> bool
     ensures { result ≡ is_comment text.now }
 {
@@ -250,6 +271,7 @@ fn is_comment(text: &[u8]) -> bool
 }
 
 // What the text of a line says, by the whole grammar.
+#[inline(always)]
 #[tactic(auto, unfolding(crate::specs::Line::form_in))]
 fn form_of(text: &[u8]) -> Result<Form, Reason>
     ensures found { result ≡ form_in text.now }

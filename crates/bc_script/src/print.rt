@@ -7,9 +7,11 @@ ghost use Rattle.bc_script.specs.Answer.{asked_text, device_text, numbers_text, 
 ghost use Rattle.bc_script.specs.declared.seen.Seen.{Seen};
 
 use crate::answer::{Answer, Asked, Refusal};
+use crate::last::Last;
 use crate::seen::Seen;
 use bc_disk::disk::Device;
 use bc_model::values::Values;
+use itoa::Buffer;
 use std::alloc::{AllocError, Global};
 
 // A lower-case hexadecimal digit.
@@ -39,12 +41,12 @@ fn push_hex(text: &mut Vec<u8>, bytes: &[u8]) -> Result<(), AllocError>
 pub(crate) fn push_number(text: &mut Vec<u8>, number: u64) -> Result<(), AllocError>
     ensures { OnOk result (text.new.items ≡ text.old.items ++ decimal number) }
 {
-    let digits = number.to_string(*text.allocator())?;
-    text.extend_from_slice(digits.as_bytes())
+    let mut digits = Buffer::new();
+    text.extend_from_slice(digits.format(number).as_bytes())
 }
 
-// One run.
-fn push_run(text: &mut Vec<u8>, seen: &Seen, count: u32) -> Result<(), AllocError>
+/// So many sectors of one run.
+pub(crate) fn push_seen(text: &mut Vec<u8>, seen: &Seen, count: u32) -> Result<(), AllocError>
     ensures { OnOk result (text.new.items ≡ text.old.items ++ seen_text seen.now count) }
 {
     match seen {
@@ -64,28 +66,18 @@ fn push_run(text: &mut Vec<u8>, seen: &Seen, count: u32) -> Result<(), AllocErro
     }
 }
 
-// The runs of the sectors from `first` on, of which there is one at least.
+// The runs of the sectors from `first` on.
 fn runs_of(alloc: Global, first: u64, values: &Values) -> Result<Vec<u8>, AllocError>
-    requires some { 0 < length values.now }
     requires range { first + length values.now < 2 ^ 64 }
     ensures { IfOk result (λ text. (seen : List Seen)
         × AreSeen first values.now seen × (text.items ≡ runs_text seen)) }
 {
     let mut text = Vec::new(alloc);
-    let mut run = Seen::new(first, &values.get(0));
-    let mut count = 1;
-    for place in 1..values.len() {
-        let next = Seen::new(first + place as u64, &values.get(place));
-        if run.is_joined(&next) {
-            count += 1;
-        } else {
-            push_run(&mut text, &run, count)?;
-            text.push(b' ')?;
-            run = next;
-            count = 1;
-        }
-    }
-    push_run(&mut text, &run, count)?;
+    let runs = values.runs();
+    let mut last = Last::none();
+    let next = last.push_runs(first, &runs.rest, &mut text)?;
+    last.push_option(next, &runs.last, &mut text)?;
+    last.end(&mut text)?;
     Ok(text)
 }
 
@@ -157,7 +149,6 @@ fn text_of(alloc: Global, answer: &Answer) -> Result<Vec<u8>, AllocError>
     match answer {
         Answer::Silent => Ok(Vec::new(alloc)),
         Answer::Done => Vec::from_slice(alloc, b"done"),
-        Answer::Runs { values, .. } if values.is_empty() => Ok(Vec::new(alloc)),
         Answer::Runs { first, values } => runs_of(alloc, *first, values),
         Answer::Refused(refusal) => refusal_of(alloc, *refusal),
     }

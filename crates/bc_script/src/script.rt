@@ -4,7 +4,7 @@ ghost use Rattle.bc_script.specs.declared.script.TraceError.TheVariants.{Memory}
 
 use crate::line::Line;
 use crate::reason::Reason;
-use std::alloc::{AllocFailed, Global};
+use std::alloc::{AllocError, AllocFailed, Global};
 use std::marker::Model;
 
 /// The lines of a trace, in order.
@@ -87,6 +87,14 @@ pub enum TraceError {
     Fault,
     /// Memory ran out.
     Memory,
+}
+
+impl From<AllocError> for TraceError {
+    ghost from_gives = { λ _ e. e ≡ Memory };
+
+    fn from(_e: AllocError) -> TraceError {
+        TraceError::Memory
+    }
 }
 
 impl<T: Drop> From<AllocFailed<T>> for TraceError {

@@ -1,12 +1,15 @@
 //! Measures the texts of traces and answers, and the generator of traces: how long a trace of so many
 //! lines takes to be read, its answers to be printed, and as many lines to be generated.
-//! `bench/trace.c` has the plain loops beside it.
+//! `bench/trace.c` has the plain loops beside it. And it reads random lines with the reader of
+//! traces and with the plain one, which have to answer alike.
 #![tactic(auto)]
 
 ghost use Rattle.std.specs.Prelude.{◌<◌};
 
+mod lines;
 mod texts;
 
+use crate::lines::compare;
 use crate::texts::{answers_of, generated, print_all, text_of};
 use bc_disk::mem_source::MemSource;
 use bc_script::script::TraceError;
@@ -47,21 +50,48 @@ fn run<R: Clock + Print + AllocGlobal>(rt: &R, lines: u32, timed: bool) -> io::R
     Ok(ExitCode::SUCCESS)
 }
 
-// How many lines these arguments ask for, or `None` where they are wrong.
-fn lines_of(arguments: &[String]) -> Option<u32> {
+// Reads so many random lines with both readers, and prints how many both read and both refused, and
+// at how many they differed.
+fn run_random<R: Clock + Print + AllocGlobal>(rt: &R, lines: u32) -> io::Result<ExitCode> {
+    let all = compare(rt.alloc(), lines)?;
+    println!(rt;
+        "{} read {} refused {} differing",
+        all.read, all.refused, all.differing
+    )?;
+    Ok(ExitCode::from(u8::from(all.differing != 0)))
+}
+
+// What the arguments ask for.
+#[derive(Clone, Copy, Drop)]
+enum Task {
+    /// To measure with so many lines.
+    Measure(u32),
+    /// To read so many random lines.
+    Random(u32),
+}
+
+// What these arguments ask for, or `None` where they are wrong.
+fn task_of(arguments: &[String]) -> Option<Task> {
     match arguments {
-        [] => Some(100),
-        [lines] => lines.parse::<u32>().ok().filter(|lines| *lines <= 262_144),
+        [lines] => Some(Task::Measure(lines.parse::<u32>().ok()?)),
+        [word, lines] if word.as_str() == "random" => {
+            Some(Task::Random(lines.parse::<u32>().ok()?))
+        }
         _ => None,
     }
 }
 
 fn main(rt: HostRuntime) -> io::Result<ExitCode> {
     let arguments: Vec<String> = env::args(&rt)?.skip(1).collect(rt.alloc())?;
-    match lines_of(&arguments) {
-        Some(lines) if lines <= 262_144 => run(&rt, lines, !arguments.is_empty()),
+    if arguments.is_empty() {
+        let _measured = run(&rt, 100, false)?;
+        return run_random(&rt, 400);
+    }
+    match task_of(&arguments) {
+        Some(Task::Measure(lines)) if lines <= 262_144 => run(&rt, lines, true),
+        Some(Task::Random(lines)) => run_random(&rt, lines),
         _ => {
-            eprintln!(rt; "usage: bc_script_bench [LINES]")?;
+            eprintln!(rt; "usage: bc_script_bench [LINES | random LINES]")?;
             Ok(ExitCode::from(2))
         }
     }

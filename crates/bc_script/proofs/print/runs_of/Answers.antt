@@ -1,49 +1,39 @@
-use Rattle.std.proofs.Common.{◌∙◌, ◌<◌, ℕ, List, inl, inr, take, length, sym, subst, refl, arith}
-use Rattle.std.proofs.lemmas.List.{take_all}
-use Rattle.bc_script.proofs.Printed.{IsPrinted, begins, goes_on, next_run, self_joined, ends}
+use Rattle.std.proofs.Common.{◌∙◌, ◌+◌, ap, subst, List, length, arith}
+use Rattle.std.specs.Prelude.{option_to_list}
+use Rattle.bc_model.specs.declared.run.Run.{Run}
+use Rattle.bc_model.specs.Values.{all_values}
+use Rattle.bc_script.specs.Last.{Goes}
+use Rattle.bc_script.proofs.Printed.{all_printed, option_run, room_runs}
 use Rattle.bc_script.proofs.print.runs_of.Goals as goal
-use Rattle.bc_script.proofs.print.runs_of.Goals.{then-is_joined, else-is_joined+in_ok-push_run+in_ok-push}
 
-pub loop-place-init : goal.loop-place-init
-loop-place-init c = record {
-  one = (omega arith, inl refl);
-  count = omega arith;
-  printed =
-      let P : List ℕ → Type 0 = λ bs. IsPrinted c.args.first (take 1 c.args.values.now) c.new-run.result 1 bs in
-      subst P (sym c.new-text.ensures.items) (begins c.args.first c.args.values.now c.get.result c.new-run.result c.requires.some c.get.ensures c.new-run.ensures);
-}
+pub push_runs-requires-clause-room : goal.push_runs-requires-clause-room
+push_runs-requires-clause-room c =
+    let runs = c.runs-runs.result.now in
+    let long = room_runs runs.rest.items (option_to_list runs.last) c.args.values.now c.runs-runs.ensures.values in
+    let same = ap (λ (rs : List Run). length (all_values rs)) c.deref.ensures.value in
+    let few = c.runs-runs.ensures.few in
+    let none = c.none-last.ensures in
+    omega arith
 
-pub loop-place-preserved : goal.loop-place-preserved
-loop-place-preserved c =
-    let values = c.args.values.now in
-    let len = c.len-place-end.ensures in
-    let lt : c.loop-place.place < length values = omega arith in
-    let was = c.loop-place.invariant in
-    elim c.if-is_joined.branch [
-      | then-is_joined w ↦
-          let joined = sym c.is_joined.ensures ∙ w.if-is_joined.true in
-          let some = was.one.0 in
-          let count = was.count in
-          rw (w.text-is, w.run-is, w.count-is) (record {
-            one = (omega arith, inr (self_joined c.loop-place.run c.new-next.result joined));
-            count = omega arith;
-            printed = goes_on c.args.first c.loop-place.place c.loop-place.count values c.get-in-loop-place.result c.loop-place.run c.new-next.result c.loop-place.text.items
-                lt c.get-in-loop-place.ensures c.new-next.ensures joined was.printed;
-          })
-      | else-is_joined+in_ok-push_run+in_ok-push w ↦
-          let apart = sym c.is_joined.ensures ∙ w.if-is_joined.false in
-          let low = c.loop-place.auto.place in
-          rw (w.text-is, w.run-is, w.count-is) (record {
-            one = (omega arith, inl refl);
-            count = omega arith;
-            printed = next_run c.args.first c.loop-place.place c.loop-place.count values c.get-in-loop-place.result c.loop-place.run c.new-next.result c.loop-place.text.items
-                w.push_run.new.text.items w.push.new.self.items
-                lt c.get-in-loop-place.ensures c.new-next.ensures apart was.one w.in_ok-push_run.ensures w.in_ok-push.ensures.items was.printed;
-          })
-    ]
+pub push_option-requires-clause-runs : goal.push_option-requires-clause-runs
+push_option-requires-clause-runs c = option_run c.runs-runs.result.now.rest.items c.runs-runs.result.now.last c.runs-runs.ensures.runs
+
+pub push_option-requires-clause-room : goal.push_option-requires-clause-room
+push_option-requires-clause-room c =
+    let runs = c.runs-runs.result.now in
+    let long = room_runs runs.rest.items (option_to_list runs.last) c.args.values.now c.runs-runs.ensures.values in
+    let same = ap (λ (rs : List Run). length (all_values rs)) c.deref.ensures.value in
+    let few = c.runs-runs.ensures.few in
+    let none = c.none-last.ensures in
+    let came = c.in_ok-next.ensures.goes.few in
+    omega arith
 
 pub returns : goal.returns
 returns c =
-    let len = c.len-place-end.ensures in
-    ends c.args.first c.loop-place.place c.loop-place.count c.args.values.now c.loop-place.run c.loop-place.text.items c.push_run-2.new.text.items
-    (take_all c.loop-place.place c.args.values.now (omega arith)) c.loop-place.invariant.one c.in_ok-push_run-2.ensures c.loop-place.invariant.printed
+    let runs = c.runs-runs.result.now in
+    let P : List Run → Type 0 = λ rs. Goes c.args.first (all_values rs) c.none-last.result c.push_runs.new.self c.new-text.result.items c.push_runs.new.text.items in
+    all_printed c.args.first c.in_ok-next.next runs.rest.items (option_to_list runs.last) c.args.values.now c.none-last.result c.push_runs.new.self c.push_option.new.self
+    c.new-text.result.items c.push_runs.new.text.items c.push_option.new.text.items c.end.new.text.items
+    c.none-last.ensures c.new-text.ensures.items
+    (c.in_ok-next.ensures.next ∙ ap (λ (rs : List Run). c.args.first + length (all_values rs)) c.deref.ensures.value) c.runs-runs.ensures.values
+    (subst P c.deref.ensures.value c.in_ok-next.ensures.goes) c.in_ok-push_option.ensures c.in_ok-end.ensures
