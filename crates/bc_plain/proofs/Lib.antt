@@ -5,3 +5,6 @@ pub mod Told
 pub mod Listed
 pub mod Selected
 pub mod Frees
+pub mod Spelled
+pub mod Claims
+pub mod Walks

@@ -1,1 +1,2 @@
 pub mod PlainDevice
+pub mod PlainLine

@@ -1,6 +1,9 @@
 //! The four lists beside plain vectors, at random, and their lengths on devices of some sizes.
-ghost use Rattle.std.specs.Prelude.{◌≡◌, ◌<◌, [], length, IfOk};
-ghost use Rattle.bc_alloc.specs.Buckets.{AreFor};
+ghost use Rattle.std.specs.Prelude.{◌≡◌, ◌<◌, [], length, false, IfOk, IsTrue};
+ghost use Rattle.bc_bucket.specs.Buckets.{bucket_of};
+ghost use Rattle.bc_alloc.specs.Buckets.{AreFor, AreLoose};
+ghost use Rattle.bc_alloc.specs.Reserve.{IsDistinct};
+ghost use Rattle.bc_alloc.specs.Reserves.{times_listed};
 
 use crate::alloc::first_candidates;
 use crate::random::next;
@@ -47,6 +50,16 @@ impl Plain {
                 list.push(bucket)?;
                 return Ok(());
             }
+        }
+        Ok(())
+    }
+
+    // Puts a bucket onto the list priorities, if that has room.
+    fn give_back(&mut self, bucket: u32) -> Result<(), AllocError> {
+        if let Some(list) = self.lists.first_mut()
+            && list.is_empty()
+        {
+            list.push(bucket)?;
         }
         Ok(())
     }
@@ -178,13 +191,24 @@ fn take(r: &mut Reserves, b: &mut Buckets, plain: &mut Plain, place: usize) -> b
     r.take(b, PURPOSES[place]).ok() == plain.take(place)
 }
 
-// Makes the first raised buckets ready in both.
-fn ready(r: &mut Reserves, b: &mut Buckets, plain: &mut Plain, named: usize) -> Result<(), Fail>
-    requires { AreFor r.old b.old }
+// Makes the first raised buckets ready in both, and gives these back.
+fn ready(
+    r: &mut Reserves,
+    b: &mut Buckets,
+    plain: &mut Plain,
+    named: usize,
+    old: &[u32],
+) -> Result<(), Fail>
+    requires fit { AreFor r.old b.old }
+    requires distinct { IsDistinct old.now }
+    requires loose { AreLoose r.old b.old old.now }
     ensures { AreFor r.new b.new }
 {
     let named = named.min(r.raised_len() as usize);
-    r.ready(b, named, &[]);
+    r.ready(b, named, old);
+    for bucket in old {
+        plain.give_back(*bucket)?;
+    }
     for _bucket in 0..named {
         if !plain.raised.is_empty() {
             let bucket = plain.raised.remove(0);
@@ -192,6 +216,43 @@ fn ready(r: &mut Reserves, b: &mut Buckets, plain: &mut Plain, named: usize) -> 
         }
     }
     Ok(())
+}
+
+// Whether the bucket is on no list, not raised and not held.
+fn is_loose(r: &Reserves, b: &Buckets, bucket: u32) -> bool
+    requires fit { AreFor r.now b.now }
+    ensures { IsTrue result → (bucket < r.now.count) × (times_listed r.now bucket ≡ 0)
+        × ((bucket_of b.now bucket).held ≡ false) }
+{
+    (bucket as usize) < b.records().len() && !r.is_listed(bucket) && !b.get(bucket).held
+}
+
+// Makes the first raised buckets ready in both, and gives these two back, if they are loose.
+fn ready_with_old(
+    r: &mut Reserves,
+    b: &mut Buckets,
+    plain: &mut Plain,
+    named: usize,
+    first: u32,
+) -> Result<(), Fail>
+    requires { AreFor r.old b.old }
+    ensures { AreFor r.new b.new }
+{
+    let second = first ^ 1;
+    if first == second || !is_loose(r, b, first) || !is_loose(r, b, second) {
+        return ready(r, b, plain, named, &[]);
+    }
+    ready(r, b, plain, named, &[first, second])
+}
+
+// Lets the bucket go, if it is held.
+fn let_go(r: &Reserves, b: &mut Buckets, bucket: u32)
+    requires { AreFor r.now b.old }
+    ensures { AreFor r.now b.new }
+{
+    if (bucket as usize) < b.records().len() && b.get(bucket).held {
+        b.let_go(bucket);
+    }
 }
 
 // Raises a bucket in both, or puts it back.
@@ -207,11 +268,7 @@ fn raise(r: &mut Reserves, b: &mut Buckets, plain: &mut Plain, bucket: u32) -> R
         plain.raised.push(bucket)?;
     } else if b.get(bucket).held {
         r.put_back(b, bucket);
-        if let Some(list) = plain.lists.first_mut()
-            && list.is_empty()
-        {
-            list.push(bucket)?;
-        }
+        plain.give_back(bucket)?;
     }
     Ok(())
 }
@@ -227,7 +284,9 @@ fn lists_beside_plain_vectors(rt: HostRuntime) -> Result<(), Fail> {
         let number = random / 65536 % 128;
         match random / 1024 % 8 {
             0 => assert!(rt; refill(rt.alloc(), &mut r, &mut b, &mut plain)?),
-            1 | 2 => ready(&mut r, &mut b, &mut plain, number as usize)?,
+            1 => ready(&mut r, &mut b, &mut plain, number as usize, &[])?,
+            2 => ready_with_old(&mut r, &mut b, &mut plain, 5, number as u32)?,
+            3 if number % 4 == 0 => let_go(&r, &mut b, number as u32),
             3 => raise(&mut r, &mut b, &mut plain, number as u32)?,
             _ => assert!(rt; take(&mut r, &mut b, &mut plain, (number % 4) as usize)),
         }

@@ -1,10 +1,13 @@
 //! What is known of a bucket, and what is found for it by looking at each key that points into it.
 ghost use Rattle.std.specs.Prelude.{◌≡◌, ◌↔◌, ◌<◌, ◌-◌, ◌^◌, IsTrue};
+ghost use Rattle.bc_bucket.specs.Buckets.{settled_unless};
+ghost use Rattle.bc_bucket.specs.Meaning.{IsFound};
 ghost use Rattle.bc_key.specs.Generation as generations;
 ghost use Rattle.bc_bucket.specs.Bucket as buckets;
 ghost use Rattle.bc_bucket.specs.Walk as walks;
 
-use bc_bucket::{Bucket, Mark};
+use bc_bucket::laws::walk_counts;
+use bc_bucket::{Bucket, Found, Mark, Reference};
 
 /// How often a generation rose to come to the bucket's own one, modulo 256.
 pub fn behind(own: u8, generation: u8) -> u8
@@ -88,4 +91,79 @@ pub fn raised(known: &Bucket) -> Bucket
         uses: known.uses + 1,
         ..*known
     }
+}
+
+/// The bucket after a round that found this for it, unless a key into it was added meanwhile.
+pub fn settled(touched: bool, found: &Found, known: &Bucket) -> Bucket
+    ensures { result ≡ settled_unless touched found.now known.now }
+{
+    if touched {
+        return *known;
+    }
+    let last_gc = match found.last_gc {
+        Some(oldest) => oldest,
+        None => known.generation,
+    };
+    match known.mark {
+        Mark::Metadata => Bucket { last_gc, ..*known },
+        _ => Bucket {
+            last_gc,
+            mark: found.mark,
+            used: found.used,
+            ..*known
+        },
+    }
+}
+
+// The older one of these two generations of pointers into the bucket.
+fn older(own: u8, oldest: Option<u8>, generation: u8) -> u8
+    ensures { result ≡ walks.older own oldest generation }
+{
+    let Some(oldest) = oldest else {
+        return generation;
+    };
+    if behind(own, generation) > behind(own, oldest) {
+        generation
+    } else {
+        oldest
+    }
+}
+
+// The mark with one more key that isn't stale.
+fn mark_with(dirty: bool, mark: Mark) -> Mark
+    ensures { result ≡ walks.mark_with dirty mark }
+{
+    match (dirty, mark) {
+        (true, _) => Mark::Dirty,
+        (false, Mark::None) => Mark::Reclaimable,
+        (false, mark) => mark,
+    }
+}
+
+// What is found with one more pointer.
+fn counted(own: u8, reference: &Reference, found: &Found) -> Found
+    ensures { result ≡ walks.counted own reference.now found.now }
+{
+    let last_gc = Some(older(own, found.last_gc, reference.generation));
+    if is_stale(own, reference.generation) {
+        return Found { last_gc, ..*found };
+    }
+    let used = u64::from(found.used) + u64::from(reference.sectors);
+    Found {
+        mark: mark_with(reference.dirty, found.mark),
+        used: used.min(u64::from(u32::MAX)) as u32,
+        last_gc,
+    }
+}
+
+/// What is found for a bucket of this generation into which these pointers of keys point.
+pub fn found(own: u8, references: &[Reference]) -> Found
+    ensures { IsFound own references.now result }
+{
+    walk_counts();
+    let mut found = Found::NONE;
+    for reference in references {
+        found = counted(own, reference, &found);
+    }
+    found
 }

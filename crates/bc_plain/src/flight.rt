@@ -1,11 +1,12 @@
 //! Claims and candidates, asked of each sector and each candidate in turn.
-ghost use Rattle.std.specs.Prelude.{◌≡◌, ◌+◌, ◌<◌, ◌≤◌, ◌^◌, All, IfOk};
+ghost use Rattle.std.specs.Prelude.{◌≡◌, ◌+◌, ◌<◌, ◌≤◌, ◌^◌, ◌++◌, ◌∷◌, [], All, IfOk, OnOk};
 ghost use Rattle.bc_flight.specs.Claims.{overlaps, conflicts};
 ghost use Rattle.bc_flight.specs.Candidates.{is_over, is_wanted, first_of, kill_over};
-ghost use Rattle.bc_flight.specs.Flight.{IsRanged};
+ghost use Rattle.bc_flight.specs.Flight.{claim_of, without, IsRanged};
 
 use bc_flight::candidate::{Candidate, Wanted};
 use bc_flight::claim::{Claim, Share};
+use std::alloc::{AllocError, Global};
 
 /// Whether some sector is in both ranges, by asking each sector of the first.
 pub fn overlaps(a: &Claim, b: &Claim) -> bool
@@ -51,4 +52,38 @@ pub fn first_of(candidates: &[Candidate], wanted: Wanted) -> Option<Candidate>
         }
     }
     first
+}
+
+/// The first of these claims that is the seat's.
+pub fn claim_of(seat: u32, claims: &[Claim]) -> Option<Claim>
+    ensures { result ≡ claim_of seat claims.now }
+{
+    for claim in claims {
+        if claim.seat == seat {
+            return Some(*claim);
+        }
+    }
+    None
+}
+
+// Adds the claim, unless it is the seat's.
+fn keep(others: &mut Vec<Claim>, seat: u32, claim: &Claim) -> Result<(), AllocError>
+    ensures { OnOk result (others.new.items ≡ others.old.items ++ without seat (claim.now ∷ [])) }
+{
+    if claim.seat == seat {
+        return Ok(());
+    }
+    others.push(*claim)?;
+    Ok(())
+}
+
+/// These claims without the seat's.
+pub fn without(alloc: Global, seat: u32, claims: &[Claim]) -> Result<Vec<Claim>, AllocError>
+    ensures { IfOk result (λ others. others.items ≡ without seat claims.now) }
+{
+    let mut others = Vec::new(alloc);
+    for claim in claims {
+        keep(&mut others, seat, claim)?;
+    }
+    Ok(others)
 }

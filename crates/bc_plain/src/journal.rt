@@ -36,7 +36,7 @@ fn refused(error: JsetError) -> Result<(), AllocError>
 }
 
 /// The entry that is found at a place before an end, both in sectors, and how many sectors it takes.
-fn entry_at(
+pub fn entry_at(
     alloc: Global,
     image: &[u8],
     g: &Geometry,
@@ -95,7 +95,11 @@ fn add_bucket(
 }
 
 /// The entries that stand in the journal buckets, those in a lower place first.
-fn all_entries(alloc: Global, image: &[u8], g: &Geometry) -> Result<Vec<Placed<JEntry>>, AllocError>
+pub fn all_entries(
+    alloc: Global,
+    image: &[u8],
+    g: &Geometry,
+) -> Result<Vec<Placed<JEntry>>, AllocError>
     requires { 512 * (g.now.bucket * g.now.nbuckets) ≤ length image.now }
     ensures { IfOk result (λ all. StandIn g.now (image_of image.now) g.now.journal all.items) }
 {

@@ -21,6 +21,7 @@ pub mod flight;
 pub mod history;
 mod image;
 pub mod journal;
+pub mod line;
 pub mod mode;
 #[cfg(test)]
 mod mode_tests;
@@ -29,3 +30,5 @@ mod random;
 mod slot;
 #[cfg(test)]
 mod tests;
+#[cfg(test)]
+mod walk_tests;

@@ -1,6 +1,6 @@
 //! The path of a piece of a write by a table of rules, and a streak by asking the requests before it.
 ghost use Rattle.std.specs.Prelude.{◌≡◌};
-ghost use Rattle.bc_mode.specs.Choice.{first_fit, rules_for};
+ghost use Rattle.bc_mode.specs.Choice.{fills, first_fit, rules_for};
 ghost use Rattle.bc_mode.specs.Streak as streaks;
 
 use bc_mode::{Mode, Path, Request};
@@ -21,6 +21,18 @@ pub fn decide(mode: Mode, overlaps_dirty: bool, streak: u64, cutoff: u64) -> Opt
         Some(Path::Writeback)
     } else {
         Some(Path::Through)
+    }
+}
+
+/// Whether the sectors that a read took from the backing device are put into the cache.
+pub fn fills(mode: Mode, streak: u64, cutoff: u64) -> bool
+    ensures { result ≡ fills mode streak cutoff }
+{
+    match mode {
+        Mode::None => false,
+        Mode::Writethrough | Mode::Writeback | Mode::Writearound => {
+            cutoff == 0 || streak < cutoff
+        }
     }
 }
 

@@ -1,5 +1,5 @@
 //! Streaks and paths beside the plain ones, at random.
-use crate::mode::{decide, streak};
+use crate::mode::{decide, fills, streak};
 use crate::random::next;
 use bc_mode::{Mode, Request, Streaks};
 use std::test::Fail;
@@ -48,6 +48,8 @@ fn paths_beside_the_rules(rt: HostRuntime) -> Result<(), Fail> {
             for (streak, cutoff) in [(0, 0), (7, 0), (7, 8), (8, 8), (9, 8), (u64::MAX, u64::MAX)] {
                 let path = bc_mode::decide(mode, dirty, streak, cutoff);
                 assert!(rt; decide(mode, dirty, streak, cutoff) == Some(path));
+                let fill = bc_mode::fills(mode, streak, cutoff);
+                assert_eq!(rt; fills(mode, streak, cutoff), fill);
             }
         }
     }

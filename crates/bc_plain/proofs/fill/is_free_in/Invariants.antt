@@ -4,4 +4,4 @@ use Rattle.bc_fill.specs.Fresh.{IsFreeIn}
 use Rattle.bc_plain.proofs.fill.is_free_in.Given as goal
 
 abbrev pub invariant-loop-one : goal.invariant-loop-one
-invariant-loop-one l = IsTrue l.free ↔ IsFreeIn l.size (take l.one-index l.open) l.sector
+invariant-loop-one l = IsTrue l.free ↔ IsFreeIn l.size (take l.one-index l.buckets) l.sector
