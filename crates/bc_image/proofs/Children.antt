@@ -9,7 +9,7 @@ use Rattle.bc_key.specs.declared.key.Key.{Key}
 use Rattle.bc_image.specs.Children.{is_bare, child_before, with_child, with_children, children_of, last_ending, unless_bare}
 
 -- in order, each end above a bound
-abbrev Rise : ℕ → List Key → Type 0
+abbrev pub Rise : ℕ → List Key → Type 0
 Rise low [] = Unit {0}
 Rise low (c ∷ cs) = (low ≤ c.end) × Rise (suc c.end) cs
 
@@ -29,7 +29,7 @@ pub data Way (key child : Key) (cs : List Key) : Type 0 where
   same : key.end ≡ child.end → with_child key (child ∷ cs) ≡ child_before key cs → Way key child cs
   above : child.end < key.end → with_child key (child ∷ cs) ≡ child ∷ with_child key cs → Way key child cs
 
-way : (key child : Key) (cs : List Key) → Way key child cs
+pub way : (key child : Key) (cs : List Key) → Way key child cs
 way key child cs = elim (cases_lt key.end child.end) [
   | inl lt ↦ (let test = lt-ltb key.end child.end lt in let at : with_child key (child ∷ cs) ≡ child_before key (child ∷ cs) = rw test refl in below lt at)
   | inr ge ↦ (let no_less = le-ltb key.end child.end ge in elim (eqb_tells key.end child.end) [
@@ -38,7 +38,7 @@ way key child cs = elim (cases_lt key.end child.end) [
   ])
 ]
 
-with_rises : (low : ℕ) (key : Key) (cs : List Key) → low ≤ key.end → Rise low cs → Rise low (with_child key cs)
+pub with_rises : (low : ℕ) (key : Key) (cs : List Key) → low ≤ key.end → Rise low cs → Rise low (with_child key cs)
 with_rises low key [] le r = before_rises low key [] le tt
 with_rises low key (c ∷ cs) le r = go (way key c cs) (λ m up. with_rises m key cs up)
   where
@@ -55,12 +55,19 @@ rise_above : (low : ℕ) (cs : List Key) → Rise low cs → All (λ c. low ≤ 
 rise_above low [] r = All-nil (λ (c : Key). low ≤ c.end)
 rise_above low (c ∷ cs) r = All-cons (λ (d : Key). low ≤ d.end) c cs r.0 (All-weaker (λ (d : Key). suc c.end ≤ d.end) (λ (d : Key). low ≤ d.end) (λ d le. omega (arith, le, r.0)) cs (rise_above (suc c.end) cs r.1))
 
-rise_pairs : (low : ℕ) (cs : List Key) → Rise low cs → AllPairs (λ a b. a.end < b.end) cs
+pub rise_pairs : (low : ℕ) (cs : List Key) → Rise low cs → AllPairs (λ a b. a.end < b.end) cs
 rise_pairs low [] r i j d lt inside = absurd (omega arith)
 rise_pairs low (c ∷ cs) r zero zero d lt inside = absurd (omega arith)
 rise_pairs low (c ∷ cs) r (suc i) zero d lt inside = absurd (omega arith)
 rise_pairs low (c ∷ cs) r zero (suc j) d lt inside = let up = rise_above (suc c.end) cs r.1 j d (omega (arith, inside)) in omega (arith, up)
 rise_pairs low (c ∷ cs) r (suc i) (suc j) d lt inside = rise_pairs (suc c.end) cs r.1 i j d (omega (arith, lt)) (omega (arith, inside))
+
+pub pairs_rise : (low : ℕ) (cs : List Key) → All (λ c. low ≤ c.end) cs → AllPairs (λ a b. a.end < b.end) cs → Rise low cs
+pairs_rise low [] over order = tt
+pairs_rise low (c ∷ cs) over order = (
+  over 0 c (omega arith),
+  pairs_rise (suc c.end) cs (λ k d inside. order 0 (suc k) d (omega arith) (omega (arith, inside))) (λ i j d lt inside. order (suc i) (suc j) d (omega (arith, lt)) (omega (arith, inside))),
+)
 
 pub children_rise : (keys : List Key) → AllPairs (λ a b. a.end < b.end) (children_of keys)
 children_rise keys = rise_pairs 0 (children_of keys) (all_rise keys [] tt)

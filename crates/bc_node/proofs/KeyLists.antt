@@ -1,6 +1,7 @@
 -- Keys of sets, one after another.
 use Rattle.std.proofs.Common.{◌≡◌, ℕ, ◌+◌, ◌<◌, List, [], ◌∷◌, ◌++◌, length, take, drop, get_or, refl, sym, ap, ◌∙◌}
-use Rattle.std.specs.Prelude.{All}
+use Rattle.std.specs.Prelude.{All, Some, slice_get}
+use Rattle.std.proofs.lemmas.Option.{get_or_from_slice_get}
 use Rattle.std.proofs.lemmas.Grind.{flat_map-append}
 use Rattle.std.proofs.lemmas.List.{append-nil, take_more, take_at, drop_at, take-append-drop}
 use Rattle.std.proofs.lemmas.List.Elements.{All-same, All-take, All-drop}
@@ -32,3 +33,7 @@ of_one_set P sets i s low is all =
     ap set_keys (sym (take-append-drop (i + 1) sets)) ∙ flat_map-append (λ (x : Set). x.keys) (take (i + 1) sets) (drop (i + 1) sets)
     ∙ ap (λ (ks : List Key). ks ++ set_keys (drop (i + 1) sets)) (taken_set sets i s low is) in
     all_right P (set_keys (take i sets)) s.keys (all_left P (set_keys (take i sets) ++ s.keys) (set_keys (drop (i + 1) sets)) (All-same P ((set_keys (take i sets) ++ s.keys) ++ set_keys (drop (i + 1) sets)) (set_keys sets) (sym cut) all))
+
+-- the key at a place of a list
+pub key_here : (keys : List Key) (i : ℕ) (key : Key) → slice_get keys i ≡ Some key → key ≡ get_or keys i key
+key_here keys i key is = sym (get_or_from_slice_get keys i key key is)

@@ -6,3 +6,4 @@ pub mod LastKeys
 pub mod Leaves
 pub mod Filled
 pub mod Written
+pub mod Further

@@ -5,13 +5,14 @@ use Rattle.bc_model.specs.Sector.{Image}
 use Rattle.bc_disk.specs.declared.geometry.Geometry.{Geometry}
 use Rattle.bc_record.specs.Kind.{Kind, sectors_of, IsFound, NoneFound, AreFound, behind}
 use Rattle.bc_record.specs.Codec.{IsCodec}
+use Rattle.bc_record.specs.Sectors.{AgreeOn}
 use Rattle.bc_record.proofs.Blocks.{node_blocks}
 use Rattle.bc_record.proofs.Found.{found_fits, next_blocks, takes_some, run_exists}
 use Rattle.bc_set.specs.declared.set.Set.{Set}
 use Rattle.bc_set.specs.declared.set.SetKind.{SetKind}
 use Rattle.bc_set.specs.Records.{set_kind, numbered_kind, SetFound, AreNodeSets}
 use Rattle.bc_set.proofs.NodeSets.{numbered_codec, one_node, node_goes_on}
-use Rattle.bc_node.specs.Sets.{AreSetsFrom, MayLeave, behind_sets}
+use Rattle.bc_node.specs.Sets.{AreSetsFrom, MayLeave, behind_sets, taken_by}
 
 module _ {A : Type 0} (kind : Kind A) (codec : IsCodec kind) where
   -- whole blocks are left behind them
@@ -57,6 +58,22 @@ blocks_behind g word kind at image (s ∷ ss) p =
     let l = left_behind (numbered_kind g word kind s.seq) (numbered_codec g word kind s.seq) image (at + g.node_sectors) at b.0 (s ∷ ss) (ap (λ n. at + n) b.1) p in
     (l.0, l.1 ∙ ap (λ n. n + g.block * l.0) (same_behind g word kind s.seq at (s ∷ ss)))
 
+-- ---- how many sectors they take
+
+pub behind_is : (g : Geometry) (word : ℕ) (kind : SetKind) (place : ℕ) (ss : List Set) → behind (set_kind g word kind) place ss ≡ place + taken_by g ss
+behind_is g word kind place [] = omega arith
+behind_is g word kind place (s ∷ ss) =
+    let rest = behind_is g word kind (place + sectors_of (set_kind g word kind) s) ss in
+    omega (arith, rest)
+
+-- those that a reader of the bytes finds from a place on
+pub run_short : (g : Geometry) (word : ℕ) (kind : SetKind) (seq : ℕ) (image : Image) (place blocks : ℕ) (ss : List Set) → g.node_sectors ≡ place + g.block * blocks
+    → AreFound (numbered_kind g word kind seq) image g.node_sectors place ss → place + taken_by g ss ≤ g.node_sectors
+run_short g word kind seq image place blocks ss whole found =
+    let l = left_behind (numbered_kind g word kind seq) (numbered_codec g word kind seq) image g.node_sectors place blocks ss whole found in
+    let is : behind (numbered_kind g word kind seq) place ss ≡ place + taken_by g ss = same_behind g word kind seq place ss ∙ behind_is g word kind place ss in
+    omega (arith, l.1, is)
+
 pub sets_within : (g : Geometry) (word : ℕ) (kind : SetKind) (at : ℕ) (image : Image) (ss : List Set) → AreSetsFrom g word kind at image ss → behind_sets g word kind at ss ≤ at + g.node_sectors
 sets_within g word kind at image ss p =
     let b = blocks_behind g word kind at image ss p in
@@ -65,12 +82,12 @@ sets_within g word kind at image ss p =
 -- ---- one more set
 
 -- what is found behind the sets follows them
-followed : (g : Geometry) (word : ℕ) (kind : SetKind) (at : ℕ) (a b : Image) (s : Set) (ss : List Set) (more : Set) (rest : List Set) → AreSetsFrom g word kind at a (s ∷ ss)
-    → MayLeave g word kind at (s ∷ ss) more a b → AreFound (numbered_kind g word kind s.seq) b (at + g.node_sectors) (behind_sets g word kind at (s ∷ ss)) rest → AreSetsFrom g word kind at b (s ∷ ss ++ rest)
-followed g word kind at a b s ss more rest p leaves found =
+pub followed : (g : Geometry) (word : ℕ) (kind : SetKind) (at : ℕ) (a b : Image) (s : Set) (ss rest : List Set) → AreSetsFrom g word kind at a (s ∷ ss) → AgreeOn a b at (behind_sets g word kind at (s ∷ ss))
+    → AreFound (numbered_kind g word kind s.seq) b (at + g.node_sectors) (behind_sets g word kind at (s ∷ ss)) rest → AreSetsFrom g word kind at b (s ∷ ss ++ rest)
+followed g word kind at a b s ss rest p stay found =
     let end = at + g.node_sectors in
     let same : ss ≡ ss ++ [] = sym (append-nil ss) in
-    node_goes_on g word kind a b end at s ss [] rest (subst (λ (xs : List Set). AreNodeSets g word kind a end at (s ∷ xs)) same p) leaves.stay (sets_within g word kind at a (s ∷ ss) p) found
+    node_goes_on g word kind a b end at s ss [] rest (subst (λ (xs : List Set). AreNodeSets g word kind a end at (s ∷ xs)) same p) stay (sets_within g word kind at a (s ∷ ss) p) found
 
 only_more : (g : Geometry) (word : ℕ) (kind : SetKind) (at : ℕ) (a b : Image) (s : Set) (ss : List Set) (more : Set) → more.seq ≡ s.seq → MayLeave g word kind at (s ∷ ss) more a b
     → OnlyThis (numbered_kind g word kind s.seq) (numbered_codec g word kind s.seq) b (at + g.node_sectors) (behind_sets g word kind at (s ∷ ss)) more
@@ -85,7 +102,7 @@ sets_left g word kind at a b s ss found more p number leaves q =
     let numbered = numbered_kind g word kind s.seq in
     let codec = numbered_codec g word kind s.seq in
     let r = run_exists numbered codec b end place blocks.0 blocks.1 in
-    let is : found ≡ s ∷ ss ++ r.0 = one_node g word kind b end at found (s ∷ ss ++ r.0) q (followed g word kind at a b s ss more r.0 p leaves r.1) in
+    let is : found ≡ s ∷ ss ++ r.0 = one_node g word kind b end at found (s ∷ ss ++ r.0) q (followed g word kind at a b s ss r.0 p leaves.stay r.1) in
     elim (rest_is numbered codec b end place r.0 more (only_more g word kind at a b s ss more number leaves) r.1) [
       | inl none ↦ inl (is ∙ ap (λ (xs : List Set). s ∷ ss ++ xs) none ∙ ap (λ (xs : List Set). s ∷ xs) (append-nil ss))
       | inr one ↦ inr (is ∙ ap (λ (xs : List Set). s ∷ ss ++ xs) one)
@@ -94,7 +111,7 @@ sets_left g word kind at a b s ss found more p number leaves q =
 pub sets_written : (g : Geometry) (word : ℕ) (kind : SetKind) (at : ℕ) (a b : Image) (s : Set) (ss : List Set) (more : Set) → AreSetsFrom g word kind at a (s ∷ ss) → more.seq ≡ s.seq
     → MayLeave g word kind at (s ∷ ss) more a b → SetFound g word kind b (at + g.node_sectors) (behind_sets g word kind at (s ∷ ss)) more → AreSetsFrom g word kind at b ((s ∷ ss) ++ more ∷ [])
 sets_written g word kind at a b s ss more p number leaves new =
-    followed g word kind at a b s ss more (more ∷ []) p leaves (
+    followed g word kind at a b s ss (more ∷ []) p leaves.stay (
       (new, number),
       none_behind (numbered_kind g word kind s.seq) (numbered_codec g word kind s.seq) b (at + g.node_sectors) (behind_sets g word kind at (s ∷ ss)) more more (only_more g word kind at a b s ss more number leaves),
     )

@@ -1,15 +1,19 @@
 -- A leaf of the index: a node whose keys are those of data.
-use Rattle.std.specs.Prelude.{◌≡◌, ℕ, List, [], ◌∷◌, ◌++◌, Bool, true, false, Option, Some, None}
+use Rattle.std.specs.Prelude.{◌≡◌, ℕ, ◌+◌, ◌<◌, ◌≤◌, List, [], ◌∷◌, ◌++◌, All, Bool, true, false, Option, Some, None}
+use Rattle.bc_disk.specs.declared.geometry.Geometry.{Geometry}
 use Rattle.bc_extent.specs.LastKey.{last_key}
 use Rattle.bc_extent.specs.Extents.{IsInOrder, Shows}
 use Rattle.bc_extent.specs.Calls.{live}
-use Rattle.bc_image.specs.Sound.{KeepsRange}
+use Rattle.bc_image.specs.Sound.{KeepsRange, LiesWithin}
 use Rattle.bc_image.specs.Tree.{node_of, set_keys}
 use Rattle.bc_key.specs.Key.{ptr_at}
 use Rattle.bc_key.specs.declared.key.Key.{Key}
 use Rattle.bc_key.specs.declared.ptr.Ptr.{Ptr}
 use Rattle.bc_node.specs.declared.pending.Entries.{Entries}
+use Rattle.bc_node.specs.Sets.{HaveNumber, taken_by}
+use Rattle.bc_node.specs.Writing.{set_of}
 use Rattle.bc_set.specs.declared.set.Set.{Set}
+use Rattle.bc_set.specs.Records.{set_sectors}
 
 -- what a `Leaf` is seen as
 pub record Leaf : Type 0 where
@@ -19,6 +23,8 @@ pub record Leaf : Type 0 where
   -- where it stands, and the number of its sets
   pub ptr : Ptr
   pub seq : ℕ
+  -- how many sectors its sets take there, in whole blocks
+  pub taken : ℕ
   -- its last keys
   pub keys : List Key
   -- how many more keys have room
@@ -66,28 +72,80 @@ pub record IsSameNode (old new : Leaf) : Type 0 where
   pub end : new.end ≡ old.end
   pub ptr : new.ptr ≡ old.ptr
   pub seq : new.seq ≡ old.seq
+  pub taken : new.taken ≡ old.taken
   pub loaded : new.loaded ≡ old.loaded
+
+-- each of the keys lies in a range
+abbrev pub AreWithin : ℕ → ℕ → List Key → Type 0
+AreWithin from end keys = All (LiesWithin 0 from end) keys
+
+-- keys in order, all of them in a range: so a set of them is one that the leaf of this range may have
+pub record AreProperKeys (from end : ℕ) (keys : List Key) : Type 0 where
+  pub order : IsInOrder keys
+  pub within : AreWithin from end keys
+
+-- what a leaf keeps: its last keys are those of some list of keys in its range, and so are the pending ones
+pub record KeepsKeys (from end : ℕ) (keys pending : List Key) : Type 0 where
+  pub list : List Key
+  pub within : AreWithin from end list
+  pub last : AreLast list keys
+  pub more : List Key
+  pub more_within : AreWithin from end more
+  pub added : AreLastOfAll more pending
 
 -- nothing was added that isn't in a set
 pub record HasNothingPending (leaf : Leaf) : Type 0 where
   pub keys : leaf.pending ≡ []
   pub entries : leaf.entries ≡ None
 
--- the number of a node's sets
-abbrev pub HaveNumber : List Set → ℕ → Type 0
-HaveNumber [] seq = Unit {0}
-HaveNumber (s ∷ ss) seq = s.seq ≡ seq
+-- ---- its sets
+
+-- the set of what is pending, and that of its last keys alone
+abbrev pub pending_set : Leaf → Set
+pending_set leaf = set_of leaf.seq leaf.pending
+
+abbrev pub whole_set : Leaf → Set
+whole_set leaf = set_of leaf.seq leaf.keys
+
+-- what is pending doesn't fit behind its sets
+abbrev pub IsFull : Geometry → Leaf → Type 0
+IsFull g leaf = g.node_sectors < leaf.taken + set_sectors g (pending_set leaf)
+
+-- what was pending is in one more set
+pub record IsAppended (g : Geometry) (old new : Leaf) : Type 0 where
+  pub from : new.from ≡ old.from
+  pub end : new.end ≡ old.end
+  pub ptr : new.ptr ≡ old.ptr
+  pub seq : new.seq ≡ old.seq
+  pub loaded : new.loaded ≡ old.loaded
+  pub keys : new.keys ≡ old.keys
+  pub taken : new.taken ≡ old.taken + set_sectors g (pending_set old)
+  pub pending : HasNothingPending new
+  pub spare : old.spare ≤ new.spare
+
+-- its last keys are in the first set of a node at another place
+pub record IsRewritten (g : Geometry) (to : Ptr) (seq : ℕ) (old new : Leaf) : Type 0 where
+  pub from : new.from ≡ old.from
+  pub end : new.end ≡ old.end
+  pub keys : new.keys ≡ old.keys
+  pub ptr : new.ptr ≡ to
+  pub number : new.seq ≡ seq
+  pub taken : new.taken ≡ set_sectors g (set_of seq old.keys)
+  pub pending : HasNothingPending new
+  pub loaded : new.loaded ≡ false
+  pub spare : old.spare ≤ new.spare
 
 -- each key of the sets lies in the range of the leaf of this key, which begins at a sector
 abbrev pub LieWithin : Key → ℕ → List Set → Type 0
 LieWithin key from sets = KeepsRange (node_of 0 from key sets)
 
 -- the leaf of this key, whose range begins at a sector, has these sets
-pub record IsLeafOf (key : Key) (from : ℕ) (sets : List Set) (leaf : Leaf) : Type 0 where
+pub record IsLeafOf (g : Geometry) (key : Key) (from : ℕ) (sets : List Set) (leaf : Leaf) : Type 0 where
   pub begins : leaf.from ≡ from
   pub ends : leaf.end ≡ key.end
   pub ptr : leaf.ptr ≡ ptr_at key 0
   pub seq : HaveNumber sets leaf.seq
+  pub taken : leaf.taken ≡ taken_by g sets
   pub last : AreLast (set_keys sets) leaf.keys
   pub within : LieWithin key from sets
   pub pending : HasNothingPending leaf
@@ -99,6 +157,7 @@ pub record IsNewLeaf (key : Key) (from seq : ℕ) (leaf : Leaf) : Type 0 where
   pub ends : leaf.end ≡ key.end
   pub ptr : leaf.ptr ≡ ptr_at key 0
   pub number : leaf.seq ≡ seq
+  pub taken : leaf.taken ≡ 0
   pub keys : leaf.keys ≡ []
   pub pending : HasNothingPending leaf
   pub loaded : leaf.loaded ≡ false

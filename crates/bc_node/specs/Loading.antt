@@ -42,7 +42,7 @@ AreLeafSets g key facts sets = IfTold facts.holds (λ image. AreSetsAt g image 0
 
 -- the leaf that a key points to, of a range that begins at a sector
 abbrev pub IsHeldLeaf : Geometry → Key → ℕ → DiskFacts → Leaf → Type 0
-IsHeldLeaf g key from facts leaf = (sets : List Set) × AreLeafSets g key facts sets × IsLeafOf key from sets leaf
+IsHeldLeaf g key from facts leaf = (sets : List Set) × AreLeafSets g key facts sets × IsLeafOf g key from sets leaf
 
 -- Why that leaf wasn't read: its sets weren't, or some key of theirs lies outside the range.
 abbrev pub IsNotLoaded : Geometry → Key → ℕ → DiskFacts → DiskFacts → NodeError → Type 0

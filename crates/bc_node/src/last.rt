@@ -20,8 +20,8 @@ fn lies_within(from: u64, end: u64, key: &Key) -> bool
     from <= key.start() && key.end <= end
 }
 
-/// Whether each of the keys lies in a range.
-fn are_within(from: u64, end: u64, keys: &[Key]) -> bool
+/// Whether each of the keys lies in a range, as those that a leaf is given have to.
+pub fn are_within(from: u64, end: u64, keys: &[Key]) -> bool
     ensures { MatchBool result (All (LiesWithin 0 from end) keys.now)
         (Any (λ key. ¬ (LiesWithin 0 from end key)) keys.now) }
 {

@@ -1,19 +1,25 @@
 //! Leaves.
-ghost use Rattle.std.specs.Prelude.{◌≡◌, ◌≢◌, ◌⊎◌, ◌+◌, ◌<◌, ◌≤◌, [], length, All, OnOk, OnErr, IfOk, IfErr};
-ghost use Rattle.bc_disk.specs.Disk.{IsKept, IsCounted};
+ghost use Rattle.std.specs.Prelude.{◌≡◌, ◌≢◌, ◌⊎◌, ◌↔◌, ◌+◌, ◌*◌, ◌^◌, ◌<◌, ◌≤◌, [], length, false, All, IsTrue, OnOk, OnErr, IfOk, IfErr};
+ghost use Rattle.bc_disk.specs.Disk.{IsKept, IsWritten, IsFailedWrite, IsCounted};
+ghost use Rattle.bc_model.specs.Sector.{values_of};
 ghost use Rattle.bc_key.specs.Key.{IsExtent, ptr_at};
 ghost use Rattle.bc_key.specs.Words.{ptr_word};
 ghost use Rattle.bc_set.specs.declared.set.SetKind.{SetKind};
+ghost use Rattle.bc_set.specs.SetBytes.{bytes_of};
 ghost use Rattle.bc_node.specs.declared.error.NodeError.{NodeError};
-ghost use Rattle.bc_node.specs.Leaf.{ArePut, AreAdded, IsLeafOf, IsNewLeaf, IsSameNode, LieWithin, noted_for};
+ghost use Rattle.bc_node.specs.Leaf.{ArePut, AreAdded, AreWithin, AreProperKeys, IsAppended, IsFull, IsLeafOf, IsNewLeaf, IsRewritten, IsSameNode, LieWithin, noted_for, pending_set, whole_set};
 ghost use Rattle.bc_node.specs.Loading.{IsHeldLeaf, IsNotLoaded, good};
-ghost use Rattle.bc_node.specs.Sets.{AreProper};
+ghost use Rattle.bc_node.specs.Sets.{AreProper, taken_by};
+ghost use Rattle.bc_node.specs.Writing.{HasSet, put_values, set_of};
 
 use crate::error::NodeError;
+use crate::keys::words_in;
 use crate::last::{lie_within, put_sets, put_within};
-use crate::load::load_sets;
+use crate::load::{load_sets, word_of};
 use crate::pending::{Entries, add_all, noted_for};
-use bc_disk::disk::Disk;
+use crate::read::{in_blocks, sectors_of};
+use crate::write::write_map;
+use bc_disk::disk::{Disk, Failed};
 use bc_disk::geometry::Geometry;
 use bc_extent::Extents;
 use bc_key::{Key, Ptr};
@@ -28,6 +34,7 @@ pub struct Leaf {
     end: u64,
     ptr: Ptr,
     seq: u64,
+    taken: u16,
     keys: Extents,
     pending: Extents,
     entries: Option<Entries>,
@@ -36,7 +43,7 @@ pub struct Leaf {
 
 impl Model for Leaf {
     ghost use Rattle.std.specs.Prelude.{◌/◌, min};
-    ghost use Rattle.bc_node.specs.Leaf.{Leaf};
+    ghost use Rattle.bc_node.specs.Leaf.{Leaf, KeepsKeys};
 
     ghost Value = { Leaf };
 
@@ -45,26 +52,29 @@ impl Model for Leaf {
       end = l.end;
       ptr = l.ptr;
       seq = l.seq;
+      taken = l.taken;
       keys = l.keys.keys;
       spare = (min l.keys.spare l.pending.spare) / 2;
       pending = l.pending.keys;
       entries = l.entries;
       loaded = l.loaded;
     } };
-}
 
-/// The word of a pointer, from which the checksums of a node's sets start.
-fn word_of(ptr: &Ptr) -> u64
-    ensures { result ≡ ptr_word ptr.now }
-{
-    u64::from(ptr.dev) * (1 << 51) + ptr.offset * (1 << 8) + u64::from(ptr.generation)
+    ghost invariant = { λ l. KeepsKeys l.from l.end l.keys.keys l.pending.keys };
 }
 
 /// The leaf of a key that has these sets.
-fn leaf_of(alloc: Global, key: &Key, from: u64, sets: &[Set]) -> Result<Leaf, NodeError>
+fn leaf_of(
+    alloc: Global,
+    g: &Geometry,
+    key: &Key,
+    from: u64,
+    sets: &[Set],
+) -> Result<Leaf, NodeError>
     requires some { sets.now ≢ [] }
     requires proper { AreProper SetKind.Extents sets.now }
-    ensures ok { IfOk result (IsLeafOf key.now from sets.now) }
+    requires short { taken_by g.now sets.now ≤ g.now.node_sectors }
+    ensures ok { IfOk result (IsLeafOf g.now key.now from sets.now) }
     ensures refused { IfErr result (λ e. (e ≡ NodeError.Memory)
         ⊎ ((e ≡ NodeError.Ranges) × ¬ (LieWithin key.now from sets.now))) }
 {
@@ -79,6 +89,7 @@ fn leaf_of(alloc: Global, key: &Key, from: u64, sets: &[Set]) -> Result<Leaf, No
         end: key.end,
         ptr: key.ptrs[0],
         seq: sets[0].seq,
+        taken: sectors_of(g, sets) as u16,
         keys,
         pending,
         entries: None,
@@ -109,7 +120,7 @@ impl Leaf {
     {
         let ptr = key.ptrs[0];
         let sets = load_sets(alloc, disk, g, ptr.offset, word_of(&ptr), SetKind::Extents)?;
-        leaf_of(alloc, key, from, sets.as_slice())
+        leaf_of(alloc, g, key, from, sets.as_slice())
     }
 
     /// A leaf without sets and keys, at the first place that the key names, whose range begins at a
@@ -117,13 +128,16 @@ impl Leaf {
     pub fn new(alloc: Global, key: &Key, from: u64, seq: u64) -> Leaf
         ensures { IsNewLeaf key.now from seq result }
     {
+        let keys = Extents::new(alloc);
+        let pending = Extents::new(alloc);
         Leaf {
             from,
             end: key.end,
             ptr: key.ptrs[0],
             seq,
-            keys: Extents::new(alloc),
-            pending: Extents::new(alloc),
+            taken: 0,
+            keys,
+            pending,
             entries: None,
             loaded: false,
         }
@@ -153,11 +167,12 @@ impl Leaf {
         Ok(())
     }
 
-    /// Adds keys, each newer than those before it, which this entry of the journal holds and no
+    /// Adds keys of its range, each newer than those before it, which this entry of the journal holds and no
     /// earlier one. They wait for the next set, also those without pointers. Takes no memory.
     pub fn add(&mut self, keys: &[Key], entry: u64)
         requires spare { length keys.now ≤ self.old.spare }
         requires extents { All IsExtent keys.now }
+        requires within { AreWithin self.old.from self.old.end keys.now }
         ensures node { IsSameNode self.old self.new }
         ensures keys { ArePut keys.now self.old.keys self.new.keys }
         ensures pending { AreAdded keys.now self.old.pending self.new.pending }
@@ -169,11 +184,125 @@ impl Leaf {
         self.entries = noted_for(keys, entry, self.entries);
     }
 
+    /// How many bytes the set of its last keys alone takes.
+    pub fn length(&self) -> usize
+        ensures { result ≡ bytes_of (whole_set self.now) }
+    {
+        32 + 8 * words_in(&self.keys)
+    }
+
+    /// How many bytes the set of what is pending takes.
+    pub fn pending_length(&self) -> usize
+        ensures size { result ≡ bytes_of (pending_set self.now) }
+        ensures few { result ≤ 2 ^ 62 }
+    {
+        32 + 8 * words_in(&self.pending)
+    }
+
+    /// Whether the set of what is pending doesn't fit behind its other sets.
+    pub fn is_full(&self, g: &Geometry) -> bool
+        ensures { IsTrue result ↔ IsFull g.now self.now }
+    {
+        let more = in_blocks(g.block, self.pending_length());
+        usize::from(g.node_sectors) < usize::from(self.taken) + more
+    }
+
     /// Those of its keys that are in no set yet, without the parts that later ones cover.
     pub fn pending(&self) -> &Extents
-        ensures { result.now.keys ≡ self.now.pending }
+        ensures keys { result.now.keys ≡ self.now.pending }
+        ensures proper { AreProperKeys self.now.from self.now.end self.now.pending }
     {
         &self.pending
+    }
+
+    /// Writes a further set, with the last keys of all that is pending, those without pointers
+    /// included; where the leaf has no set yet, the first one, with zeros over the rest of the node.
+    /// Then nothing is pending. After `Failed` the leaf is as it was, and the device may have any of
+    /// the sectors of the new set, which a reader then finds whole or not at all. The buffer begins
+    /// with what was written. Takes no memory.
+    ///
+    /// A leaf that was read from a device is rewritten first: what stands behind its sets is not
+    /// known.
+    pub fn append<D: Disk>(
+        &mut self,
+        disk: &mut D,
+        g: &Geometry,
+        buffer: &mut [u8],
+    ) -> Result<(), Failed>
+        requires free { ¬ (IsFull g.now self.old) }
+        requires fresh { self.old.loaded ≡ false }
+        requires whole { length buffer.old ≡ 512 * g.now.node_sectors }
+        requires room { self.old.ptr.offset + g.now.node_sectors ≤ (D.facts disk.old).sectors }
+        ensures bytes { HasSet g.now (ptr_word self.old.ptr) (pending_set self.old) buffer.new }
+        ensures ok { OnOk result (IsWritten (self.old.ptr.offset + self.old.taken)
+            (put_values g.now self.old.taken (pending_set self.old) buffer.new)
+            (D.facts disk.old) (D.facts disk.new)) }
+        ensures failed { OnErr result (IsFailedWrite (self.old.ptr.offset + self.old.taken)
+            (put_values g.now self.old.taken (pending_set self.old) buffer.new)
+            (D.facts disk.old) (D.facts disk.new)) }
+        ensures counted { IsCounted result (D.facts disk.old) (D.facts disk.new) }
+        ensures appended { OnOk result (IsAppended g.now self.old self.new) }
+        ensures kept { OnErr result (self.new ≡ self.old) }
+    {
+        let at = self.ptr.offset + u64::from(self.taken);
+        let more = in_blocks(g.block, self.pending_length());
+        let word = word_of(&self.ptr);
+        write_map(
+            disk,
+            g,
+            at,
+            self.taken,
+            word,
+            self.seq,
+            &self.pending,
+            buffer,
+        )?;
+        self.taken += more as u16;
+        self.pending.clear();
+        self.entries = None;
+        Ok(())
+    }
+
+    /// Writes its last keys as the first set of a node at another place, with another number and
+    /// with zeros over the rest of the node. That is where the leaf stands then, and nothing is
+    /// pending. After `Failed` the leaf is as it was, where it was. The buffer has what was written.
+    /// Takes no memory.
+    pub fn rewrite<D: Disk>(
+        &mut self,
+        disk: &mut D,
+        g: &Geometry,
+        to: &Ptr,
+        seq: u64,
+        buffer: &mut [u8],
+    ) -> Result<(), Failed>
+        requires fits { bytes_of (whole_set self.old) ≤ 512 * g.now.node_sectors }
+        requires whole { length buffer.old ≡ 512 * g.now.node_sectors }
+        requires room { to.now.offset + g.now.node_sectors ≤ (D.facts disk.old).sectors }
+        ensures bytes { HasSet g.now (ptr_word to.now) (set_of seq self.old.keys) buffer.new }
+        ensures ok { OnOk result (IsWritten to.now.offset (values_of buffer.new)
+            (D.facts disk.old) (D.facts disk.new)) }
+        ensures failed { OnErr result (IsFailedWrite to.now.offset (values_of buffer.new)
+            (D.facts disk.old) (D.facts disk.new)) }
+        ensures counted { IsCounted result (D.facts disk.old) (D.facts disk.new) }
+        ensures rewritten { OnOk result (IsRewritten g.now to.now seq self.old self.new) }
+        ensures kept { OnErr result (self.new ≡ self.old) }
+    {
+        let length = in_blocks(g.block, self.length());
+        write_map(disk, g, to.offset, 0, word_of(to), seq, &self.keys, buffer)?;
+        self.ptr = *to;
+        self.seq = seq;
+        self.taken = length as u16;
+        self.pending.clear();
+        self.entries = None;
+        self.loaded = false;
+        Ok(())
+    }
+
+    /// How many sectors its sets take on the device, in whole blocks; 0 where it has none yet.
+    pub fn taken(&self) -> u16
+        ensures { result ≡ self.now.taken }
+    {
+        self.taken
     }
 
     /// The entries of the journal that hold the keys which were added since the last set.
@@ -220,7 +349,8 @@ impl Leaf {
 
     /// Its last keys, in the order of their ranges, which don't overlap.
     pub fn keys(&self) -> &Extents
-        ensures { result.now.keys ≡ self.now.keys }
+        ensures keys { result.now.keys ≡ self.now.keys }
+        ensures proper { AreProperKeys self.now.from self.now.end self.now.keys }
     {
         &self.keys
     }

@@ -15,6 +15,7 @@
 #![tactic(auto)]
 
 mod error;
+mod keys;
 mod last;
 pub mod laws;
 mod leaf;
@@ -24,8 +25,9 @@ mod read;
 mod write;
 
 pub use error::NodeError;
+pub use last::are_within;
 pub use leaf::Leaf;
-pub use load::load_sets;
+pub use load::{load_sets, word_of};
 pub use pending::Entries;
-pub use read::read_sets;
-pub use write::{write_first, write_further};
+pub use read::{in_blocks, read_sets, sectors_of};
+pub use write::write_slice;

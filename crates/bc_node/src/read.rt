@@ -8,7 +8,7 @@ ghost use Rattle.bc_set.specs.declared.set.Set.{Set};
 ghost use Rattle.bc_set.specs.Records.{set_sectors, numbered_kind};
 ghost use Rattle.bc_set.specs.SetBytes.{IsRefused, IsSet};
 ghost use Rattle.bc_node.specs.Cause.{IsCause};
-ghost use Rattle.bc_node.specs.Sets.{AreSetsOf, AreProper};
+ghost use Rattle.bc_node.specs.Sets.{AreSetsOf, AreProper, taken_by};
 
 use crate::error::NodeError;
 use bc_disk::geometry::Geometry;
@@ -18,7 +18,7 @@ use std::alloc::{AllocError, Global};
 /// How many sectors so many bytes take, in whole blocks.
 pub fn in_blocks(block: u16, bytes: usize) -> usize
     requires block { 0 < block }
-    requires bytes { bytes ≤ 2 ^ 60 }
+    requires bytes { bytes ≤ 2 ^ 62 }
     ensures { result ≡ in_blocks block bytes }
 {
     let block = block as usize;
@@ -106,6 +106,7 @@ fn with_further(
     requires first { IsSet word g.now.set_magic kind bytes.now first }
     ensures sets { IfOk result (λ sets. AreSetsOf g.now word kind bytes.now sets.items) }
     ensures proper { IfOk result (λ sets. AreProper kind sets.items) }
+    ensures short { IfOk result (λ sets. taken_by g.now sets.items ≤ g.now.node_sectors) }
 {
     let seq = first.seq;
     let from = in_blocks(g.block, first.bytes());
@@ -130,6 +131,7 @@ pub fn read_sets(
     requires { length bytes.now ≡ 512 * g.now.node_sectors }
     ensures found { IfOk result (λ sets. AreSetsOf g.now word kind bytes.now sets.items) }
     ensures proper { IfOk result (λ sets. AreProper kind sets.items) }
+    ensures short { IfOk result (λ sets. taken_by g.now sets.items ≤ g.now.node_sectors) }
     ensures refused { IfErr result (IsCause word g.now.set_magic kind bytes.now) }
     ensures exact { (cause : SetError) → IsRefused word g.now.set_magic kind bytes.now cause
         → (result ≡ Err (NodeError.First cause)) ⊎ (result ≡ Err NodeError.Memory) }
@@ -137,4 +139,16 @@ pub fn read_sets(
     let first = read_set(alloc, bytes, word, g.set_magic, kind)?;
     let sets = with_further(alloc, g, word, kind, bytes, first)?;
     Ok(sets)
+}
+
+/// How many sectors these sets take, each in whole blocks.
+pub fn sectors_of(g: &Geometry, sets: &[Set]) -> usize
+    requires { taken_by g.now sets.now ≤ g.now.node_sectors }
+    ensures { result ≡ taken_by g.now sets.now }
+{
+    let mut sectors = 0;
+    for set in sets {
+        sectors += in_blocks(g.block, set.bytes());
+    }
+    sectors
 }

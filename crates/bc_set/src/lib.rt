@@ -13,7 +13,7 @@ mod write;
 pub use error::SetError;
 pub use read::read_set;
 pub use set::{Set, SetKind};
-pub use write::write_set;
+pub use write::{write_header, write_set};
 
 #[cfg(test)]
 mod tests;

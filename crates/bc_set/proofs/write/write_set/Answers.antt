@@ -1,24 +1,13 @@
-use Rattle.std.proofs.Common.{◌≡◌, ◌+◌, ◌*◌, ◌≤◌, length, take, ◌++◌, subst, ap, ◌∙◌, sym, arith, rules}
-use Rattle.bc_keys.specs.Spelling.{words_of_all}
-use Rattle.bc_set.specs.SetBytes.{IsSet, bytes_of}
-use Rattle.bc_set.proofs.SetLaws.{IsSet-written, written_fields}
+use Rattle.std.proofs.Common.{◌≡◌, refl, ap, ◌∙◌}
+use Rattle.bc_keys.specs.Spelling.{words_at, words_of_all}
+use Rattle.bc_set.proofs.write.write_set.Goals.{After-slice_known-3-1}
 use Rattle.bc_set.proofs.write.write_set.Goals as goal
 
-pub returns : goal.returns
-returns c =
-    let s = c.args.s.now in
-    let count = c.write_keys-count.result in
-    let counted : count ≡ length (words_of_all s.keys) = c.write_keys-count.ensures.count ∙ ap (λ keys. length (words_of_all keys)) c.as_slice.ensures in
-    let fits : bytes_of s ≤ length c.put_u64-3.new.bytes = omega arith in
-    let has =
-    written_fields c.args.start c.args.magic s count c.crc64-checksum.result c.write_keys-count.new.into c.put_u64.new.bytes c.put_u64-2.new.bytes c.put_u32.new.bytes c.put_u32-2.new.bytes c.put_u64-3.new.bytes
-    counted fits c.requires.version (c.write_keys-count.ensures.written ∙ ap words_of_all c.as_slice.ensures)
-    c.put_u64.ensures.field c.put_u64.ensures.others c.put_u64-2.ensures.field c.put_u64-2.ensures.others c.put_u32.ensures.field c.put_u32.ensures.others c.put_u32-2.ensures.field c.put_u32-2.ensures.others
-    c.crc64-checksum.ensures.value c.put_u64-3.ensures.field c.put_u64-3.ensures.others in
-    let ends : bytes_of s ≡ 32 + 8 * count = omega arith in
-    record {
-      bytes = sym ends;
-      written = λ kind rest proper. subst (λ n. IsSet c.args.start c.args.magic kind (take n c.put_u64-3.new.bytes ++ rest) s) ends (IsSet-written c.args.start c.args.magic c.put_u64-3.new.bytes s has c.requires.version kind rest proper);
-      words = has.words;
-      behind = search rules;
-    }
+words : (c : After-slice_known-3-1) → words_at c.write_keys-count.result c.write_keys-count.new.into 32 ≡ words_of_all c.args.s.now.keys
+words c = c.write_keys-count.ensures.written ∙ ap words_of_all c.as_slice.ensures
+
+pub returns-clause-written : goal.returns-clause-written
+returns-clause-written c = λ kind rest proper. c.write_header.ensures.written c.args.s.now kind rest refl c.requires.version (words c) proper
+
+pub returns-clause-words : goal.returns-clause-words
+returns-clause-words c = c.write_header.ensures.words c.args.s.now (words c)

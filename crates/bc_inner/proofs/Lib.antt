@@ -1,0 +1,3 @@
+pub mod ChildLists
+pub mod Covers
+pub mod Nodes
