@@ -1,0 +1,5 @@
+pub mod Children
+pub mod Parts
+pub mod Spine
+pub mod Needs
+pub mod Laws
