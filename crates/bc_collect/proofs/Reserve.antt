@@ -27,15 +27,15 @@ for_taken i Tree x is h = absurd (not_for_chain x (Listed Tree) is (λ e. cc) (�
 for_taken i Plain x is h = absurd (not_for_chain x (Listed Plain) is (λ e. cc) (λ j e. cc) h)
 
 -- each chain from the one that was made ready last has its buckets
-record HasReserve (w : Setup) (k : Books) : Type 0 where
-  near : Many w.sets (λ b. IsForChain (k.shelf b))
-  chains : (c : ℕ) → k.chains.ready ≤ c → c ≤ k.chains.sealed → Many w.sets (λ b. k.chains.of b ≡ Some c)
+pub record HasReserve (w : Setup) (k : Books) : Type 0 where
+  pub near : Many w.sets (λ b. IsForChain (k.shelf b))
+  pub chains : (c : ℕ) → k.chains.ready ≤ c → c ≤ k.chains.sealed → Many w.sets (λ b. k.chains.of b ≡ Some c)
 
 module _ (w : Setup) (k : Books) (f : IsInOrder w k) (h : HasReserve w k) where
   abbrev AllChains : Chains → Type 0
   AllChains chains = (c : ℕ) → chains.ready ≤ c → c ≤ chains.sealed → Many w.sets (λ b. chains.of b ≡ Some c)
 
-  chains_step : (x : Step) → CanStep w k x → AllChains (after w k x).chains
+  pub chains_step : (x : Step) → CanStep w k x → AllChains (after w k x).chains
   chains_step (ReadyChain room) on = λ c low high. many_map w.sets (λ b. k.chains.of b ≡ Some c) (λ b. given_up k.chains.ready (k.chains.of b) ≡ Some c)
       (λ b e. subst (λ o. given_up k.chains.ready o ≡ Some c) (sym e) (by_test c k.chains.ready (λ z. (if z then None else Some c) ≡ Some c) (λ is. absurd (omega arith)) (λ _. refl))) (h.chains c (omega arith) high)
   chains_step (SealChain i versions chain) on = λ c low high. by_test c (suc k.chains.sealed) (λ _. Many w.sets (λ b. (if chain b then Some (suc k.chains.sealed) else k.chains.of b) ≡ Some c))
@@ -50,7 +50,7 @@ module _ (w : Setup) (k : Books) (f : IsInOrder w k) (h : HasReserve w k) where
       → Many w.sets (λ c. IsForChain (put k.shelf b x c))
   near_put b x go = many_map w.sets (λ c. IsForChain (k.shelf c)) (λ c. IsForChain (put k.shelf b x c)) (λ c e. put_cases k.shelf b c x IsForChain (λ _. e) (λ is. go (subst (λ d. IsForChain (k.shelf d)) is e))) h.near
 
-  near_step : (x : Step) → CanStep w k x → IsRoomy w k x → Many w.sets (λ b. IsForChain ((after w k x).shelf b))
+  pub near_step : (x : Step) → CanStep w k x → IsRoomy w k x → Many w.sets (λ b. IsForChain ((after w k x).shelf b))
   near_step (Take i p b) on roomy = near_put b (taken_to i p) (λ e. elim on [
     | inl x ↦ absurd (not_for_chain (k.shelf b) (Listed Plain) x (λ y. cc) (λ j y. cc) e)
     | inr x ↦ for_taken i p (k.shelf b) x e

@@ -11,7 +11,7 @@ use Rattle.bc_meta.specs.Chain.{Distinct, EachOf, bytes_of, chain_from}
 use Rattle.bc_meta.specs.Events.{Event, FailFill, Fill, MakeDurable, NewNode, Reuse, SealEntry}
 use Rattle.bc_meta.specs.Records.{Fixed, IsReady, Nothing, Records, Stage, loose_node, owners, put, records_after}
 use Rattle.bc_meta.specs.Places.{CanHappen, NoChance, call_of, places_after, writes}
-use Rattle.bc_meta.specs.Acts.{Act, ChainReady, Durable, FailData, FailHeld, IsBuilt, IsEnabled, IsRun, LetGo, Made, Plain, Seal, SealChain, State, StaysUnused, Take, WriteData, WriteNode, WriteSet, after, event_of, fold, given_up, head_of, is_plain, put_all}
+use Rattle.bc_meta.specs.Acts.{Act, ChainReady, Durable, FailData, FailHeld, IsBuilt, IsEnabled, IsRun, KeepSpare, LetGo, Made, Plain, Seal, SealChain, State, StaysUnused, Take, WriteData, WriteNode, WriteSet, after, event_of, fold, given_up, head_of, is_plain, put_all}
 use Rattle.bc_meta.specs.Laws.{Again, Finds, IsSound, LawCrash, LawNext, LawUntouched, Opening, Survives, act_writes, opened, reached}
 use Rattle.bc_meta.proofs.Lists.{by_test, decide}
 use Rattle.bc_meta.proofs.Firm.{reads_written}
@@ -192,6 +192,30 @@ module _ (w : Layout) (o : Opening) (st : State) (inv : Inv w o st) where
     spare = inv.spare;
     spare_shape = inv.spare_shape;
     unused = inv.unused;
+  }
+
+  keep_spare : (spare : List ℕ) → IsEnabled w o.image st (KeepSpare spare) → Inv w o (after w st (KeepSpare spare))
+  keep_spare spare on = record {
+    place = inv.place;
+    records = inv.records;
+    order = inv.order;
+    idle = inv.idle;
+    named = inv.named;
+    members = inv.members;
+    range = inv.range;
+    shape = inv.shape;
+    quiet = inv.quiet;
+    made = inv.made;
+    durable = inv.durable;
+    sealed = inv.sealed;
+    spare = λ q j. let k = on.1.2 q j in record { free = k.free; low = k.low; high = k.high };
+    spare_shape = (on.1.0, on.1.1);
+    unused = λ q a. elim a [
+      | inl lt ↦ inv.unused q (inl lt)
+      | inr (inl ge) ↦ inv.unused q (inr (inl ge))
+      | inr (inr (inl y)) ↦ inv.unused q (inr (inr (inl y)))
+      | inr (inr (inr j)) ↦ (on.1.2 q j).unused
+    ];
   }
 
   keep_write_node : (i q : ℕ) (p : Owner) (set : NodeSet) (vs : List Value) → IsEnabled w o.image st (WriteNode i q p set vs) → Inv w o (after w st (WriteNode i q p set vs))
@@ -487,6 +511,7 @@ keep_act w o st (Seal entry unused) on inv = keep_seal w o st inv entry unused o
 keep_act w o st (SealChain i qs gens entry unused) on inv = keep_seal_chain w o st inv i qs gens entry unused on
 keep_act w o st Durable on inv = keep_durable w o st inv on
 keep_act w o st (ChainReady i spare) on inv = keep_ready w o st inv i spare on
+keep_act w o st (KeepSpare spare) on inv = keep_spare w o st inv spare on
 
 pub keep_acts : (w : Layout) (o : Opening) (st : State) (ms : List Act) → IsRun w o.image st ms → Inv w o st → Inv w o (fold w st ms)
 keep_acts w o st [] run inv = inv

@@ -53,6 +53,8 @@ pub data Act : Type 0 where
   -- the chain before the durable one is given up, and these buckets are kept for chains from then
   -- on
   ChainReady : (seat : ℕ) → (spare : List ℕ) → Act
+  -- other buckets are kept for chains from now on
+  KeepSpare : (spare : List ℕ) → Act
 
 -- what an act is to the records
 abbrev pub event_of : Layout → Act → Option Event
@@ -126,6 +128,7 @@ gens_after st act = st.gens
 
 abbrev pub spare_after : State → Act → List ℕ
 spare_after st (ChainReady seat spare) = spare
+spare_after st (KeepSpare spare) = spare
 spare_after st act = st.spare
 
 abbrev pub after : Layout → State → Act → State
@@ -178,6 +181,13 @@ abbrev pub head_of : List ℕ → ℕ
 head_of [] = 0
 head_of (q ∷ qs) = q
 
+-- a bucket that may be kept for chains: nothing that a crash may find is there, but a later chain
+pub record MayKeep (w : Layout) (st : State) (q : ℕ) : Type 0 where
+  pub free : (st.chain_of q ≡ None) ⊎ ((n : ℕ) × (st.chain_of q ≡ Some n) × (st.ready_chain < n))
+  pub unused : st.places.records.unused q ≡ true
+  pub low : w.journal ≤ q
+  pub high : q < w.buckets
+
 abbrev pub ChainsAllow : Layout → State → Act → Type 0
 ChainsAllow w st (Plain event) = (is_plain event ≡ true) × StaysUnused w st (unused_after st.places.records event)
 ChainsAllow w st (Take seat q) = (st.holder q ≡ None) × (st.chain_of q ≡ None) × (q < w.buckets)
@@ -193,6 +203,8 @@ ChainsAllow w st (SealChain seat buckets gens entry unused) =
     × Distinct buckets × (length buckets ≡ w.chain_sets)
     × IsBuilt st.made 0 (head_of buckets) buckets (bytes_of gens) × (entry.prio ≡ head_of buckets)
 ChainsAllow w st Durable = Unit {0}
+ChainsAllow w st (KeepSpare spare) = Distinct spare × (length spare ≡ w.chain_sets)
+    × EachOf (MayKeep w st) spare
 ChainsAllow w st (ChainReady seat spare) =
     (st.ready_chain < st.durable_chain) × EachOf (λ q. st.holder q ≡ Some seat) (st.buckets (suc st.ready_chain))
     × Distinct spare × (length spare ≡ w.chain_sets)
