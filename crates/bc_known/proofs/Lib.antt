@@ -1,0 +1,16 @@
+pub mod Spares
+pub mod Places
+pub mod Writes
+pub mod Keyed
+pub mod Others
+pub mod Installed
+pub mod Spared
+pub mod Mild
+pub mod Slots
+pub mod Seqs
+pub mod Stays
+pub mod Moves
+pub mod Law
+pub mod Next
+pub mod Collect
+pub mod Workers
