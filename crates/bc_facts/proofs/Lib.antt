@@ -1,0 +1,16 @@
+pub mod Values
+pub mod Finder
+pub mod Made
+pub mod Lists
+pub mod Scan
+pub mod Journal
+pub mod Nodes
+pub mod Chain
+pub mod Torn
+pub mod Stood
+pub mod Place
+pub mod Opened
+pub mod Told
+pub mod Lost
+pub mod Teeth
+pub mod Written

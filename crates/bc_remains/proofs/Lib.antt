@@ -1,0 +1,12 @@
+pub mod Keys
+pub mod Children
+pub mod Tree
+pub mod Crash
+pub mod Walks
+pub mod Next
+pub mod Open
+pub mod Rings
+pub mod Strays
+pub mod Apart
+pub mod Fresh
+pub mod Example
