@@ -1,0 +1,6 @@
+pub mod OneFault
+pub mod OneWay
+pub mod Flags
+pub mod Nodes
+pub mod Goes
+pub mod Trees

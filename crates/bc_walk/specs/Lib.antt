@@ -1,0 +1,4 @@
+pub mod Walk
+pub mod Loading
+pub mod Seen
+pub mod Tree
