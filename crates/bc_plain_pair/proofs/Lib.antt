@@ -1,0 +1,7 @@
+pub mod Padded
+pub mod Disks
+pub mod Sets
+pub mod Walks
+pub mod Readings
+pub mod Alls
+pub mod Shows

@@ -1,0 +1,2 @@
+pub mod PairBytes
+pub mod LivePlace
