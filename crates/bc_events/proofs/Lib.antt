@@ -1,0 +1,5 @@
+pub mod Machine
+pub mod Plain
+pub mod Names
+pub mod Example
+pub mod Collect

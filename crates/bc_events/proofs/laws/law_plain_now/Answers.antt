@@ -1,0 +1,5 @@
+use Rattle.bc_events.proofs.Plain.{law_plain_now}
+use Rattle.bc_events.proofs.laws.law_plain_now.Goals as goal
+
+pub returns : goal.returns
+returns c = law_plain_now
