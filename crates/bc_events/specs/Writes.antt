@@ -1,5 +1,5 @@
 -- What writes of the cache device are to the whole machine.
-use Rattle.std.specs.Prelude.{ℕ, false, List, [], ◌∷◌, Option, Some, None}
+use Rattle.std.specs.Prelude.{ℕ, false, List, [], ◌∷◌, take, Option, Some, None}
 use Rattle.bc_model.specs.Sector.{Value}
 use Rattle.bc_meta.specs.Tree.{NodeSet, Owner}
 use Rattle.bc_leaves.specs.Parts.{Draft, leaf_owner, inner_owner}
@@ -52,9 +52,9 @@ write_of w st (Set leaf) at values =
 write_of w st (Parent inner change) at values =
     map_some (OfParent inner) (set_in w (inner_owner (st.whole.parts.inner_nodes inner)) values)
 write_of w st (Leaf x) at values =
-    map_some (OfLeaf x.slot (draft_leaf x)) (set_in w (leaf_owner (draft_leaf x)) values)
+    map_some (OfLeaf x.slot (draft_leaf x)) (set_in w (leaf_owner (draft_leaf x)) (take x.sectors values))
 write_of w st (Inner x) at values =
-    map_some (OfInner x.slot (draft_inner x)) (set_in w (inner_owner (draft_inner x)) values)
+    map_some (OfInner x.slot (draft_inner x)) (set_in w (inner_owner (draft_inner x)) (take x.sectors values))
 write_of w st (Priorities bucket part) at values =
     map_some (OfPriorities bucket part) (w.layout.prios.spelled part values)
 

@@ -59,7 +59,7 @@ pub enum UnpinKind {
 }
 
 /// A node that doesn't stand yet: its range, its bucket and the word of the pointer to it. Above
-/// leaves `height` is 0.
+/// leaves `height` is 0. Its first set takes so many sectors; zeros are written behind it.
 #[derive(Clone, Copy, Debug, PartialEq, Eq, Drop)]
 pub struct NewNode {
     pub slot: u32,
@@ -68,6 +68,7 @@ pub struct NewNode {
     pub bucket: u32,
     pub word: u64,
     pub height: u16,
+    pub sectors: u32,
 }
 
 /// A change of the tree between two sectors: the leaves and the inner nodes that go, and those that

@@ -1,5 +1,5 @@
 -- From a kind of records, of which each place has one or none, to the facts of the machine.
-use Rattle.std.proofs.Common.{◌≡◌, inl, inr, ℕ, ◌+◌, ◌-◌, ◌*◌, ◌<◌, ◌≤◌, List, length, take, Option, Some, None, sym, ap, ◌∙◌, arith, if◌then◌else◌, ◌==◌, nat_le}
+use Rattle.std.proofs.Common.{◌≡◌, inl, inr, ℕ, ◌+◌, ◌-◌, ◌*◌, ◌<◌, ◌≤◌, List, length, take, Option, Some, None, sym, ap, ◌∙◌, arith, if◌then◌else◌, ◌==◌, nat_le, refl}
 use Rattle.bc_model.specs.Sector.{Value, Image}
 use Rattle.bc_record.specs.Kind.{Kind, sectors_of, IsFound}
 use Rattle.bc_record.specs.Sectors.{bytes_to, Has, AgreeOn}
@@ -15,6 +15,11 @@ use Rattle.bc_facts.proofs.Values.{bytes_had}
 
 some_same : {A : Type 0} → (a b : A) → Some a ≡ Some b → a ≡ b
 some_same a b e = cc
+
+-- nothing is found where nothing is read
+pub no_one : {A : Type 0} (o : Option A) → ((x : A) → o ≡ Some x → ⊥) → o ≡ None
+no_one None none = refl
+no_one (Some x) none = absurd (none x refl)
 
 module _ {R A : Type 0} (kind : Kind R) (codec : IsCodec kind) (seen : R → A) where
   abbrev Start : List ℕ → Type 0

@@ -8,17 +8,17 @@ use Rattle.bc_record.proofs.Blocks.{blocks_hold, blocks_within, some_blocks, blo
 use Rattle.bc_jset.specs.Records.{entry_kind}
 use Rattle.bc_jset.proofs.Records.{entry_codec}
 use Rattle.bc_set.specs.Records.{set_kind}
-use Rattle.bc_set.proofs.Records.{set_codec}
+use Rattle.bc_set.proofs.Records.{set_codec, none_in_zeros}
 use Rattle.bc_prio.specs.Sizes.{sets_in_chain, bucket_bytes}
 use Rattle.bc_prio.specs.Records.{part_kind}
 use Rattle.bc_prio.proofs.RecordKind.{part_codec}
-use Rattle.bc_meta.specs.Facts.{Facts}
+use Rattle.bc_meta.specs.Facts.{Facts, FindsNoneInZeros}
 use Rattle.bc_meta.specs.Entries.{Entry}
 use Rattle.bc_meta.specs.Tree.{NodeSet, Owner}
 use Rattle.bc_meta.specs.Layout.{PrioSet, Layout}
 use Rattle.bc_facts.specs.Seen.{seen_entry, seen_set, kind_of, seen_prio}
 use Rattle.bc_facts.specs.Layout.{begins_at, IsLayoutOf}
-use Rattle.bc_facts.proofs.Finder.{facts, are_facts}
+use Rattle.bc_facts.proofs.Finder.{facts, are_facts, found_is, no_one}
 
 -- how many words the keys of a record have
 abbrev words_told : List ℕ → ℕ
@@ -53,6 +53,10 @@ abbrev set_facts : (g : Geometry) → Facts g.block Owner NodeSet
 set_facts g = facts g.block (λ (o : Owner). set_kind g o.word (kind_of o.leaf)) (λ o. set_codec g o.word (kind_of o.leaf)) (λ o. seen_set g o.leaf) (set_len g)
     (λ e. some_blocks g.block (32 + 8 * words_told e.rest) (block_some g) (omega arith)) (λ e. in_whole g (32 + 8 * words_told e.rest)) (λ o r. refl)
 
+pub none_blank : (g : Geometry) → FindsNoneInZeros (set_facts g)
+none_blank g image o end p is = no_one ((set_facts g).found image o end p)
+    (λ (e : NodeSet) found. let k = found_is (set_kind g o.word (kind_of o.leaf)) (set_codec g o.word (kind_of o.leaf)) (seen_set g o.leaf) image end p e found in none_in_zeros g o.word (kind_of o.leaf) image end p k.0 is k.1.0)
+
 abbrev prio_facts : (g : Geometry) → Facts g.block ℕ PrioSet
 prio_facts g = facts g.block (part_kind g) (part_codec g) (seen_prio g) (λ e. g.bucket)
     (λ e. bucket_some g) (λ e. bucket_blocks g) (λ o r. sym (bucket_whole g))
@@ -82,6 +86,7 @@ made g = record {
   apart = λ a b t la lb ne x y z u. buckets_apart g.bucket (g.first_bucket + a) (g.first_bucket + b) t (λ e. ne (omega arith)) x y z u;
   entries = entry_facts g;
   sets = set_facts g;
+  blank = none_blank g;
   prios = prio_facts g;
   fills = λ e. refl;
   chain_sets = sets_in_chain g;

@@ -1,5 +1,5 @@
 -- What the machine reads is what the formats say.
-use Rattle.std.proofs.Common.{◌≡◌, ◌≢◌, ℕ, ◌-◌, ◌<◌, Option, Some, None, refl, sym, ap, ◌∙◌, arith}
+use Rattle.std.proofs.Common.{◌≡◌, ◌≢◌, ℕ, ◌-◌, ◌<◌, sym, ap, ◌∙◌, arith}
 use Rattle.bc_model.specs.Sector.{Image}
 use Rattle.bc_model.specs.Pattern.{zeros}
 use Rattle.bc_disk.specs.declared.geometry.Geometry.{Geometry}
@@ -24,6 +24,7 @@ use Rattle.bc_prio.specs.Set.{magic_of}
 use Rattle.bc_prio.specs.Records.{part_kind}
 use Rattle.std.proofs.Common.{List, length, take}
 use Rattle.std.proofs.lemmas.List.{length-take, take-take}
+use Rattle.bc_facts.proofs.Finder.{no_one}
 
 pub reads_entries : (g : Geometry) (w : Layout) → IsLayoutOf g w → (image : Image) → ReadsEntries g w image
 reads_entries g w layout image = record {
@@ -39,11 +40,6 @@ reads_chain g w layout some image first = record {
   found = λ buckets gens distinct is. let r = read_chain g w layout image some first buckets gens distinct is in (r.found, r.are, r.chain, r.gens_are);
   read = λ gens are. (opened_chain g w layout image some first gens are).found;
 }
-
--- nothing is found where nothing is read
-no_one : {A : Type 0} (o : Option A) → ((x : A) → o ≡ Some x → ⊥) → o ≡ None
-no_one None none = refl
-no_one (Some x) none = absurd (none x refl)
 
 -- the magic of a priority set would be zero
 no_prio : (g : Geometry) (image : Image) (end place part : ℕ) (bytes : List ℕ) → image place ≡ zeros → magic_of g ≢ 0 → (part_kind g part).Begins (bytes_to image end place) bytes → ⊥

@@ -1,5 +1,5 @@
 -- The premise on torn records is the machine's.
-use Rattle.std.proofs.Common.{subst, ◌≡◌, ◌⊎◌, inl, inr, ℕ, ◌+◌, ◌<◌, ◌≤◌, true, Some, sym, ap, ◌∙◌, arith}
+use Rattle.std.proofs.Common.{subst, ◌≡◌, ◌⊎◌, inl, inr, ℕ, ◌+◌, ◌<◌, Some, sym, ap, ◌∙◌, arith}
 use Rattle.bc_model.specs.Sector.{Image}
 use Rattle.bc_disk.specs.Device.{MayLeave}
 use Rattle.bc_disk.specs.declared.geometry.Geometry.{Geometry}
@@ -9,8 +9,8 @@ use Rattle.bc_set.specs.Records.{numbered_kind}
 use Rattle.bc_meta.specs.Facts.{IsAtBlock}
 use Rattle.bc_meta.specs.Entries.{Entry}
 use Rattle.bc_meta.specs.Tree.{NodeSet}
-use Rattle.bc_meta.specs.Layout.{Layout, entry_at, node_end}
-use Rattle.bc_meta.specs.Places.{Places, Wrote, NoChance}
+use Rattle.bc_meta.specs.Layout.{Layout, entry_at, node_end, set_len}
+use Rattle.bc_meta.specs.Places.{Places, Wrote, NoChance, NoTornSet, AreSure}
 use Rattle.bc_facts.specs.Whole.{IsWhole}
 use Rattle.bc_facts.specs.Seen.{kind_of}
 use Rattle.bc_facts.specs.Layout.{begins_at, IsLayoutOf}
@@ -33,20 +33,16 @@ module _ (g : Geometry) (w : Layout) (layout : IsLayoutOf g w) (opening : Image)
         | inr wrote ↦ inr (subst (λ (x : Entry). Wrote p.entry_log b at x) k.2 wrote)
       ]
 
-  sets : (image : Image) (q at : ℕ) (e : NodeSet) → MayLeave p.device image → p.own q ≡ true → p.node_next q ≤ at
-      → IsAtBlock w.block (w.begins (p.records.nodes q).owner) at → e.seq ≡ p.seq q
-      → w.sets.found image (p.records.nodes q).owner (node_end w (p.records.nodes q).owner) at ≡ Some e
-      → (w.sets.found opening (p.records.nodes q).owner (node_end w (p.records.nodes q).owner) at ≡ Some e) ⊎ Wrote p.log q at e
-  sets image q at e left own le block seq found =
+  sets : NoTornSet w p
+  sets image q e left own known stand seq found =
       let o = (p.records.nodes q).owner in
-      let k = (layout.sets.found image (p.records.nodes q).owner (node_end w (p.records.nodes q).owner) at e).0 found in
+      let k = (layout.sets.found image (p.records.nodes q).owner (node_end w (p.records.nodes q).owner) (p.node_next q) e).0 found in
       let numbered : k.0.seq ≡ p.seq q = ap (λ (x : NodeSet). x.seq) k.2 ∙ seq in
-      let whole : IsWhole (numbered_kind g (p.records.nodes q).owner.word (kind_of (p.records.nodes q).owner.leaf) (p.seq q)) image (begins_at (p.records.nodes q).owner.word + g.node_sectors) at k.0 =
-      subst (λ n. IsWhole (numbered_kind g (p.records.nodes q).owner.word (kind_of (p.records.nodes q).owner.leaf) (p.seq q)) image n at k.0) (ends g w layout image (p.records.nodes q).owner) ((k.1.0, numbered), k.1.1) in
-      elim (none_torn.sets image q at left own le (at_block w.block g.block (w.begins (p.records.nodes q).owner) (begins_at (p.records.nodes q).owner.word) at layout.block (layout.begins (p.records.nodes q).owner) block) k.0 whole) [
-        | inl stood ↦ (let there = subst (λ n. IsWhole (numbered_kind g (p.records.nodes q).owner.word (kind_of (p.records.nodes q).owner.leaf) (p.seq q)) opening n at k.0) (sym (ends g w layout image (p.records.nodes q).owner)) stood in
-            inl ((layout.sets.found opening (p.records.nodes q).owner (node_end w (p.records.nodes q).owner) at e).1 (k.0, (there.0.0, there.1), k.2)))
-        | inr wrote ↦ inr (subst (λ (x : NodeSet). Wrote p.log q at x) k.2 wrote)
+      let whole : IsWhole (numbered_kind g (p.records.nodes q).owner.word (kind_of (p.records.nodes q).owner.leaf) (p.seq q)) image (begins_at (p.records.nodes q).owner.word + g.node_sectors) (p.node_next q) k.0 =
+      subst (λ n. IsWhole (numbered_kind g (p.records.nodes q).owner.word (kind_of (p.records.nodes q).owner.leaf) (p.seq q)) image n (p.node_next q) k.0) (ends g w layout image (p.records.nodes q).owner) ((k.1.0, numbered), k.1.1) in
+      elim (none_torn.sets image q left own known stand k.0 whole) [
+        | inl sure ↦ inl (subst (λ n. AreSure p.device (p.node_next q) (p.node_next q + n)) (sym (layout.sets.long (p.records.nodes q).owner k.0) ∙ ap (λ (x : NodeSet). set_len w x) k.2) sure)
+        | inr wrote ↦ inr (subst (λ (x : NodeSet). Wrote p.log q (p.node_next q) x) k.2 wrote)
       ]
 
   pub no_chance : NoChance w opening p

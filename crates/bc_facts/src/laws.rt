@@ -1,5 +1,5 @@
 //! What the definitions come to: each law is the contract of a function.
-ghost use Rattle.std.specs.Prelude.{◌≡◌, ℕ, ◌*◌, ◌<◌, Bool, List, length, Some};
+ghost use Rattle.std.specs.Prelude.{◌≡◌, ℕ, ◌-◌, ◌*◌, ◌<◌, ◌≤◌, Bool, List, ◌++◌, length, replicate, Some};
 ghost use Rattle.bc_model.specs.Sector.{Image, values_of};
 ghost use Rattle.bc_model.specs.Pattern.{zeros};
 ghost use Rattle.bc_disk.specs.declared.geometry.Geometry.{Geometry};
@@ -12,7 +12,7 @@ ghost use Rattle.bc_prio.specs.Set as prio;
 ghost use Rattle.bc_set.specs.declared.set.Set.{Set};
 ghost use Rattle.bc_meta.specs.Layout.{Layout};
 ghost use Rattle.bc_meta.specs.Tree.{Owner};
-ghost use Rattle.bc_meta.specs.Places.{Places, NoChance};
+ghost use Rattle.bc_meta.specs.Places.{Places, IsFirstWrite, NoChance};
 ghost use Rattle.bc_facts.specs.Layout.{IsLayoutOf};
 ghost use Rattle.bc_facts.specs.Teeth.{NeedsNoStray};
 ghost use Rattle.bc_facts.specs.Laws.{ReadsEntries, ReadsSets, ReadsChain, ReadsZeros};
@@ -38,7 +38,8 @@ pub fn law_reads()
         → (image : Image) (end place : ℕ) → image place ≡ zeros → ReadsZeros g w image end place }
 {}
 
-/// What a writer lays out in whole blocks is a record's values, whatever its pads are.
+/// What a writer lays out in whole blocks is a record's values, whatever its pads are; and a set with
+/// zeros behind it up to the node's end is a node's first write.
 pub fn law_written()
     ensures entries { (g : Geometry) (w : Layout) → IsLayoutOf g w → (bytes : List ℕ) (e : JEntry)
         → length bytes ≡ 512 * entry_sectors g e → IsEntry g.set_magic bytes e
@@ -47,6 +48,11 @@ pub fn law_written()
         (bytes : List ℕ) (s : Set) → length bytes ≡ 512 * set_sectors g s
         → IsSet o.word g.set_magic (kind_of o.leaf) bytes s
         → w.sets.spelled o (values_of bytes) ≡ Some (seen_set g o.leaf s) }
+    ensures first { (g : Geometry) (w : Layout) → IsLayoutOf g w → (o : Owner)
+        (bytes : List ℕ) (s : Set) → length bytes ≡ 512 * set_sectors g s
+        → IsSet o.word g.set_magic (kind_of o.leaf) bytes s → set_sectors g s ≤ g.node_sectors
+        → IsFirstWrite w o (seen_set g o.leaf s)
+        (values_of (bytes ++ replicate (512 * (g.node_sectors - set_sectors g s)) 0)) }
     ensures prios { (g : Geometry) (w : Layout) → IsLayoutOf g w → (part : ℕ) (bytes : List ℕ)
         → prio.IsSet g part bytes
         → w.prios.spelled part (values_of bytes) ≡ Some (seen_prio g part bytes) }

@@ -1,8 +1,9 @@
 //! What the machine of metadata takes for granted of records, shown of the real ones.
 //!
 //! The machine of `bc_meta` never sees a byte: it asks of records that they take whole blocks, that
-//! what was written is found, and that what is found rests on its own sectors. If a real record
-//! didn't do one of these, every law over the machine would speak of a device that nobody has. So
+//! what was written is found, that what is found rests on its own sectors, and of a node's sets that
+//! none is found in zeros. If a real record didn't do one of these, every law over the machine would
+//! speak of a device that nobody has. So
 //! here the machine's layout is made of the formats: journal entries, sets of keys and priority
 //! sets, each as the crate of its format reads it, and of what it then finds in an image it is
 //! shown that it is what the formats say, both ways.

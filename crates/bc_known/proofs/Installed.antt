@@ -1,6 +1,5 @@
 -- An install lets go the buckets of new nodes.
 use Rattle.std.proofs.Common.{◌≡◌, ℕ, Bool, List, [], ◌∷◌, None, refl, subst, if◌then◌else◌}
-use Rattle.bc_model.specs.Sector.{Image}
 use Rattle.bc_books.specs.Index.{put}
 use Rattle.bc_books.specs.Shelves.{Tree, Shelf, Loose, Held}
 use Rattle.bc_books.specs.Books.{Step, Regroup, MakeNode, DropNode}
@@ -46,12 +45,12 @@ made shelf m w i b h = record {
       (λ _ e. absurd (cc)) (λ _ e. h.unnamed q j e);
 }
 
-module _ (w : Opening) (image : Image) (seat : ℕ) where
+module _ (w : Opening) (seat : ℕ) where
   -- the buckets of new nodes are the seat's
   pub released_joint : (f : flow.State) (m : meta.State) (p : parts.State) (un : ℕ → Bool)
       (old : parts.State) (xs : List Step) → AsksSteps old seat un xs
       → IsCourse w.flow f (by seat (shelved xs)) → AgreeOnHolds f.books.shelf m
-      → IsJoint w.layout image m p (released xs)
+      → IsJoint w.layout m p (released xs)
   released_joint f m p un old [] ask on h = tt
   released_joint f m p un old (MakeNode i b ∷ xs) ask on h = (
     refl,
@@ -113,14 +112,14 @@ module _ (w : Opening) (st : State) (seat : ℕ) (inv : Inv w st.whole) (z : IsK
       → IsEnabled w st seat (Install un steps)
       → whole_run.IsEnabled w st.whole seat (whole.Install un steps)
   install_enabled un steps on = record {
-    together = (on.asks.1, installed w w.store.image seat un st.whole.parts steps on.asks.2);
+    together = (on.asks.1, installed w seat un st.whole.parts steps on.asks.2);
     flow = on.data_allows;
     store = (
       refl,
       (on.asks.0, tt),
       tt,
       (refl, λ q a. on.asks.1 q (writes.unused w st seat inv z laid f q a)),
-      released_joint w w.store.image seat st.whole.flow
+      released_joint w seat st.whole.flow
           (meta.after w.layout st.whole.store (meta.Plain (event.GiveUp un)))
           (parts_step.fold st.whole.parts (parts_event.Install un ∷ [])) un st.whole.parts steps
           on.asks.2 on.data_allows (record { holders = agree.holders; unnamed = agree.unnamed }),

@@ -1,6 +1,5 @@
 -- Keys that come into a leaf in hand.
 use Rattle.std.proofs.Common.{◌≡◌, ◌≤◌, ℕ, List, [], ◌∷◌, ◌++◌, refl, sym, ap, ◌∙◌, subst}
-use Rattle.bc_model.specs.Sector.{Image}
 use Rattle.bc_key.specs.declared.key.Key.{Key}
 use Rattle.bc_key.specs.Key.{start_of}
 use Rattle.bc_meta.specs.Layout.{Layout}
@@ -29,17 +28,17 @@ pub fold_join : (w : Layout) (m : meta.State) (xs ys : List meta.Act)
 fold_join w m [] ys = refl
 fold_join w m (x ∷ xs) ys = fold_join w (meta.after w m x) xs ys
 
-pub joint_join : (w : Layout) (image : Image) (m : meta.State) (st : parts.State)
-    (xs ys : List Step) → IsJoint w image m st xs
-    → IsJoint w image (meta.fold w m (acts_of xs)) (parts_of st xs) ys
-    → IsJoint w image m st (xs ++ ys)
-joint_join w image m st [] ys a b = b
-joint_join w image m st (x ∷ xs) ys a b = (
+pub joint_join : (w : Layout) (m : meta.State) (st : parts.State)
+    (xs ys : List Step) → IsJoint w m st xs
+    → IsJoint w (meta.fold w m (acts_of xs)) (parts_of st xs) ys
+    → IsJoint w m st (xs ++ ys)
+joint_join w m st [] ys a b = b
+joint_join w m st (x ∷ xs) ys a b = (
   a.0,
   a.1,
   a.2,
   a.3,
-  joint_join w image
+  joint_join w
       (meta.after w m x.act) (fold st x.events) xs ys a.4 b,
 )
 
@@ -51,7 +50,7 @@ record IsOpen (st : parts.State) (slot : ℕ) (m : meta.State) (w : Layout)
   end_is : (st.leaves slot).end ≡ end
   unused : StaysUnused w m m.places.records.unused
 
-module _ (w : Layout) (image : Image) (slot first end : ℕ) where
+module _ (w : Layout) (slot first end : ℕ) where
   one : (m : meta.State) (st : parts.State) (key : Key) → IsOpen st slot m w first end
       → IsOpen (parts_of st (step (meta.Plain (event.AddKey key)) (parts_event.Insert slot key)))
       slot (meta.after w m (meta.Plain (event.AddKey key))) w first end
@@ -80,11 +79,11 @@ module _ (w : Layout) (image : Image) (slot first end : ℕ) where
   inserted_joint : (m : meta.State) (st : parts.State) (keys : List Key)
       → IsOpen st slot m w first end → AllWithin st slot keys
       → (st.leaves slot).first ≡ first → (st.leaves slot).end ≡ end
-      → IsJoint w image m st (inserted slot keys)
+      → IsJoint w m st (inserted slot keys)
   inserted_joint m st [] h within a b = tt
   inserted_joint m st (key ∷ keys) h within a b =
       let k = some m st keys h in
-      joint_join w image m st (inserted slot keys)
+      joint_join w m st (inserted slot keys)
       (step (meta.Plain (event.AddKey key)) (parts_event.Insert slot key))
       (inserted_joint m st keys h within.1 a b) (
         refl,
@@ -104,9 +103,9 @@ module _ (w : Layout) (image : Image) (slot first end : ℕ) where
         tt,
       )
 
-pub keyed_joint : (w : Layout) (image : Image) (slot : ℕ) (m : meta.State) (st : parts.State)
+pub keyed_joint : (w : Layout) (slot : ℕ) (m : meta.State) (st : parts.State)
     (keys : List Key) → (st.leaves slot).role ≡ Free → AllWithin st slot keys
-    → StaysUnused w m m.places.records.unused → IsJoint w image m st (inserted slot keys)
-keyed_joint w image slot m st keys free within unused =
-    inserted_joint w image slot (st.leaves slot).first (st.leaves slot).end m st keys
+    → StaysUnused w m m.places.records.unused → IsJoint w m st (inserted slot keys)
+keyed_joint w slot m st keys free within unused =
+    inserted_joint w slot (st.leaves slot).first (st.leaves slot).end m st keys
     (record { free = free; first_is = refl; end_is = refl; unused = unused }) within refl refl

@@ -393,7 +393,7 @@ module _ (w : Opening) (st : State) (seat : ℕ) (inv : Inv w st.whole) (z : IsK
   install_known un steps on =
       let m = meta.after w.layout st.whole.store (meta.Plain (event.GiveUp un)) in
       let a = agree w st seat inv z laid f in
-      let holds = released_holds w w.store.image seat st.whole.flow m un st.whole.parts steps
+      let holds = released_holds w seat st.whole.flow m un st.whole.parts steps
       on.asks.2 (record { holders = a.holders; unnamed = a.unnamed }) in
       let same = released_places w seat un st.whole.parts st.whole.store.spare m steps
       on.asks.2 in

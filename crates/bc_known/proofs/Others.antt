@@ -60,7 +60,7 @@ module _ (w : Opening) (st : State) (seat : ℕ) (inv : Inv w st.whole) (z : IsK
   keyed_enabled act slot keys on = record {
     together = on.asks.0;
     flow = on.data_allows;
-    store = keyed_joint w.layout w.store.image slot st.whole.store st.whole.parts keys
+    store = keyed_joint w.layout slot st.whole.store st.whole.parts keys
         on.asks.1 on.asks.2 inv.store.unused;
   }
 

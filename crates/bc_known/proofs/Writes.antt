@@ -25,6 +25,7 @@ use Rattle.bc_known.specs.Asked.{IsInBucket, CanStartNode, CanWritePriorities}
 use Rattle.bc_known.specs.Run.{IsEnabled}
 use Rattle.bc_known.specs.Known.{IsKnown, AreLaid}
 use Rattle.bc_known.proofs.Places as places
+use Rattle.bc_meta.proofs.Blank.{first_long}
 
 free_some : (r : Role) → r ≡ Free → r ≢ NoNode
 free_some r e n = cc
@@ -125,7 +126,7 @@ module _ (w : Opening) (st : State) (seat : ℕ) (inv : Inv w st.whole) (z : IsK
   -- a new node goes to a bucket that is held for one
   node_start : (q : ℕ) (o : tree.Owner) (set : NodeSet) (values : List Value)
       → CanStartNode w st seat q o set values
-      → CanStart w.layout w.store.image st.whole.store.places q o set values
+      → CanStart w.layout st.whole.store.places q o set values
       × Holds st.whole.store seat q × CanFill w.layout q (w.layout.begins o) values
   node_start q o set values ask =
       let range = places.area w st inv z laid f q
@@ -134,17 +135,16 @@ module _ (w : Opening) (st : State) (seat : ℕ) (inv : Inv w st.whole) (z : IsK
       let within0 = within.0 in
       let within1 = within.1 in
       let room = ask.room in
-      let long = w.layout.sets.long o values set ask.spelled in (
-        (
-          range.0,
-          ask.room,
-          λ at e wrote is. (let older = z.seqs q at e wrote in let seq = ask.seq in
-              absurd (omega (arith, older, seq, is))),
-          ask.other,
-          range.1,
-          ask.spelled,
-          ask.inside,
-        ),
+      let long = first_long w.layout o set values ask.first ask.room in (
+        record {
+          low = range.0;
+          high = range.1;
+          inside = ask.inside;
+          room = ask.room;
+          first = ask.first;
+          unheard = λ at e wrote is. (let older = z.seqs q at e wrote in let seq = ask.seq in
+              absurd (omega (arith, older, seq, is)));
+        },
         (
           places.holder w st inv z laid f q seat Tree ask.held,
           places.no_store_chain w st inv z laid f q ask.unnamed,

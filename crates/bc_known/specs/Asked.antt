@@ -7,12 +7,11 @@ use Rattle.bc_books.specs.Shelves.{Plain, Priorities, Tree, Held}
 use Rattle.bc_books.specs.Books.{Step}
 use Rattle.bc_books.specs.Books as book
 use Rattle.bc_collect.specs.Spare.{IsRoomy}
-use Rattle.bc_meta.specs.Facts.{IsAtBlock}
 use Rattle.bc_meta.specs.Tree.{NodeSet, Owner}
 use Rattle.bc_meta.specs.Layout.{Layout, set_len, node_end, is_within}
 use Rattle.bc_meta.specs.Chain.{bytes_of, Distinct}
 use Rattle.bc_meta.specs.Records.{Ready, Safe, IsFewer}
-use Rattle.bc_meta.specs.Places.{CanEnter, CanAppend, IsOutside}
+use Rattle.bc_meta.specs.Places.{CanEnter, CanAppend, IsFirstWrite, IsOutside}
 use Rattle.bc_meta.specs.Acts.{IsBuilt, head_of}
 use Rattle.bc_leaves.specs.Parts.{Role, NoNode, Draft, Free, Leaving, Coming, leaf_owner, inner_owner}
 use Rattle.bc_leaves.specs.Parts as parts
@@ -32,7 +31,7 @@ pub record IsInBucket (w : Layout) (q place : ℕ) (values : List Value) : Type 
   pub high : place + length values ≤ w.first q + w.bucket_sectors
   pub bucket : q < w.buckets
 
--- The first set of a new node, in a bucket that the seat holds for one.
+-- The first set of a new node, with zeros behind it, in a bucket that the seat holds for one.
 pub record CanStartNode (w : Opening) (st : State) (seat q : ℕ) (o : Owner) (set : NodeSet)
     (values : List Value) : Type 0 where
   pub held : st.whole.flow.books.shelf q ≡ Held seat Tree
@@ -40,11 +39,8 @@ pub record CanStartNode (w : Opening) (st : State) (seat q : ℕ) (o : Owner) (s
   pub vacant : IsVacant st.whole.parts q
   pub room : w.layout.begins o + set_len w.layout set ≤ node_end w.layout o
   pub inside : is_within w.layout q o ≡ true
-  pub spelled : w.layout.sets.spelled o values ≡ Some set
+  pub first : IsFirstWrite w.layout o set values
   pub seq : set.seq ≡ st.next_seq
-  -- no set with this seq stood there at the opening
-  pub other : (at : ℕ) (e : NodeSet) → IsAtBlock w.layout.block (w.layout.begins o) at
-      → w.layout.sets.found w.store.image o (node_end w.layout o) at ≡ Some e → e.seq ≢ set.seq
 
 -- A priority set, in a bucket that the seat holds for a chain.
 pub record CanWritePriorities (w : Layout) (st : State) (seat q part : ℕ)

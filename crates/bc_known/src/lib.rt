@@ -19,9 +19,9 @@
 //! What is asked still of more than a hand: whoever begins a change of the tree, installs it, or
 //! writes a new node holds the Spine, and asks of all slots. Whoever seals an entry asks of each
 //! leaf that no pending key is of an entry that is given up; that is a lasting fact of each leaf,
-//! which a seat may learn leaf by leaf. A new node's first set asks that no set of its seq stood
-//! there at the opening: a program that writes zeros over the rest of the node has no such set, but
-//! `bc_meta` doesn't know of these zeros yet.
+//! which a seat may learn leaf by leaf. A new node's first set is written with zeros over the rest of
+//! the node, and has a seq that none had in this run: so sets that were left behind it from other
+//! runs can't count, and nobody asks what stood there.
 //!
 //! Read `specs/` in this order: Acts, Asked, Run, Known, Laws.
 #![tactic(auto)]

@@ -1,6 +1,5 @@
 -- What a program can test is all that the records ask, so every run of the parts is a run of these.
 use Rattle.std.proofs.Common.{◌≡◌, suc, List, [], ◌∷◌, ◌++◌, Option, Some, None, refl, sym, ap, ◌∙◌, subst}
-use Rattle.bc_model.specs.Sector.{Image}
 use Rattle.bc_meta.specs.Events as event
 use Rattle.bc_meta.specs.Acts as acts
 use Rattle.bc_meta.specs.Places.{CanHappen, Places, PlacesAllow}
@@ -131,23 +130,23 @@ law_tree owners all c newest older ring bucket unused sound room keeps named st 
 
 -- ---- the whole machine
 
-can_happen : (w : Layout) (image : Image) (p : Places) (o : Option event.Event) → IsRecordsRun p.records (to_list o) → IfEvent (PlacesAllow w image p) o → IfEvent (CanHappen w image p) o
-can_happen w image p None a b = tt
-can_happen w image p (Some e) a b = (a.0, b)
+can_happen : (w : Layout) (p : Places) (o : Option event.Event) → IsRecordsRun p.records (to_list o) → IfEvent (PlacesAllow w p) o → IfEvent (CanHappen w p) o
+can_happen w p None a b = tt
+can_happen w p (Some e) a b = (a.0, b)
 
 records_with : (w : Layout) (p : Places) (o : Option event.Event) → records_fold p.records (to_list o) ≡ (places_with w p o).records
 records_with w p None = refl
 records_with w p (Some e) = refl
 
-pub record JoinsFrom (w : Layout) (image : Image) (m : acts.State) (st : State) (steps : List Step) : Type 0 where
-  pub run : acts.IsRun w image m (acts_of steps)
+pub record JoinsFrom (w : Layout) (m : acts.State) (st : State) (steps : List Step) : Type 0 where
+  pub run : acts.IsRun w m (acts_of steps)
   pub ends : (parts_of st steps).records ≡ (acts.fold w m (acts_of steps)).places.records
   pub fits : Fits (parts_of st steps)
   pub inv : Inv (parts_of st steps).records
 
-pub joins : (w : Layout) (image : Image) (m : acts.State) (st : State) (steps : List Step) → st.records ≡ m.places.records → Inv st.records → Fits st → IsJoint w image m st steps → JoinsFrom w image m st steps
-joins w image m st [] is inv fits run = record { run = tt; ends = is; fits = fits; inv = inv }
-joins w image m st (x ∷ xs) is inv fits run =
+pub joins : (w : Layout) (m : acts.State) (st : State) (steps : List Step) → st.records ≡ m.places.records → Inv st.records → Fits st → IsJoint w m st steps → JoinsFrom w m st steps
+joins w m st [] is inv fits run = record { run = tt; ends = is; fits = fits; inv = inv }
+joins w m st (x ∷ xs) is inv fits run =
     let g = goes st x.events run.1 inv fits in
     let same = run.0 in
     let o = event_of w x.act in
@@ -155,8 +154,8 @@ joins w image m st (x ∷ xs) is inv fits run =
     subst (λ (r : Records). IsRecordsRun r (to_list (event_of w x.act))) is (subst (λ (es : List event.Event). IsRecordsRun st.records es) (sym run.0) g.runs) in
     let next : (fold st x.events).records ≡ (acts.after w m x.act).places.records =
     g.ends ∙ ap (λ (es : List event.Event). records_fold st.records es) (sym run.0) ∙ ap (λ (r : Records). records_fold r (to_list (event_of w x.act))) is ∙ records_with w m.places (event_of w x.act) in
-    let k = joins w image (acts.after w m x.act) (fold st x.events) xs next (inv_after st x.events inv g) g.fits run.4 in
-    record { run = ((can_happen w image m.places (event_of w x.act) mine run.2, run.3), k.run); ends = k.ends; fits = k.fits; inv = k.inv }
+    let k = joins w (acts.after w m x.act) (fold st x.events) xs next (inv_after st x.events inv g) g.fits run.4 in
+    record { run = ((can_happen w m.places (event_of w x.act) mine run.2, run.3), k.run); ends = k.ends; fits = k.fits; inv = k.inv }
 
 pub sound_inv : (w : Layout) (o : Opening) → IsSound w o → Inv (opened w o).places.records
 sound_inv w o sound =
@@ -164,5 +163,5 @@ sound_inv w o sound =
 
 pub law_joint : LawJoint
 law_joint w o st steps sound is fits run =
-    let k = joins w o.image (opened w o) st steps is (subst (λ (r : Records). Inv r) (sym is) (sound_inv w o sound)) fits run in
+    let k = joins w (opened w o) st steps is (subst (λ (r : Records). Inv r) (sym is) (sound_inv w o sound)) fits run in
     record { run = k.run; ends = k.ends; fits = k.fits }

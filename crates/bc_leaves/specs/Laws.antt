@@ -1,6 +1,5 @@
 -- Every run of the parts is one of the records, and of the whole machine of the metadata.
 use Rattle.std.specs.Prelude.{◌≡◌, ℕ, Bool, List, [], ◌∷◌, Option, Some, None}
-use Rattle.bc_model.specs.Sector.{Image}
 use Rattle.bc_meta.specs.Entries.{Entry}
 use Rattle.bc_meta.specs.Tree.{Owner, NodeSets, IsNamed, Keeps}
 use Rattle.bc_meta.specs.Layout.{Layout}
@@ -62,15 +61,15 @@ parts_of st (x ∷ xs) = parts_of (fold st x.events) xs
 
 -- The parts allow each act, and so do the places and the chains; nobody asks what the records may
 -- read as.
-abbrev pub IsJoint : Layout → Image → acts.State → State → List Step → Type 0
-IsJoint w image m st [] = Unit {0}
-IsJoint w image m st (x ∷ xs) =
+abbrev pub IsJoint : Layout → acts.State → State → List Step → Type 0
+IsJoint w m st [] = Unit {0}
+IsJoint w m st (x ∷ xs) =
     (to_list (event_of w x.act) ≡ all_events st x.events) × IsRun st x.events
-    × IfEvent (PlacesAllow w image m.places) (event_of w x.act) × ChainsAllow w m x.act
-    × IsJoint w image (acts.after w m x.act) (fold st x.events) xs
+    × IfEvent (PlacesAllow w m.places) (event_of w x.act) × ChainsAllow w m x.act
+    × IsJoint w (acts.after w m x.act) (fold st x.events) xs
 
 pub record Joins (w : Layout) (o : Opening) (st : State) (steps : List Step) : Type 0 where
-  pub run : acts.IsRun w o.image (opened w o) (acts_of steps)
+  pub run : acts.IsRun w (opened w o) (acts_of steps)
   pub ends : (parts_of st steps).records ≡ (reached w o (acts_of steps)).places.records
   pub fits : Fits (parts_of st steps)
 
@@ -78,4 +77,4 @@ abbrev pub LawJoint : Type 0
 LawJoint =
     (w : Layout) (o : Opening) (st : State) (steps : List Step) → IsSound w o → st.records
     ≡ (opened w o).places.records
-    → Fits st → IsJoint w o.image (opened w o) st steps → Joins w o st steps
+    → Fits st → IsJoint w (opened w o) st steps → Joins w o st steps

@@ -372,11 +372,11 @@ opens_as w image st r newest older next is e_image e_owners e_newest e_older e_u
 
 pub law_next_parts : LawNextParts
 law_next_parts w o st steps sound is fits run chance image left =
-    let k = joins w o.image (opened w o) st steps is (subst (λ (r : Records). Inv r) (sym is) (sound_inv w o sound)) fits run in
+    let k = joins w (opened w o) st steps is (subst (λ (r : Records). Inv r) (sym is) (sound_inv w o sound)) fits run in
     let v = law_crash w o (acts_of steps) sound k.run chance image left in
     go k v
   where
-    go : JoinsFrom w o.image (opened w o) st steps → Survives w (reached w o (acts_of steps)) image → OpensAs w image (parts_of st steps)
+    go : JoinsFrom w (opened w o) st steps → Survives w (reached w o (acts_of steps)) image → OpensAs w image (parts_of st steps)
     go k v = pick v.finds
       where
         P : State

@@ -136,7 +136,7 @@ abbrev pub LawNextParts : Type 0
 LawNextParts =
     (w : Layout) (o : Opening) (st : State) (steps : List Step) → IsSound w o → st.records
     ≡ (opened w o).places.records
-    → Fits st → IsJoint w o.image (opened w o) st steps
+    → Fits st → IsJoint w (opened w o) st steps
     → NoChance w o.image (reached w o (acts_of steps)).places
     → (image : Image) → MayLeave (reached w o (acts_of steps)).places.device image
     → OpensAs w image (parts_of st steps)

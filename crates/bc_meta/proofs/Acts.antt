@@ -12,9 +12,10 @@ use Rattle.bc_meta.specs.Events.{Event, FailFill, Fill, MakeDurable, NewNode, Re
 use Rattle.bc_meta.specs.Records.{Fixed, IsReady, Nothing, Records, Stage, loose_node, owners, put, records_after}
 use Rattle.bc_meta.specs.Places.{CanHappen, NoChance, call_of, places_after, writes}
 use Rattle.bc_meta.specs.Acts.{Act, ChainReady, Durable, FailData, FailHeld, IsBuilt, IsEnabled, IsRun, KeepSpare, LetGo, Made, Plain, Seal, SealChain, State, StaysUnused, Take, WriteData, WriteNode, WriteSet, after, event_of, fold, given_up, head_of, is_plain, put_all}
-use Rattle.bc_meta.specs.Laws.{Again, Finds, IsSound, LawCrash, LawNext, LawUntouched, Opening, Survives, act_writes, opened, reached}
+use Rattle.bc_meta.specs.Laws.{Again, Finds, IsSound, LawCrash, LawNext, LawUntouched, Opening, Survives, act_writes, opened, reached, LawZeros, LawOnlyTorn}
 use Rattle.bc_meta.proofs.Lists.{by_test, decide}
 use Rattle.bc_meta.proofs.Firm.{reads_written}
+use Rattle.bc_meta.proofs.Blank.{first_long, blank_there}
 use Rattle.bc_meta.proofs.Place as place_
 use Rattle.bc_meta.proofs.Place.{within_of}
 use Rattle.bc_meta.proofs.Steps as steps_
@@ -81,7 +82,7 @@ module _ (w : Layout) (o : Opening) (st : State) (inv : Inv w o st) where
   calm_named e none_ q n is = calm_event w st.places e (w.first q) (w.first q + w.bucket_sectors) (none_ q n is)
 
   -- an event that leaves the chains' buckets alone, with what was made since
-  by_event : (e : Event) (holder : ℕ → Option ℕ) (made : ℕ → Option Made) → CanHappen w o.image st.places e
+  by_event : (e : Event) (holder : ℕ → Option ℕ) (made : ℕ → Option Made) → CanHappen w st.places e
       → ((q n : ℕ) → st.chain_of q ≡ Some n → (t : ℕ) → w.first q ≤ t → t < w.first q + w.bucket_sectors → writes (call_of w st.places e) t ≡ None)
       → ((k : ℕ) (p : Owner) (set : NodeSet) (vs : List Value) → e ≡ (NewNode k p set vs) → st.chain_of k ≡ None)
       → ((q : ℕ) (m : Made) → made q ≡ Some m → Quiet w ((places_after w st.places e).records.nodes q) q × MadeWell w (places_after w st.places e).device q m)
@@ -97,14 +98,14 @@ module _ (w : Layout) (o : Opening) (st : State) (inv : Inv w o st) where
       let calm : (n : ℕ) → st.ready_chain ≤ n → n ≤ st.sealed_chain → EachOf (CalmIn w st.places.device (places_after w st.places e).device) (st.buckets n) = λ n le up q i. calm_named e none_ q n (inv.named n le up q i) in
       record {
         place = steps_.keep_event w o.image o.newest.last_seq (o.newest ∷ o.older) st.places e inv.records on inv.place;
-        records = steps_.keep_records w o.image st.places e on inv.records;
+        records = steps_.keep_records w st.places e on inv.records;
         order = inv.order;
         idle = idle;
         named = inv.named;
         members = inv.members;
         range = inv.range;
         shape = inv.shape;
-        quiet = λ q n is. quiet_event w o.image st.places e q on (λ k p set vs is_new q_is. some_none (st.chain_of q) n is (ap st.chain_of q_is ∙ fresh k p set vs is_new)) (inv.quiet q n is);
+        quiet = λ q n is. quiet_event w st.places e q on (λ k p set vs is_new q_is. some_none (st.chain_of q) n is (ap st.chain_of q_is ∙ fresh k p set vs is_new)) (inv.quiet q n is);
         made = made_well;
         durable = subst (λ (x : Entry). Stands w (places_after w st.places e).device x.prio (st.buckets st.durable_chain) (bytes_of (st.gens st.durable_chain))) (sym same)
             (stands_calm w st.places.device (places_after w st.places e).device st.places.records.newest.prio (st.buckets st.durable_chain) (bytes_of (st.gens st.durable_chain)) (calm st.durable_chain ord.0 ord.1) inv.durable);
@@ -115,14 +116,14 @@ module _ (w : Layout) (o : Opening) (st : State) (inv : Inv w o st) where
       }
 
   -- what was made stays, where an event leaves it alone
-  made_kept : (e : Event) → CanHappen w o.image st.places e → (q : ℕ) (m : Made) → st.made q ≡ Some m → ((k : ℕ) (p : Owner) (set : NodeSet) (vs : List Value) → e ≡ (NewNode k p set vs) → q ≢ k)
+  made_kept : (e : Event) → CanHappen w st.places e → (q : ℕ) (m : Made) → st.made q ≡ Some m → ((k : ℕ) (p : Owner) (set : NodeSet) (vs : List Value) → e ≡ (NewNode k p set vs) → q ≢ k)
       → ((t : ℕ) → w.first q ≤ t → t < w.first q + w.bucket_sectors → writes (call_of w st.places e) t ≡ None)
       → Quiet w ((places_after w st.places e).records.nodes q) q × MadeWell w (places_after w st.places e).device q m
   made_kept e on q m is new none_ =
       let k = inv.made q m is in
       let well = k.1 in
       let calm : CalmIn w st.places.device (places_after w st.places e).device q = calm_event w st.places e (w.first q) (w.first q + w.bucket_sectors) none_ in (
-        quiet_event w o.image st.places e q on new k.0,
+        quiet_event w st.places e q on new k.0,
         record {
           values = well.values;
           spelled = well.spelled;
@@ -132,14 +133,14 @@ module _ (w : Layout) (o : Opening) (st : State) (inv : Inv w o st) where
         },
       )
 
-  keep_plain : (e : Event) → IsEnabled w o.image st (Plain e) → Inv w o (after w st (Plain e))
+  keep_plain : (e : Event) → IsEnabled w st (Plain e) → Inv w o (after w st (Plain e))
   keep_plain e on =
       by_event e st.holder st.made on.0
       (λ q n is. spares_event w o.image o.newest.last_seq (o.newest ∷ o.older) st.places inv.place e on.1.0 on.0 q (inv.quiet q n is))
       (λ k p set vs is. absurd (no_new e on.1.0 k p set vs is))
       (λ q m is. made_kept e on.0 q m is (λ k p set vs is_new. absurd (no_new e on.1.0 k p set vs is_new)) (spares_event w o.image o.newest.last_seq (o.newest ∷ o.older) st.places inv.place e on.1.0 on.0 q (inv.made q m is).0))
       (plain_newest w st.places e on.1.0)
-      (λ calm. plain_sealed w o.image st.places e (st.buckets st.sealed_chain) (bytes_of (st.gens st.sealed_chain)) on.1.0 on.0 calm inv.sealed)
+      (λ calm. plain_sealed w st.places e (st.buckets st.sealed_chain) (bytes_of (st.gens st.sealed_chain)) on.1.0 on.0 calm inv.sealed)
       (λ idle. inv.idle (plain_idle w st.places e on.1.0 idle))
       on.1.1
     where
@@ -154,7 +155,7 @@ module _ (w : Layout) (o : Opening) (st : State) (inv : Inv w o st) where
   other k free q n is e = some_none (st.chain_of q) n is (ap st.chain_of e ∙ free)
 
   -- a set that is put into one bucket
-  made_put : (e : Event) (k : ℕ) (x : Option Made) → CanHappen w o.image st.places e → ((m : Made) → x ≡ Some m → Quiet w ((places_after w st.places e).records.nodes k) k × MadeWell w (places_after w st.places e).device k m)
+  made_put : (e : Event) (k : ℕ) (x : Option Made) → CanHappen w st.places e → ((m : Made) → x ≡ Some m → Quiet w ((places_after w st.places e).records.nodes k) k × MadeWell w (places_after w st.places e).device k m)
       → ((j : ℕ) (p : Owner) (set : NodeSet) (vs : List Value) → e ≡ (NewNode j p set vs) → j ≡ k)
       → ((q t : ℕ) → q ≢ k → w.journal ≤ q → q < w.buckets → w.first q ≤ t → t < w.first q + w.bucket_sectors → writes (call_of w st.places e) t ≡ None)
       → (q : ℕ) (m : Made) → put st.made k x q ≡ Some m → Quiet w ((places_after w st.places e).records.nodes q) q × MadeWell w (places_after w st.places e).device q m
@@ -163,7 +164,7 @@ module _ (w : Layout) (o : Opening) (st : State) (inv : Inv w o st) where
       (λ is h. subst (λ (n : ℕ). Quiet w ((places_after w st.places e).records.nodes n) n × MadeWell w (places_after w st.places e).device n m) (sym is) (here m h))
       (λ ne h. let y = (inv.made q m h).0 in made_kept e on q m h (λ j p set vs is_new e2. ne (e2 ∙ only j p set vs is_new)) (λ t from to. none_ q t ne y.low y.high from to))
 
-  keep_take : (i q : ℕ) → IsEnabled w o.image st (Take i q) → Inv w o (after w st (Take i q))
+  keep_take : (i q : ℕ) → IsEnabled w st (Take i q) → Inv w o (after w st (Take i q))
   keep_take i q on =
       by_event (Reuse q) (put st.holder q (Some i)) (put st.made q None) on.0 (λ k n is t from to. refl) (λ k p set vs is. absurd (reuse_new q k p set vs is))
       (made_put (Reuse q) q None on.0 (λ m h. absurd (none_some m h)) (λ k p set vs is. absurd (reuse_new q k p set vs is)) (λ k t ne low high from to. refl))
@@ -194,7 +195,7 @@ module _ (w : Layout) (o : Opening) (st : State) (inv : Inv w o st) where
     unused = inv.unused;
   }
 
-  keep_spare : (spare : List ℕ) → IsEnabled w o.image st (KeepSpare spare) → Inv w o (after w st (KeepSpare spare))
+  keep_spare : (spare : List ℕ) → IsEnabled w st (KeepSpare spare) → Inv w o (after w st (KeepSpare spare))
   keep_spare spare on = record {
     place = inv.place;
     records = inv.records;
@@ -218,16 +219,14 @@ module _ (w : Layout) (o : Opening) (st : State) (inv : Inv w o st) where
     ];
   }
 
-  keep_write_node : (i q : ℕ) (p : Owner) (set : NodeSet) (vs : List Value) → IsEnabled w o.image st (WriteNode i q p set vs) → Inv w o (after w st (WriteNode i q p set vs))
+  keep_write_node : (i q : ℕ) (p : Owner) (set : NodeSet) (vs : List Value) → IsEnabled w st (WriteNode i q p set vs) → Inv w o (after w st (WriteNode i q p set vs))
   keep_write_node i q p set vs on =
-      let start = on.0.1 in
-      let in_it = within_of w q p on.0.1.6 in
+      let in_it = within_of w q p on.0.1.inside in
       let in0 = in_it.0 in
       let in1 = in_it.1 in
-      let s1 = start.1 in
-      let long = w.sets.long p vs set on.0.1.5 in
+      let long = first_long w p set vs on.0.1.first on.0.1.room in
       let off : (k t : ℕ) → k ≢ q → k < w.buckets → w.first k ≤ t → t < w.first k + w.bucket_sectors → at_run (w.begins p) vs t ≡ None
-      = λ k t ne high from to. other_bucket w q (w.begins p) vs k t on.0.1.4 high ne (omega arith) (omega arith) from to in
+      = λ k t ne high from to. other_bucket w q (w.begins p) vs k t on.0.1.high high ne (omega arith) (omega arith) from to in
       by_event (NewNode q p set vs) st.holder (put st.made q None) on.0 (λ k n is t from to. off k t (other q on.1.1 k n is) (inv.quiet k n is).high from to)
       (λ k p2 set2 vs2 is. ap st.chain_of (new_same k q p2 p set2 set vs2 vs is) ∙ on.1.1)
       (made_put (NewNode q p set vs) q None on.0 (λ m h. absurd (none_some m h)) (λ k p2 set2 vs2 is. new_same k q p2 p set2 set vs2 vs is) (λ k t ne low high from to. off k t ne high from to))
@@ -243,7 +242,7 @@ module _ (w : Layout) (o : Opening) (st : State) (inv : Inv w o st) where
   set_off : (q part : ℕ) (set : PrioSet) (vs : List Value) → w.prios.spelled part vs ≡ Some set → q < w.buckets → (k t : ℕ) → k ≢ q → k < w.buckets → w.first k ≤ t → t < w.first k + w.bucket_sectors → at_run (w.first q) vs t ≡ None
   set_off q part set vs is high k t ne kt from to = let len = set_long w part vs set is in other_bucket w q (w.first q) vs k t high kt ne (omega arith) (omega arith) from to
 
-  keep_write_set : (i q part : ℕ) (set : PrioSet) (vs : List Value) → IsEnabled w o.image st (WriteSet i q part set vs) → Inv w o (after w st (WriteSet i q part set vs))
+  keep_write_set : (i q part : ℕ) (set : PrioSet) (vs : List Value) → IsEnabled w st (WriteSet i q part set vs) → Inv w o (after w st (WriteSet i q part set vs))
   keep_write_set i q part set vs on =
       let low = on.0.1.0 in
       let high = on.0.1.3 in
@@ -262,7 +261,7 @@ module _ (w : Layout) (o : Opening) (st : State) (inv : Inv w o st) where
       here q low high = by_test q q (λ b. Quiet w (if b then loose_node else st.places.records.nodes q) q) (λ _. calm_node w q low high) (λ ne. absurd (ne refl))
 
   -- values written into one bucket that isn't a chain's, well or not
-  keep_values : (fill : ℕ → ℕ → List Value → Event) (q place : ℕ) (vs : List Value) → st.chain_of q ≡ None → CanHappen w o.image st.places (fill q place vs)
+  keep_values : (fill : ℕ → ℕ → List Value → Event) (q place : ℕ) (vs : List Value) → st.chain_of q ≡ None → CanHappen w st.places (fill q place vs)
       → (w.first q ≤ place) × (place + length vs ≤ w.first q + w.bucket_sectors) × (q < w.buckets)
       → ((t : ℕ) → at_run place vs t ≡ None → writes (call_of w st.places (fill q place vs)) t ≡ None)
       → ((k : ℕ) (p : Owner) (set : NodeSet) (us : List Value) → fill q place vs ≡ (NewNode k p set us) → ⊥)
@@ -289,17 +288,17 @@ module _ (w : Layout) (o : Opening) (st : State) (inv : Inv w o st) where
   fail_fill_new : (q p : ℕ) (vs : List Value) (what : Option NodeSet) (k : ℕ) (r : Owner) (set : NodeSet) (us : List Value) → FailFill q p vs what ≡ (NewNode k r set us) → ⊥
   fail_fill_new q p vs what k r set us e = cc
 
-  keep_fail_held : (i q place : ℕ) (vs : List Value) (what : Option NodeSet) → IsEnabled w o.image st (FailHeld i q place vs what) → Inv w o (after w st (FailHeld i q place vs what))
+  keep_fail_held : (i q place : ℕ) (vs : List Value) (what : Option NodeSet) → IsEnabled w st (FailHeld i q place vs what) → Inv w o (after w st (FailHeld i q place vs what))
   keep_fail_held i q place vs what on = keep_values (λ a b c. FailFill a b c what) q place vs on.1.1 on.0 (on.0.1.1, on.0.1.2, on.0.1.3) (λ t e. e) (λ k r set us e. fail_fill_new q place vs what k r set us e) refl
 
-  keep_write_data : (q place : ℕ) (vs : List Value) → IsEnabled w o.image st (WriteData q place vs) → Inv w o (after w st (WriteData q place vs))
+  keep_write_data : (q place : ℕ) (vs : List Value) → IsEnabled w st (WriteData q place vs) → Inv w o (after w st (WriteData q place vs))
   keep_write_data q place vs on = keep_values Fill q place vs on.1.0 on.0 (on.0.1.1, on.0.1.2, on.0.1.3) (λ t e. e) (λ k r set us e. fill_new q place vs k r set us e) refl
 
-  keep_fail_data : (q place : ℕ) (vs : List Value) → IsEnabled w o.image st (FailData q place vs) → Inv w o (after w st (FailData q place vs))
+  keep_fail_data : (q place : ℕ) (vs : List Value) → IsEnabled w st (FailData q place vs) → Inv w o (after w st (FailData q place vs))
   keep_fail_data q place vs on = keep_values (λ a b c. FailFill a b c None) q place vs on.1.0 on.0 (on.0.1.1, on.0.1.2, on.0.1.3) (λ t e. e) (λ k r set us e. fail_fill_new q place vs None k r set us e) refl
 
   -- a seal that names the chain of the entry before
-  keep_seal : (e : Entry) (unused : ℕ → Bool) → IsEnabled w o.image st (Seal e unused) → Inv w o (after w st (Seal e unused))
+  keep_seal : (e : Entry) (unused : ℕ → Bool) → IsEnabled w st (Seal e unused) → Inv w o (after w st (Seal e unused))
   keep_seal e unused on =
       by_event (SealEntry e unused) st.holder st.made on.0 (λ k n is t from to. refl) (λ k p set vs is. absurd (seal_new e unused k p set vs is))
       (λ q m is. made_kept (SealEntry e unused) on.0 q m is (λ k p set vs is_new. absurd (seal_new e unused k p set vs is_new)) (λ t from to. refl))
@@ -315,14 +314,14 @@ module _ (w : Layout) (o : Opening) (st : State) (inv : Inv w o st) where
       fixed_nothing : Fixed ≡ Nothing → ⊥
       fixed_nothing e = cc
 
-  keep_durable : IsEnabled w o.image st Durable → Inv w o (after w st Durable)
+  keep_durable : IsEnabled w st Durable → Inv w o (after w st Durable)
   keep_durable on =
       let ord = inv.order in
       let a = ord.0 in
       let b = ord.1 in
       record {
         place = steps_.keep_event w o.image o.newest.last_seq (o.newest ∷ o.older) st.places MakeDurable inv.records on.0 inv.place;
-        records = steps_.keep_records w o.image st.places MakeDurable on.0 inv.records;
+        records = steps_.keep_records w st.places MakeDurable on.0 inv.records;
         order = (omega arith, omega arith);
         idle = λ _. refl;
         named = inv.named;
@@ -339,7 +338,7 @@ module _ (w : Layout) (o : Opening) (st : State) (inv : Inv w o st) where
       }
 
   -- an entry with a new chain is sealed
-  module _ (i : ℕ) (qs gens : List ℕ) (entry : Entry) (unused : ℕ → Bool) (on : IsEnabled w o.image st (SealChain i qs gens entry unused)) where
+  module _ (i : ℕ) (qs gens : List ℕ) (entry : Entry) (unused : ℕ → Bool) (on : IsEnabled w st (SealChain i qs gens entry unused)) where
     number : ℕ
     number = suc st.sealed_chain
 
@@ -426,7 +425,7 @@ module _ (w : Layout) (o : Opening) (st : State) (inv : Inv w o st) where
         let e = (SealEntry entry unused) in
         record {
           place = steps_.keep_event w o.image o.newest.last_seq (o.newest ∷ o.older) st.places (SealEntry entry unused) inv.records on.0 inv.place;
-          records = steps_.keep_records w o.image st.places (SealEntry entry unused) on.0 inv.records;
+          records = steps_.keep_records w st.places (SealEntry entry unused) on.0 inv.records;
           order = (ord.0, omega arith);
           idle = λ idle. absurd (fixed_nothing idle);
           named = named_new;
@@ -446,7 +445,7 @@ module _ (w : Layout) (o : Opening) (st : State) (inv : Inv w o st) where
         fixed_nothing e = cc
 
   -- the replaced chain is given up
-  keep_ready : (i : ℕ) (spare : List ℕ) → IsEnabled w o.image st (ChainReady i spare) → Inv w o (after w st (ChainReady i spare))
+  keep_ready : (i : ℕ) (spare : List ℕ) → IsEnabled w st (ChainReady i spare) → Inv w o (after w st (ChainReady i spare))
   keep_ready i spare on =
       let ord = inv.order in
       let lt = on.1.0 in
@@ -498,7 +497,7 @@ module _ (w : Layout) (o : Opening) (st : State) (inv : Inv w o st) where
       unused_kept q (inr (inr (inl y))) = inv.unused q (inr (inr (inl (y.0, (given_some st.ready_chain (st.chain_of q) y.0 y.1).0))))
       unused_kept q (inr (inr (inr j))) = elim (on.1.4 q j) [ inl is ↦ inv.unused q (inr (inr (inl (st.ready_chain, is)))) | inr h ↦ inv.unused q (inr (inr (inr h.0))) ]
 
-pub keep_act : (w : Layout) (o : Opening) (st : State) (m : Act) → IsEnabled w o.image st m → Inv w o st → Inv w o (after w st m)
+pub keep_act : (w : Layout) (o : Opening) (st : State) (m : Act) → IsEnabled w st m → Inv w o st → Inv w o (after w st m)
 keep_act w o st (Plain e) on inv = keep_plain w o st inv e on
 keep_act w o st (Take i q) on inv = keep_take w o st inv i q on
 keep_act w o st (LetGo i q) on inv = keep_let_go w o st inv i q
@@ -513,7 +512,7 @@ keep_act w o st Durable on inv = keep_durable w o st inv on
 keep_act w o st (ChainReady i spare) on inv = keep_ready w o st inv i spare on
 keep_act w o st (KeepSpare spare) on inv = keep_spare w o st inv spare on
 
-pub keep_acts : (w : Layout) (o : Opening) (st : State) (ms : List Act) → IsRun w o.image st ms → Inv w o st → Inv w o (fold w st ms)
+pub keep_acts : (w : Layout) (o : Opening) (st : State) (ms : List Act) → IsRun w st ms → Inv w o st → Inv w o (fold w st ms)
 keep_acts w o st [] run inv = inv
 keep_acts w o st (m ∷ ms) run inv = keep_acts w o (after w st m) ms run.1 (keep_act w o st m run.0 inv)
 
@@ -661,17 +660,15 @@ module _ (w : Layout) (o : Opening) (st : State) (inv : Inv w o st) where
       }
 
   -- what a chain's bucket is spared
-  pub untouched : (n : ℕ) → st.ready_chain ≤ n → n ≤ st.sealed_chain → (act : Act) → IsEnabled w o.image st act → (q t : ℕ) → In q (st.buckets n) → w.first q ≤ t → t < w.first q + w.bucket_sectors → act_writes w st (event_of w act) t ≡ None
+  pub untouched : (n : ℕ) → st.ready_chain ≤ n → n ≤ st.sealed_chain → (act : Act) → IsEnabled w st act → (q t : ℕ) → In q (st.buckets n) → w.first q ≤ t → t < w.first q + w.bucket_sectors → act_writes w st (event_of w act) t ≡ None
   untouched n le up (Plain e) on q t i from to = spares_event w o.image o.newest.last_seq (o.newest ∷ o.older) st.places inv.place e on.1.0 on.0 q (inv.quiet q n (inv.named n le up q i)) t from to
   untouched n le up (WriteNode s k p set vs) on q t i from to =
       let is = inv.named n le up q i in
-      let start = on.0.1 in
-      let s1 = start.1 in
-      let long = w.sets.long p vs set on.0.1.5 in
-      let in_it = within_of w k p on.0.1.6 in
+      let long = first_long w p set vs on.0.1.first on.0.1.room in
+      let in_it = within_of w k p on.0.1.inside in
       let in0 = in_it.0 in
       let in1 = in_it.1 in
-      other_bucket w k (w.begins p) vs q t on.0.1.4 (inv.quiet q n is).high (other w o st inv k on.1.1 q n is) (omega arith) (omega arith) from to
+      other_bucket w k (w.begins p) vs q t on.0.1.high (inv.quiet q n is).high (other w o st inv k on.1.1 q n is) (omega arith) (omega arith) from to
   untouched n le up (WriteSet s k part set vs) on q t i from to = let is = inv.named n le up q i in set_off w o st inv k part set vs on.1.1 on.0.1.3 q t (other w o st inv k on.1.0.1 q n is) (inv.quiet q n is).high from to
   untouched n le up (FailHeld s k place vs what) on q t i from to = let is = inv.named n le up q i in other_bucket w k place vs q t on.0.1.3 (inv.quiet q n is).high (other w o st inv k on.1.1 q n is) on.0.1.1 on.0.1.2 from to
   untouched n le up (WriteData k place vs) on q t i from to = let is = inv.named n le up q i in other_bucket w k place vs q t on.0.1.3 (inv.quiet q n is).high (other w o st inv k on.1.0 q n is) on.0.1.1 on.0.1.2 from to
@@ -692,3 +689,12 @@ law_next w o acts sound run chance image left = go (law_crash w o acts sound run
 
 pub law_untouched : LawUntouched
 law_untouched w o acts sound run n le up act on q s i from to = untouched w o (fold w (opened w o) acts) (keep_acts w o (opened w o) acts run (inv_opened w o sound)) n le up act on q s i from to
+
+pub law_zeros : LawZeros
+law_zeros w o acts sound run image left q s own known ge lt behind =
+    let st = fold w (opened w o) acts in
+    let inv = keep_acts w o (opened w o) acts run (inv_opened w o sound) in
+    blank_there w st.places.device (st.places.records.nodes q) (st.places.node_next q) image ((inv.place.nodes q).mine own).blank known left s ge lt behind
+
+pub law_only_torn : LawOnlyTorn
+law_only_torn w p sure image q e left own known stand seq found = inl (λ s ge lt. sure s)

@@ -55,7 +55,7 @@ module _ (w : Layout) (c0 : Image) (floor : ℕ) (list : List Entry) (st : Place
       other_bucket w k (st.node_next k) vs q t (place_.mine_in w c0 st.device (st.records.nodes k) (st.own k) k (st.node_next k) (st.seq k) st.log can.0 (inv.nodes k)) calm.high
       (λ e. true_false (st.records.nodes q).loose calm.loose (subst (λ (x : ℕ). (st.records.nodes x).loose ≡ false) (sym e) loose)) (omega arith) (omega arith) from to
 
-  pub spares_event : (e : Event) → is_plain e ≡ true → CanHappen w c0 st e → (q : ℕ) → Quiet w (st.records.nodes q) q → (t : ℕ) → w.first q ≤ t → t < w.first q + w.bucket_sectors → writes (call_of w st e) t ≡ None
+  pub spares_event : (e : Event) → is_plain e ≡ true → CanHappen w st e → (q : ℕ) → Quiet w (st.records.nodes q) q → (t : ℕ) → w.first q ≤ t → t < w.first q + w.bucket_sectors → writes (call_of w st e) t ≡ None
   spares_event (AddKey key) is on q calm t from to = refl
   spares_event (BeginBucket k) is on q calm t from to = refl
   spares_event (SealEntry e unused) is on q calm t from to = refl
@@ -97,23 +97,23 @@ settled_quiet : (w : Layout) (n : Node) (q : ℕ) (b : Bool) → n.sent ≡ b �
 settled_quiet w n q true is h = absurd (true_false n.sent is h.unsent)
 settled_quiet w n q false is h = record { loose = h.loose; unsent = refl; low = h.low; high = h.high }
 
-pub quiet_event : (w : Layout) (c0 : Image) (st : Places) (e : Event) (q : ℕ) → CanHappen w c0 st e → ((k : ℕ) (o : Owner) (set : NodeSet) (vs : List Value) → e ≡ (NewNode k o set vs) → q ≢ k) → Quiet w (st.records.nodes q) q → Quiet w ((places_after w st e).records.nodes q) q
-quiet_event w c0 st (AddKey key) q on new h = h
-quiet_event w c0 st (BeginBucket k) q on new h = h
-quiet_event w c0 st (SealEntry e unused) q on new h = h
-quiet_event w c0 st (WriteEntry vs) q on new h = h
-quiet_event w c0 st (FailEntry vs) q on new h = h
-quiet_event w c0 st Barrier q on new h = settled_quiet w (st.records.nodes q) q (st.records.nodes q).sent refl h
-quiet_event w c0 st MakeDurable q on new h = h
-quiet_event w c0 st (AddSet k set vs unused) q on new h = put_quiet w st.records.nodes k _ q h (λ e. absurd (true_false (st.records.nodes q).loose h.loose (subst (λ (x : ℕ). (st.records.nodes x).loose ≡ false) (sym e) on.0.0.0)))
-quiet_event w c0 st (FailSet k set vs) q on new h = put_quiet w st.records.nodes k _ q h (λ e. absurd (true_false (st.records.nodes q).loose h.loose (subst (λ (x : ℕ). (st.records.nodes x).loose ≡ false) (sym e) on.0.0.0)))
-quiet_event w c0 st (Reuse k) q on new h = put_quiet w st.records.nodes k _ q h (λ e. calm_node w q h.low h.high)
-quiet_event w c0 st (NewNode k o set vs) q on new h = put_quiet w st.records.nodes k _ q h (λ e. absurd (new k o set vs refl e))
-quiet_event w c0 st (GiveUp unused) q on new h = h
-quiet_event w c0 st (Elsewhere place vs) q on new h = h
-quiet_event w c0 st (FailElsewhere place vs) q on new h = h
-quiet_event w c0 st (Fill k place vs) q on new h = put_quiet w st.records.nodes k _ q h (λ e. calm_node w q h.low h.high)
-quiet_event w c0 st (FailFill k place vs set) q on new h = put_quiet w st.records.nodes k _ q h (λ e. calm_node w q h.low h.high)
+pub quiet_event : (w : Layout) (st : Places) (e : Event) (q : ℕ) → CanHappen w st e → ((k : ℕ) (o : Owner) (set : NodeSet) (vs : List Value) → e ≡ (NewNode k o set vs) → q ≢ k) → Quiet w (st.records.nodes q) q → Quiet w ((places_after w st e).records.nodes q) q
+quiet_event w st (AddKey key) q on new h = h
+quiet_event w st (BeginBucket k) q on new h = h
+quiet_event w st (SealEntry e unused) q on new h = h
+quiet_event w st (WriteEntry vs) q on new h = h
+quiet_event w st (FailEntry vs) q on new h = h
+quiet_event w st Barrier q on new h = settled_quiet w (st.records.nodes q) q (st.records.nodes q).sent refl h
+quiet_event w st MakeDurable q on new h = h
+quiet_event w st (AddSet k set vs unused) q on new h = put_quiet w st.records.nodes k _ q h (λ e. absurd (true_false (st.records.nodes q).loose h.loose (subst (λ (x : ℕ). (st.records.nodes x).loose ≡ false) (sym e) on.0.0.0)))
+quiet_event w st (FailSet k set vs) q on new h = put_quiet w st.records.nodes k _ q h (λ e. absurd (true_false (st.records.nodes q).loose h.loose (subst (λ (x : ℕ). (st.records.nodes x).loose ≡ false) (sym e) on.0.0.0)))
+quiet_event w st (Reuse k) q on new h = put_quiet w st.records.nodes k _ q h (λ e. calm_node w q h.low h.high)
+quiet_event w st (NewNode k o set vs) q on new h = put_quiet w st.records.nodes k _ q h (λ e. absurd (new k o set vs refl e))
+quiet_event w st (GiveUp unused) q on new h = h
+quiet_event w st (Elsewhere place vs) q on new h = h
+quiet_event w st (FailElsewhere place vs) q on new h = h
+quiet_event w st (Fill k place vs) q on new h = put_quiet w st.records.nodes k _ q h (λ e. calm_node w q h.low h.high)
+quiet_event w st (FailFill k place vs set) q on new h = put_quiet w st.records.nodes k _ q h (λ e. calm_node w q h.low h.high)
 
 -- what a plain event leaves of the entries
 pub plain_newest : (w : Layout) (st : Places) (e : Event) → is_plain e ≡ true → (places_after w st e).records.newest ≡ st.records.newest
@@ -163,22 +163,22 @@ plain_idle w st (Fill k place vs) is h = h
 plain_idle w st (FailFill k place vs set) is h = h
 
 -- the sealed entry's chain
-pub plain_sealed : (w : Layout) (c0 : Image) (st : Places) (e : Event) (qs gens : List ℕ) → is_plain e ≡ true → CanHappen w c0 st e → EachOf (CalmIn w st.device (places_after w st e).device) qs
+pub plain_sealed : (w : Layout) (st : Places) (e : Event) (qs gens : List ℕ) → is_plain e ≡ true → CanHappen w st e → EachOf (CalmIn w st.device (places_after w st e).device) qs
     → StandsBy w st.device st.records.entry.prio qs gens st.records.stage → StandsBy w (places_after w st e).device (places_after w st e).records.entry.prio qs gens (places_after w st e).records.stage
-plain_sealed w c0 st (AddKey key) qs gens is on calm h = h
-plain_sealed w c0 st (BeginBucket k) qs gens is on calm h = h
-plain_sealed w c0 st (SealEntry e unused) qs gens is on calm h = absurd (cc)
-plain_sealed w c0 st (WriteEntry vs) qs gens is on calm h =
+plain_sealed w st (AddKey key) qs gens is on calm h = h
+plain_sealed w st (BeginBucket k) qs gens is on calm h = h
+plain_sealed w st (SealEntry e unused) qs gens is on calm h = absurd (cc)
+plain_sealed w st (WriteEntry vs) qs gens is on calm h =
     by_calm w st.device (places_after w st (WriteEntry vs)).device st.records.entry.prio qs gens Sent calm (subst (λ (g : Stage). StandsBy w st.device st.records.entry.prio qs gens g) on.0 h)
-plain_sealed w c0 st (FailEntry vs) qs gens is on calm h = by_calm w st.device _ st.records.entry.prio qs gens st.records.stage calm h
-plain_sealed w c0 st Barrier qs gens is on calm h = by_barrier w st.device st.records.entry.prio qs gens st.records.stage h
-plain_sealed w c0 st MakeDurable qs gens is on calm h = absurd (cc)
-plain_sealed w c0 st (AddSet k set vs unused) qs gens is on calm h = by_calm w st.device _ st.records.entry.prio qs gens st.records.stage calm h
-plain_sealed w c0 st (FailSet k set vs) qs gens is on calm h = by_calm w st.device _ st.records.entry.prio qs gens st.records.stage calm h
-plain_sealed w c0 st (Reuse k) qs gens is on calm h = h
-plain_sealed w c0 st (NewNode k o set vs) qs gens is on calm h = absurd (cc)
-plain_sealed w c0 st (GiveUp unused) qs gens is on calm h = h
-plain_sealed w c0 st (Elsewhere place vs) qs gens is on calm h = by_calm w st.device _ st.records.entry.prio qs gens st.records.stage calm h
-plain_sealed w c0 st (FailElsewhere place vs) qs gens is on calm h = by_calm w st.device _ st.records.entry.prio qs gens st.records.stage calm h
-plain_sealed w c0 st (Fill k place vs) qs gens is on calm h = absurd (cc)
-plain_sealed w c0 st (FailFill k place vs set) qs gens is on calm h = absurd (cc)
+plain_sealed w st (FailEntry vs) qs gens is on calm h = by_calm w st.device _ st.records.entry.prio qs gens st.records.stage calm h
+plain_sealed w st Barrier qs gens is on calm h = by_barrier w st.device st.records.entry.prio qs gens st.records.stage h
+plain_sealed w st MakeDurable qs gens is on calm h = absurd (cc)
+plain_sealed w st (AddSet k set vs unused) qs gens is on calm h = by_calm w st.device _ st.records.entry.prio qs gens st.records.stage calm h
+plain_sealed w st (FailSet k set vs) qs gens is on calm h = by_calm w st.device _ st.records.entry.prio qs gens st.records.stage calm h
+plain_sealed w st (Reuse k) qs gens is on calm h = h
+plain_sealed w st (NewNode k o set vs) qs gens is on calm h = absurd (cc)
+plain_sealed w st (GiveUp unused) qs gens is on calm h = h
+plain_sealed w st (Elsewhere place vs) qs gens is on calm h = by_calm w st.device _ st.records.entry.prio qs gens st.records.stage calm h
+plain_sealed w st (FailElsewhere place vs) qs gens is on calm h = by_calm w st.device _ st.records.entry.prio qs gens st.records.stage calm h
+plain_sealed w st (Fill k place vs) qs gens is on calm h = absurd (cc)
+plain_sealed w st (FailFill k place vs set) qs gens is on calm h = absurd (cc)

@@ -9,19 +9,20 @@ use Rattle.bc_key.specs.declared.ptr.Ptr.{Ptr}
 use Rattle.bc_key.specs.Key.{pointer_of}
 use Rattle.bc_key.specs.Ptr.{IsZero, IsZeroFrom, no_ptr}
 use Rattle.bc_meta.specs.Keys.{Alike, covers, ref_by}
-use Rattle.bc_meta.specs.Facts.{Facts, In, IsAtBlock, Stand}
+use Rattle.bc_meta.specs.Facts.{Facts, In, IsAtBlock, Stand, FindsNoneInZeros}
 use Rattle.bc_meta.specs.Entries.{Entry, all_keys}
 use Rattle.bc_meta.specs.Tree.{NodeSet, NodeSets, Owner, set_keys}
 use Rattle.bc_meta.specs.Layout.{Layout, PrioSet, entry_at, node_end}
 use Rattle.bc_meta.specs.Chain.{Distinct, EachOf}
 use Rattle.bc_meta.specs.Events.{AddKey, AddSet, Barrier, FailEntry, GiveUp, WriteEntry}
-use Rattle.bc_meta.specs.Records.{IsFewer, MayHold, MayRead, Node, Reads, put, stable_node}
-use Rattle.bc_meta.specs.Places.{IsSoundImage, Places, Wrote}
+use Rattle.bc_meta.specs.Records.{IsFewer, MayHold, MayRead, Node, Reads, put, stable_node, MayStand}
+use Rattle.bc_meta.specs.Places.{IsSoundImage, Places, Wrote, CanStart, NoTornSet, AreSure, IsFirstWrite}
 use Rattle.bc_meta.specs.Acts.{Act, ChainReady, Durable, FailHeld, Holds, IsApart, IsRun, Plain, SealChain, State, StaysUnused, Take, WriteData, WriteNode, WriteSet, after, fold}
 use Rattle.bc_meta.specs.Laws.{IsSound, Opening, opened}
 use Rattle.bc_meta.specs.Example.{HasExample}
 use Rattle.bc_meta.proofs.Scan.{block_high}
-use Rattle.bc_meta.proofs.Lists.{by_test, by_le, decide}
+use Rattle.bc_meta.proofs.Lists.{by_test, by_le}
+use Rattle.bc_model.specs.Pattern.{zeros}
 
 -- ---- records
 
@@ -67,6 +68,9 @@ one_sector read = record {
   reads_back = one_back read;
   stays = one_stays read;
 }
+
+pub one_blank : {O A : Type 0} → (read : O → Value → Option A) → ((o : O) → read o zeros ≡ None) → FindsNoneInZeros (one_sector read)
+one_blank read none_ image o end p is = by_le (suc p) end (λ b. (if b then read o (image p) else None) ≡ None) (λ _. ap (λ (v : Value). read o v) is ∙ none_ o) (λ _. refl)
 
 -- a priority set: its part and the next bucket in its first sector, the generations in its second, and two that are free
 abbrev prio_read : ℕ → Value → Value → Option PrioSet
@@ -152,7 +156,7 @@ first_entry = record { number = 1; last_seq = 1; root = 2; word = 100; level = 0
 abbrev pub second_entry : Entry
 second_entry = record { number = 2; last_seq = 1; root = 8; word = 200; level = 0; prio = 5; keys = key ∷ []; rest = [] }
 
-abbrev entry_read : Unit {0} → Value → Option Entry
+abbrev pub entry_read : Unit {0} → Value → Option Entry
 entry_read o (suc zero ∷ []) = Some first_entry
 entry_read o (suc (suc zero) ∷ []) = Some second_entry
 entry_read o _ = None
@@ -160,7 +164,7 @@ entry_read o _ = None
 abbrev old_leaf : NodeSet
 old_leaf = record { seq = 5; keys = []; children = []; rest = [] }
 
-abbrev new_leaf : NodeSet
+abbrev pub new_leaf : NodeSet
 new_leaf = record { seq = 6; keys = []; children = []; rest = [] }
 
 abbrev next_set : NodeSet
@@ -176,6 +180,10 @@ set_named _ = None
 abbrev set_read : Owner → Value → Option NodeSet
 set_read o (word ∷ n ∷ []) = if word == o.word then set_named n else None
 set_read o _ = None
+
+pub no_set : (o : Owner) → set_read o zeros ≡ None
+unfolding zeros
+no_set o = refl
 
 -- ---- buckets of four sectors: 0 and 1 are the journal's, 2 has the root, 3 and 4 the chain, 5 and 6 are spare
 
@@ -196,6 +204,7 @@ layout = record {
   apart = apart;
   entries = one_sector entry_read;
   sets = one_sector set_read;
+  blank = one_blank set_read no_set;
   prios = prios;
   fills = λ e. refl;
   chain_sets = 2;
@@ -225,20 +234,16 @@ at_list (v ∷ vs) (suc n) = at_list vs n
 abbrev pub table : List Value
 table = (1 ∷ []) ∷ [] ∷ [] ∷ [] ∷ [] ∷ [] ∷ [] ∷ [] ∷ (100 ∷ 1 ∷ []) ∷ [] ∷ [] ∷ [] ∷ (0 ∷ 4 ∷ []) ∷ first_bytes ∷ [] ∷ [] ∷ (1 ∷ 0 ∷ []) ∷ old_bytes ∷ []
 
+-- in bucket 8 a set of the new leaf's seq was left, where it would stand behind the first one
 abbrev pub picture : Image
-picture = at_list table
-
-past : (vs : List Value) (n : ℕ) → length vs ≤ n → at_list vs n ≡ []
-past [] n le = refl
-past (v ∷ vs) zero le = absurd (omega arith)
-past (v ∷ vs) (suc n) le = past vs n (omega arith)
+picture s = if s == 34 then 200 ∷ 3 ∷ [] else at_list table s
 
 -- what holds of each number below another
-abbrev Below : ℕ → (ℕ → Type 0) → Type 0
+abbrev pub Below : ℕ → (ℕ → Type 0) → Type 0
 Below zero P = Unit {0}
 Below (suc n) P = P 0 × Below n (λ k. P (suc k))
 
-each_below : (n : ℕ) (P : ℕ → Type 0) → Below n P → (p : ℕ) → p < n → P p
+pub each_below : (n : ℕ) (P : ℕ → Type 0) → Below n P → (p : ℕ) → p < n → P p
 each_below zero P h p lt = absurd (omega arith)
 each_below (suc n) P h zero lt = h.0
 each_below (suc n) P h (suc p) lt = each_below n (λ k. P (suc k)) h.1 p (omega arith)
@@ -356,14 +361,17 @@ first_values = (0 ∷ 6 ∷ []) ∷ first_bytes ∷ [] ∷ [] ∷ []
 abbrev pub last_values : List Value
 last_values = (1 ∷ 0 ∷ []) ∷ new_bytes ∷ [] ∷ [] ∷ []
 
-abbrev new_owner : Owner
+abbrev pub new_owner : Owner
 new_owner = record { word = 200; leaf = true }
+
+abbrev pub leaf_values : List Value
+leaf_values = (200 ∷ 2 ∷ []) ∷ zeros ∷ zeros ∷ []
 
 -- a chain and a new leaf are written, and data with its key
 abbrev pub building : List Act
 building =
     Take 1 5 ∷ Take 1 6 ∷ FailHeld 1 5 21 ((9 ∷ []) ∷ []) None ∷ WriteSet 1 5 0 first_set first_values ∷ WriteSet 1 6 1 last_set last_values
-    ∷ Take 2 8 ∷ WriteNode 2 8 new_owner new_leaf ((200 ∷ 2 ∷ []) ∷ []) ∷ WriteData 7 28 ((77 ∷ []) ∷ []) ∷ Plain (AddKey key) ∷ []
+    ∷ Take 2 8 ∷ WriteNode 2 8 new_owner new_leaf leaf_values ∷ WriteData 7 28 ((77 ∷ []) ∷ []) ∷ Plain (AddKey key) ∷ []
 
 -- an entry names both, and is durable; the old leaf and the old chain are given up, the new leaf gets a set, and an old bucket a priority set
 abbrev pub sealing : List Act
@@ -380,7 +388,7 @@ abbrev pub start : State
 start = opened layout opening
 
 -- the states after so many acts of each part
-abbrev built_to : ℕ → State
+abbrev pub built_to : ℕ → State
 built_to n = fold layout start (begun n building)
 
 abbrev pub middle : State
@@ -438,15 +446,20 @@ fresh a b q na nb = out_two a b q (λ e. differs q a e na) (λ e. differs q b e 
     differs : (x y : ℕ) → x ≡ y → (x == y) ≡ false → ⊥
     differs x y e = by_test x y (λ t. t ≡ false → ⊥) (λ _ h. absurd (cc)) (λ ne _. ne e)
 
--- no set of the new leaf's seq stands in its bucket
-unheard : (at : ℕ) (e : NodeSet) → 33 ≤ at → (if nat_le (suc at) 36 then set_read new_owner (picture at) else None) ≡ Some e → e.seq ≢ 6
-unheard at e ge = by_le (suc at) 36 (λ t. (if t then set_read new_owner (picture at) else None) ≡ Some e → e.seq ≢ 6)
-    (λ _ h. absurd (none_some e (sym (ap (λ (v : Value). set_read new_owner v) (past table at (omega arith))) ∙ h))) (λ _ h. absurd (cc))
-  where
-    none_some : (e : NodeSet) → None ≡ Some e → ⊥
-    none_some e h = cc
+abbrev pub first_write : IsFirstWrite layout new_owner new_leaf leaf_values
+first_write = record { front = (200 ∷ 2 ∷ []) ∷ []; spelled = refl; values_are = refl }
 
-pub can_build : IsRun layout picture start building
+can_start : CanStart layout (built_to 6).places 8 new_owner new_leaf leaf_values
+can_start = record {
+  low = omega arith;
+  high = omega arith;
+  inside = refl;
+  room = omega arith;
+  first = first_write;
+  unheard = λ at e w. absurd w;
+}
+
+pub can_build : IsRun layout start building
 can_build = (
   ((refl, (omega arith)), (refl, refl, (omega arith))),
   (
@@ -460,7 +473,7 @@ can_build = (
           (
             ((refl, (omega arith)), (refl, refl, (omega arith))),
             (
-              ((refl, ((omega arith), (omega arith), (λ at e w. absurd w), (λ at e block h. unheard at e (block_high 1 33 at block) h), (omega arith), refl, refl)), (refl, refl)),
+              ((refl, can_start), (refl, refl)),
               (
                 ((refl, ((omega arith), (omega arith), (omega arith), (omega arith))), (refl, fresh 5 6 7 refl refl)),
                 (
@@ -476,7 +489,7 @@ can_build = (
   ),
 )
 
-pub run_on : (st : State) (xs ys : List Act) → IsRun layout picture st xs → IsRun layout picture (fold layout st xs) ys → IsRun layout picture st (xs ++ ys)
+pub run_on : (st : State) (xs ys : List Act) → IsRun layout st xs → IsRun layout (fold layout st xs) ys → IsRun layout st (xs ++ ys)
 run_on st [] ys a b = b
 run_on st (x ∷ xs) ys a b = (a.0, run_on (after layout st x) xs ys a.1 b)
 
@@ -560,7 +573,7 @@ add_reads = reads_as (sealed_to 9).places.records.nodes last_unused (second_entr
 fewer : IsFewer both_used first_unused
 fewer q = by_test q 2 (λ t. (if t then false else (if q == 8 then false else true)) ≡ true → (if t then false else true) ≡ true) (λ _ h. h) (λ _ h. refl)
 
-pub can_seal : IsRun layout picture middle sealing
+pub can_seal : IsRun layout middle sealing
 can_seal = (
   (((refl, (omega arith), (omega arith), fewer, seal_reads, refl, refl), tt), (stays_both middle refl (fresh 5 6 2 refl refl) refl (fresh 5 6 8 refl refl), each_two (Holds middle 1) 5 6 (refl, refl) (refl, refl), each_two (λ q. both_used q ≡ true) 5 6 refl refl, distinct_two 5 6 (λ e. absurd (cc)), refl, (refl, (first_set, refl, (new_bytes, refl, (refl, (last_set, refl, ([], refl, (refl, refl))))))), refl)),
   (
@@ -601,7 +614,7 @@ can_seal = (
 abbrev last : Places
 last = end.places
 
-one_of : (v x : Value) → Among v (x ∷ []) → v ≡ x
+pub one_of : (v x : Value) → Among v (x ∷ []) → v ≡ x
 one_of v x (inl e) = e
 one_of v x (inr n) = absurd n
 
@@ -653,48 +666,28 @@ entry_chance image b at e left lt block =
     zero_is b le = omega arith
 
 -- the run's one node is that in bucket 8
-put_no : (f : ℕ → Bool) (k : ℕ) → ((q : ℕ) → f q ≡ true → q ≡ 8) → (q : ℕ) → put f k false q ≡ true → q ≡ 8
+pub put_no : (f : ℕ → Bool) (k : ℕ) → ((q : ℕ) → f q ≡ true → q ≡ 8) → (q : ℕ) → put f k false q ≡ true → q ≡ 8
 put_no f k h q = by_test q k (λ t. (if t then false else f q) ≡ true → q ≡ 8) (λ _ e. absurd (cc)) (λ _ e. h q e)
 
-put_yes : (f : ℕ → Bool) → ((q : ℕ) → f q ≡ true → q ≡ 8) → (q : ℕ) → put f 8 true q ≡ true → q ≡ 8
+pub put_yes : (f : ℕ → Bool) → ((q : ℕ) → f q ≡ true → q ≡ 8) → (q : ℕ) → put f 8 true q ≡ true → q ≡ 8
 put_yes f h q = by_test q 8 (λ t. (if t then true else f q) ≡ true → q ≡ 8) (λ e _. e) (λ _ e. h q e)
 
 own_is : (q : ℕ) → last.own q ≡ true → q ≡ 8
 own_is = put_no _ 3 (put_no _ 3 (put_no _ 7 (put_yes _ (put_no _ 8 (put_no _ 6 (put_no _ 5 (put_no _ 5 (put_no _ 6 (put_no _ 5 (λ q e. absurd (cc)))))))))))
 
-read_set : (v : Value) (e : NodeSet) → Among v ((200 ∷ 3 ∷ []) ∷ [] ∷ []) → set_read new_owner v ≡ Some e → e ≡ next_set
+read_set : (v : Value) (e : NodeSet) → Among v ((200 ∷ 3 ∷ []) ∷ zeros ∷ []) → set_read new_owner v ≡ Some e → e ≡ next_set
 read_set v e (inl is) h = sym (some_same next_set e (ap (λ (u : Value). set_read new_owner u) (sym is) ∙ h))
-read_set v e (inr a) h = absurd (none_set e (ap (λ (u : Value). set_read new_owner u) (sym (one_of v [] a)) ∙ h))
+read_set v e (inr a) h = absurd (none_set e (sym (no_set new_owner) ∙ ap (λ (u : Value). set_read new_owner u) (sym (one_of v zeros a)) ∙ h))
   where
     none_set : (e : NodeSet) → None ≡ Some e → ⊥
     none_set e h = cc
 
-no_read : (v : Value) (e : NodeSet) → Among v ([] ∷ []) → set_read new_owner v ≡ Some e → ⊥
-no_read v e a h = none_set e (ap (λ (u : Value). set_read new_owner u) (sym (one_of v [] a)) ∙ h)
+set_chance : NoTornSet layout last
+set_chance image q e left own = subst AtNode (sym (own_is q own)) (λ _ _ _ h. inr (inl (refl, refl, read_set (image 34) e (left 34) h)))
   where
-    none_set : (e : NodeSet) → None ≡ Some e → ⊥
-    none_set e h = cc
-
-abbrev AtSet : Image → NodeSet → ℕ → Type 0
-AtSet image e p = Among (image p) (last.device.leaves p) → set_read new_owner (image p) ≡ Some e → Wrote last.log 8 p e
-
-set_left : (image : Image) (e : NodeSet) (p : ℕ) → 34 ≤ p → p < 36 → AtSet image e p
-set_left image e p ge lt = elim (decide p 34) [
-  | inl is ↦ subst (AtSet image e) (sym is) (λ a h. inl (refl, refl, read_set (image 34) e a h))
-  | inr ne ↦ subst (AtSet image e) (other p ge lt ne) (λ a h. absurd (no_read (image 35) e a h))
-]
-  where
-    other : (p : ℕ) → 34 ≤ p → p < 36 → p ≢ 34 → 35 ≡ p
-    other p ge lt ne = omega arith
-
-set_chance : (image : Image) (q at : ℕ) (e : NodeSet) → MayLeave last.device image → last.own q ≡ true → last.node_next q ≤ at → IsAtBlock 1 (layout.begins (last.records.nodes q).owner) at → e.seq ≡ last.seq q → layout.sets.found image (last.records.nodes q).owner (node_end layout (last.records.nodes q).owner) at ≡ Some e
-    → (layout.sets.found picture (last.records.nodes q).owner (node_end layout (last.records.nodes q).owner) at ≡ Some e) ⊎ Wrote last.log q at e
-set_chance image q at e left own = subst (λ (n : ℕ). last.node_next n ≤ at → IsAtBlock 1 (layout.begins (last.records.nodes n).owner) at → e.seq ≡ last.seq n → layout.sets.found image (last.records.nodes n).owner (node_end layout (last.records.nodes n).owner) at ≡ Some e → (layout.sets.found picture (last.records.nodes n).owner (node_end layout (last.records.nodes n).owner) at ≡ Some e) ⊎ Wrote last.log n at e)
-    (sym (own_is q own)) here
-  where
-    here : 34 ≤ at → IsAtBlock 1 33 at → e.seq ≡ 6 → (if nat_le (suc at) 36 then set_read new_owner (image at) else None) ≡ Some e → ((if nat_le (suc at) 36 then set_read new_owner (picture at) else None) ≡ Some e) ⊎ Wrote last.log 8 at e
-    here ge block seq = by_le (suc at) 36 (λ t. (if t then set_read new_owner (image at) else None) ≡ Some e → ((if t then set_read new_owner (picture at) else None) ≡ Some e) ⊎ Wrote last.log 8 at e)
-        (λ le h. inr (set_left image e at ge (omega arith) (left at) h)) (λ _ h. absurd (cc))
+    AtNode : ℕ → Type 0
+    AtNode n = (last.records.nodes n).loose ≡ false → MayStand (last.records.nodes n) → e.seq ≡ last.seq n → layout.sets.found image (last.records.nodes n).owner (node_end layout (last.records.nodes n).owner) (last.node_next n) ≡ Some e
+        → AreSure last.device (last.node_next n) (last.node_next n + 1) ⊎ Wrote last.log n (last.node_next n) e
 
 other_gens : new_gens ≢ old_gens
 other_gens e = far (slice_index_or new_gens 7 0) refl (ap (λ (l : List ℕ). slice_index_or l 7 0) e)
@@ -717,6 +710,7 @@ has_example = (
       other = other_gens;
       again = (3, inl refl, (record { part = 0; set = first_set }, refl));
       root = λ e. absurd (cc);
+      leftover = (34, omega arith, (next_set, refl, refl));
       added = refl;
       key = refl;
     },

@@ -7,6 +7,7 @@ pub mod Left
 pub mod Runs
 pub mod Scan
 pub mod Firm
+pub mod Blank
 pub mod Place
 pub mod Steps
 pub mod Reopen

@@ -2,7 +2,7 @@
 use Rattle.std.proofs.Common.{◌≡◌, ◌≢◌, ◌⊎◌, inl, inr, ℕ, ◌+◌, ◌<◌, ◌≤◌, Bool, true, false, List, [], ◌∷◌, length, Option, Some, None, refl, sym, ap, ◌∙◌, subst, arith, if◌then◌else◌, ◌&&◌, nat_le}
 use Rattle.bc_model.specs.Sector.{Image, Value}
 use Rattle.bc_disk.specs.Device.{Content, failed, settled, written}
-use Rattle.bc_meta.specs.Facts.{In, IsAtBlock, Stand}
+use Rattle.bc_meta.specs.Facts.{In, Stand}
 use Rattle.bc_meta.specs.Entries.{Entry}
 use Rattle.bc_meta.specs.Tree.{NodeSet, Owner}
 use Rattle.bc_meta.specs.Layout.{Layout, entry_at, entry_len, is_within, node_end, of_seq, set_at, set_len, sets_in}
@@ -10,6 +10,7 @@ use Rattle.bc_meta.specs.Events.{Elsewhere, FailElsewhere, FailFill, Fill, NewNo
 use Rattle.bc_meta.specs.Records.{Fixed, IsReady, MayStand, Node, Nothing, Ready, Safe, Sent, Stage, after_barrier, failed_node, loose_node, new_node, put, records_after, sent_node}
 use Rattle.bc_meta.specs.Places.{CanAppend, CanFill, CanStart, IsOutside, Places, Wrote, places_after, with_set}
 use Rattle.bc_meta.proofs.Lists.{by_test, by_le, decide}
+use Rattle.bc_meta.proofs.Blank.{Blank, blank_off, first_long, first_reads, settled_sent, settled_still, sent_blank, failed_blank, new_blank}
 use Rattle.bc_meta.proofs.Firm.{FirmOn, Off, off_run, off_failed, off_write, off_fail_write, firm_kept, firm_settled, ReadsOn, LeavesOn, reads_written, reads_kept, leaves_kept, laid, laid_below, laid_has, laid_firm, stands_high}
 
 both_ : (b : Bool) → b ≡ true → b ≡ false → ⊥
@@ -22,13 +23,13 @@ Firm w d b es q = (z : Image) × Stand (entry_len w) (entry_at w z b) (w.first b
 abbrev pub FirmSets : Layout → Content → Owner → ℕ → List NodeSet → ℕ → Type 0
 FirmSets w d o seq es n = (z : Image) × Stand (set_len w) (set_at w z o seq) (w.begins o) es n × FirmOn d z (w.begins o) n
 
-pub record OwnNode (w : Layout) (c0 : Image) (d : Content) (n : Node) (q next seq : ℕ) (wrote : List (ℕ × ℕ × NodeSet)) : Type 0 where
+pub record OwnNode (w : Layout) (d : Content) (n : Node) (q next seq : ℕ) (wrote : List (ℕ × ℕ × NodeSet)) : Type 0 where
   pub stands : FirmSets w d n.owner seq n.sets next
   pub within : is_within w q n.owner ≡ true
   pub inside : next ≤ node_end w n.owner
   pub sent : n.sent ≡ true → (n.last.seq ≡ seq) × (next + set_len w n.last ≤ node_end w n.owner) × ((vs : List Value) × (w.sets.spelled n.owner vs ≡ Some n.last) × ReadsOn d next vs)
   pub log : (p : ℕ) (e : NodeSet) → Wrote wrote q p e → e.seq ≡ seq → (p < next) ⊎ (MayStand n × (p ≡ next) × (e ≡ n.last))
-  pub old : (p : ℕ) (e : NodeSet) → IsAtBlock w.block (w.begins n.owner) p → w.sets.found c0 n.owner (node_end w n.owner) p ≡ Some e → e.seq ≢ seq
+  pub blank : Blank w d n next
   pub some : n.loose ≡ false → n.sets ≢ []
 
 pub record OldNode (w : Layout) (c0 : Image) (d : Content) (n : Node) (q : ℕ) : Type 0 where
@@ -37,7 +38,7 @@ pub record OldNode (w : Layout) (c0 : Image) (d : Content) (n : Node) (q : ℕ) 
   pub sent : n.sent ≡ false
 
 pub record NodeInv (w : Layout) (c0 : Image) (d : Content) (n : Node) (own : Bool) (q next seq : ℕ) (log : List (ℕ × ℕ × NodeSet)) : Type 0 where
-  pub mine : own ≡ true → OwnNode w c0 d n q next seq log
+  pub mine : own ≡ true → OwnNode w d n q next seq log
   pub old : own ≡ false → n.loose ≡ false → OldNode w c0 d n q
   pub low : (q < w.journal) ⊎ (w.buckets ≤ q) → (own ≡ false) × (n.loose ≡ true)
   pub unsent : own ≡ false → n.sent ≡ false
@@ -125,7 +126,7 @@ node_off w c0 old new n own q next seq log same h = record {
         inside = m.inside;
         sent = λ s. let k = m.sent s in let k1 = k.1 in let l = w.sets.long n.owner k.2.0 n.last k.2.1 in (k.0, k.1, (k.2.0, k.2.1, reads_kept old new next k.2.0 (λ t ge lt. same t (omega arith) (omega arith)) k.2.2));
         log = m.log;
-        old = m.old;
+        blank = blank_off w old new n next (λ t ge lt. same t (omega arith) (omega arith)) m.blank;
         some = m.some;
       };
   old = λ is l. let m = h.old is l in record { firm = λ in_ t ge lt. (let k = within_of w q n.owner in_ in let k0 = k.0 in let k1 = k.1 in firm_kept old new c0 (w.begins n.owner) (node_end w n.owner) (λ x a b. same x (omega arith) (omega arith)) (m.firm in_) t ge lt); sets = m.sets; sent = m.sent };
@@ -162,7 +163,7 @@ sets_stay w z c o seq es n same =
 
 wrote_other : (w : Layout) (c0 : Image) (d : Content) (n : Node) (own : Bool) (q next seq k p0 : ℕ) (set : NodeSet) (log : List (ℕ × ℕ × NodeSet)) → q ≢ k → NodeInv w c0 d n own q next seq log → NodeInv w c0 d n own q next seq ((k, p0, set) ∷ log)
 wrote_other w c0 d n own q next seq k p0 set log ne h = record {
-  mine = λ is. let m = h.mine is in record { stands = m.stands; within = m.within; inside = m.inside; sent = m.sent; log = λ p e r s. elim r [ inl x ↦ absurd (ne x.0) | inr y ↦ m.log p e y s ]; old = m.old; some = m.some };
+  mine = λ is. let m = h.mine is in record { stands = m.stands; within = m.within; inside = m.inside; sent = m.sent; log = λ p e r s. elim r [ inl x ↦ absurd (ne x.0) | inr y ↦ m.log p e y s ]; blank = m.blank; some = m.some };
   old = h.old;
   low = h.low;
   unsent = h.unsent;
@@ -210,7 +211,7 @@ node_settled w c0 d n own q next seq log true is h = record {
         inside = k.1;
         sent = λ e. absurd (cc);
         log = λ p e r s. elim (m.log p e r s) [ inl lt ↦ inl (omega arith) | inr y ↦ inl (let y1 = y.1 in omega arith) ];
-        old = m.old;
+        blank = settled_sent w d n next is m.blank;
         some = λ _ e. absurd (cc);
       };
   old = λ o _. absurd (cc (h.unsent o, is));
@@ -224,7 +225,7 @@ node_settled w c0 d n own q next seq log false is h = record {
     inside = m.inside;
     sent = λ e. absurd (cc);
     log = λ p e r s. elim (m.log p e r s) [ inl lt ↦ inl lt | inr y ↦ inr (elim y.0 [ inl x ↦ absurd (cc (x, is)) | inr x ↦ inr x ], y.1, y.2) ];
-    old = m.old;
+    blank = settled_still w d n next is m.blank;
     some = m.some;
   };
   old = λ o l. let m = h.old o l in record { firm = λ in_. firm_settled d c0 (w.begins n.owner) (node_end w n.owner) (m.firm in_); sets = m.sets; sent = refl };
@@ -337,7 +338,7 @@ module _ (w : Layout) (c0 : Image) (floor : ℕ) (list : List Entry) (st : Place
           inside = m.inside;
           sent = λ _. (can.1, can.2, (vs, can.3, reads_written st.device (st.node_next k) vs));
           log = λ p e r s. elim r [ inl y ↦ inr (inl refl, y.1, y.2) | inr y ↦ elim (m.log p e y s) [ inl lt ↦ inl lt | inr y2 ↦ absurd (elim y2.0 [ inl x ↦ both_ _ x sent | inr x ↦ both_ _ x failed_ ]) ] ];
-          old = m.old;
+          blank = sent_blank w st.device (st.records.nodes k) set (st.node_next k) vs long loose sent failed_ m.blank;
           some = λ _. m.some loose;
         };
         old = λ o. absurd (cc (o, can.0));
@@ -371,7 +372,7 @@ module _ (w : Layout) (c0 : Image) (floor : ℕ) (list : List Entry) (st : Place
           inside = m.inside;
           sent = λ e. absurd (no_true e);
           log = λ p e r s. elim r [ inl y ↦ inr (inr refl, y.1, y.2) | inr y ↦ elim (m.log p e y s) [ inl lt ↦ inl lt | inr y2 ↦ absurd (elim y2.0 [ inl x ↦ both_ _ x sent | inr x ↦ both_ _ x failed_ ]) ] ];
-          old = m.old;
+          blank = failed_blank w st.device (st.records.nodes k) set (st.node_next k) vs long loose sent failed_ m.blank;
           some = λ _. m.some loose;
         };
         old = λ o. absurd (cc (o, can.0));
@@ -384,29 +385,29 @@ module _ (w : Layout) (c0 : Image) (floor : ℕ) (list : List Entry) (st : Place
       no_true : false ≡ true → ⊥
       no_true e = cc
 
-  pub keep_new : (k : ℕ) (o : Owner) (set : NodeSet) (vs : List Value) → CanStart w c0 st k o set vs → Inv w c0 floor list (places_after w st (NewNode k o set vs))
+  pub keep_new : (k : ℕ) (o : Owner) (set : NodeSet) (vs : List Value) → CanStart w st k o set vs → Inv w c0 floor list (places_after w st (NewNode k o set vs))
   keep_new k o set vs can =
-      let long = w.sets.long o vs set can.5 in
-      let c1 = can.1 in
-      let in_it = within_of w k o can.6 in
+      let long = first_long w o set vs can.first can.room in
+      let room = can.room in
+      let in_it = within_of w k o can.inside in
       let in0 = in_it.0 in
       let in1 = in_it.1 in
-      let high = can.0 in
+      let high = can.low in
       let x : Node = new_node o set in
-      into_node k (written (w.begins o) vs st.device) (put st.records.nodes k x) st.records.unused (put st.node_next k (w.begins o)) (put st.own k true) (put st.seq k set.seq) ((k, w.begins o, set) ∷ st.log) high can.4 (λ b t bt ne. apart k (w.begins o) vs b t bt can.4 ne (omega arith) (omega arith))
+      into_node k (written (w.begins o) vs st.device) (put st.records.nodes k x) st.records.unused (put st.node_next k (w.begins o)) (put st.own k true) (put st.seq k set.seq) ((k, w.begins o, set) ∷ st.log) high can.high (λ b t bt ne. apart k (w.begins o) vs b t bt can.high ne (omega arith) (omega arith))
       (by_test k k (λ b. NodeInv w c0 (written (w.begins o) vs st.device) (if b then new_node o set else st.records.nodes k) (if b then true else st.own k) k (if b then w.begins o else st.node_next k) (if b then set.seq else st.seq k) ((k, w.begins o, set) ∷ st.log))
       (λ _. record {
         mine = λ _. record {
           stands = (c0, refl, λ t ge lt. absurd (omega arith));
-          within = can.6;
+          within = can.inside;
           inside = omega arith;
-          sent = λ _. (refl, can.1, (vs, can.5, reads_written st.device (w.begins o) vs));
-          log = λ p e r s. elim r [ inl y ↦ inr (inl refl, y.1, y.2) | inr y ↦ absurd (can.2 p e y s) ];
-          old = can.3;
+          sent = λ _. (refl, can.room, (can.first.front, can.first.spelled, first_reads w o set vs can.first can.room st.device));
+          log = λ p e r s. elim r [ inl y ↦ inr (inl refl, y.1, y.2) | inr y ↦ absurd (can.unheard p e y s) ];
+          blank = new_blank w st.device o set vs can.first can.room;
           some = λ l. absurd (cc);
         };
         old = λ o. absurd (cc);
-        low = λ lt. let kt = can.4 in elim lt [ inl a ↦ absurd (omega arith) | inr b ↦ absurd (omega arith) ];
+        low = λ lt. let kt = can.high in elim lt [ inl a ↦ absurd (omega arith) | inr b ↦ absurd (omega arith) ];
         unsent = λ o. absurd (cc);
       }) (λ ne. absurd (ne refl)))
       (λ q ne. by_test q k (λ b. NodeInv w c0 st.device (if b then new_node o set else st.records.nodes q) (if b then true else st.own q) q (if b then w.begins o else st.node_next q) (if b then set.seq else st.seq q) ((k, w.begins o, set) ∷ st.log))

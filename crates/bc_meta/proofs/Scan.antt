@@ -18,7 +18,8 @@ pub record NodeLeft (w : Layout) (n : Node) (c : Image) (q : ℕ) : Type 0 where
   pub some : n.sets ≢ []
   pub inside : next ≤ node_end w n.owner
   pub within : is_within w q n.owner ≡ true
-  pub chance : (p : ℕ) (e : NodeSet) → next ≤ p → IsAtBlock w.block (w.begins n.owner) p → set_at w c n.owner seq p ≡ Some e → MayStand n × (p ≡ next) × (e ≡ n.last)
+  pub chance : (e : NodeSet) → set_at w c n.owner seq next ≡ Some e → MayStand n × (e ≡ n.last)
+  pub blank : MayStand n → set_at w c n.owner seq (next + set_len w n.last) ≡ None
 
 pub record ImageLeft (w : Layout) (st : Records) (c : Image) : Type 0 where
   pub ring_next : ℕ → ℕ
@@ -155,9 +156,6 @@ module _ (w : Layout) (n : Node) (c : Image) (q : ℕ) (h : NodeLeft w n c q) wh
       let inside = h.inside in
       read_as ∙ scan_stands (set_len w) (set_at w c n.owner h.seq) (w.begins n.owner) n.sets h.next (w.node_sectors - length n.sets) h.stands w.node_sectors (omega arith)
 
-  at_next : IsAtBlock w.block (w.begins n.owner) h.next
-  at_next = stand_at w.block (set_len w) w.sets.whole (set_at w c n.owner h.seq) (w.begins n.owner) n.sets h.next h.stands
-
   -- a place of a whole set has room
   room : (e : NodeSet) → set_at w c n.owner h.seq h.next ≡ Some e → 0 < w.node_sectors - length n.sets
   room e is =
@@ -170,18 +168,14 @@ module _ (w : Layout) (n : Node) (c : Image) (q : ℕ) (h : NodeLeft w n c q) wh
   pub node_left : MayHold n (sets_in w c n.owner q)
   node_left = go (set_at w c n.owner h.seq h.next) refl
     where
-      none_after : (e : NodeSet) (o : Option NodeSet) → set_at w c n.owner h.seq (h.next + set_len w e) ≡ o → o ≡ None
-      none_after e None is = refl
-      none_after e (Some f) is =
-          let some = w.sets.some e in
-          let k = (h.chance (h.next + set_len w e) f (omega arith) (next_block w.block (w.begins n.owner) (set_len w e) h.next (w.sets.whole e) at_next) is).1 in
-          absurd (omega arith)
+      none_after : (e : NodeSet) → MayStand n → e ≡ n.last → set_at w c n.owner h.seq (h.next + set_len w e) ≡ None
+      none_after e stand same = ap (λ (x : NodeSet). set_at w c n.owner h.seq (h.next + set_len w x)) same ∙ h.blank stand
 
       go : (o : Option NodeSet) → set_at w c n.owner h.seq h.next ≡ o → MayHold n (sets_in w c n.owner q)
       go None is = inr (inl (to_next ∙ scan_stop (set_len w) (set_at w c n.owner h.seq) (w.node_sectors - length n.sets) h.next n.sets is))
       go (Some e) is =
-          let k = h.chance h.next e (omega arith) at_next is in
-          inr (inr (k.0, to_next ∙ scan_one (set_len w) (set_at w c n.owner h.seq) (w.node_sectors - length n.sets) h.next n.sets e (room e is) is (none_after e _ refl) ∙ ap (λ (x : NodeSet). x ∷ n.sets) k.2))
+          let k = h.chance e is in
+          inr (inr (k.0, to_next ∙ scan_one (set_len w) (set_at w c n.owner h.seq) (w.node_sectors - length n.sets) h.next n.sets e (room e is) is (none_after e k.0 k.1) ∙ ap (λ (x : NodeSet). x ∷ n.sets) k.1))
 
 pub choice_left : (w : Layout) (st : Records) (c : Image) → ImageLeft w st c → MayRead st.nodes (node_sets w (owners st.nodes) c)
 choice_left w st c h q = elim (h.nodes q) [ inl l ↦ inl l | inr (inl is) ↦ inr (inl is) | inr (inr k) ↦ node_left w (st.nodes q) c q k ]

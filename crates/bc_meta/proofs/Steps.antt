@@ -1,6 +1,7 @@
 -- The events of the journal, all events, the opened image, and what a crash image is.
 use Rattle.std.proofs.Common.{◌≡◌, ◌≢◌, ◌⊎◌, inl, inr, ℕ, zero, suc, ◌+◌, ◌<◌, ◌≤◌, Bool, true, false, List, [], ◌∷◌, Option, Some, None, refl, sym, ap, ◌∙◌, subst, arith, if◌then◌else◌}
 use Rattle.bc_model.specs.Sector.{Image, Value}
+use Rattle.bc_model.specs.Pattern.{zeros}
 use Rattle.bc_disk.specs.Device.{Content, MayLeave, Only, failed}
 use Rattle.bc_record.specs.Sectors.{AgreeOn}
 use Rattle.bc_key.specs.declared.key.Key.{Key}
@@ -9,14 +10,15 @@ use Rattle.bc_meta.specs.Entries.{Entry}
 use Rattle.bc_meta.specs.Tree.{NodeSet, Owner}
 use Rattle.bc_meta.specs.Layout.{Layout, entry_at, entry_len, is_within, node_end, of_seq, ring_entries, set_at, set_len, sets_from, sets_in}
 use Rattle.bc_meta.specs.Events.{AddKey, AddSet, Barrier, BeginBucket, Elsewhere, Event, FailElsewhere, FailEntry, FailFill, FailSet, Fill, GiveUp, MakeDurable, NewNode, Reuse, SealEntry, WriteEntry}
-use Rattle.bc_meta.specs.Records.{Fixed, IsReady, Nothing, Ready, RecordsAllow, Safe, Sent, Stage, after_barrier, put}
-use Rattle.bc_meta.specs.Places.{CanEnter, CanHappen, IsSoundImage, NoChance, Places, PlacesAllow, Wrote, opened_places, places_after}
+use Rattle.bc_meta.specs.Records.{Fixed, IsReady, Nothing, Ready, RecordsAllow, Safe, Sent, Stage, after_barrier, put, MayStand, Node}
+use Rattle.bc_meta.specs.Places.{CanEnter, CanHappen, IsSoundImage, NoChance, Places, PlacesAllow, Wrote, opened_places, places_after, AreSure}
 use Rattle.bc_meta.proofs.Lists.{by_test, decide}
 use Rattle.bc_meta.proofs.Firm.{FirmOn, Off, off_run, off_failed, firm_kept, firm_settled, reads_written, laid, laid_below, laid_has, laid_firm, stands_high}
-use Rattle.bc_meta.proofs.Place.{node_out, either, Firm, NodeInv, SentOn, sent_settled, fits_back, Inv, entries_stay, sets_stay, of_seq_some, node_off, node_settled, nothing_known, apart, keep_elsewhere, keep_fail_elsewhere, keep_set, keep_fail_set, keep_new, keep_reuse, keep_fill, keep_fail_fill}
+use Rattle.bc_meta.proofs.Place.{OwnNode, node_out, either, Firm, NodeInv, SentOn, sent_settled, fits_back, Inv, entries_stay, sets_stay, of_seq_some, node_off, node_settled, nothing_known, apart, keep_elsewhere, keep_fail_elsewhere, keep_set, keep_fail_set, keep_new, keep_reuse, keep_fill, keep_fail_fill}
 use Rattle.bc_meta.proofs.Keep as records_
 use Rattle.bc_meta.proofs.Ring.{count_in, count_of}
 use Rattle.bc_meta.proofs.Scan.{NodeLeft, ImageLeft}
+use Rattle.bc_meta.proofs.Blank.{blank_there}
 
 some_safe : (g : Stage) → g ≡ Safe → g ≢ Nothing
 some_safe g e n = absurd (no_safe (sym e ∙ n))
@@ -221,7 +223,7 @@ module _ (w : Layout) (c0 : Image) (floor : ℕ) (list : List Entry) (st : Place
   keep_others : (waiting : List Key) (unused : ℕ → Bool) → Inv w c0 floor list (record st { records = record st.records { waiting = waiting; unused = unused } })
   keep_others waiting unused = record { ring = inv.ring; only_ring = inv.only_ring; current = inv.current; sent = inv.sent; fits = inv.fits; nodes = inv.nodes; floor_is = inv.floor_is; listed = inv.listed; placed = inv.placed }
 
-keep_do : (w : Layout) (c0 : Image) (floor : ℕ) (list : List Entry) (st : Places) (e : Event) → records_.Inv st.records → RecordsAllow st.records e → PlacesAllow w c0 st e → Inv w c0 floor list st → Inv w c0 floor list (places_after w st e)
+keep_do : (w : Layout) (c0 : Image) (floor : ℕ) (list : List Entry) (st : Places) (e : Event) → records_.Inv st.records → RecordsAllow st.records e → PlacesAllow w st e → Inv w c0 floor list st → Inv w c0 floor list (places_after w st e)
 keep_do w c0 floor list st (AddKey key) mi on can inv = keep_others w c0 floor list st inv (key ∷ st.records.waiting) st.records.unused
 keep_do w c0 floor list st (BeginBucket b) mi on can inv = keep_begin w c0 floor list st inv b on.0 can
 keep_do w c0 floor list st (SealEntry e unused) mi on can inv = keep_seal w c0 floor list st inv e unused on.0
@@ -239,11 +241,11 @@ keep_do w c0 floor list st (FailFill q at vs set) mi on can inv = keep_fail_fill
 keep_do w c0 floor list st (Elsewhere at vs) mi on can inv = keep_elsewhere w c0 floor list st inv at vs can
 keep_do w c0 floor list st (FailElsewhere at vs) mi on can inv = keep_fail_elsewhere w c0 floor list st inv at vs can
 
-pub keep_event : (w : Layout) (c0 : Image) (floor : ℕ) (list : List Entry) (st : Places) (e : Event) → records_.Inv st.records → CanHappen w c0 st e → Inv w c0 floor list st → Inv w c0 floor list (places_after w st e)
+pub keep_event : (w : Layout) (c0 : Image) (floor : ℕ) (list : List Entry) (st : Places) (e : Event) → records_.Inv st.records → CanHappen w st e → Inv w c0 floor list st → Inv w c0 floor list (places_after w st e)
 keep_event w c0 floor list st e mi on inv = keep_do w c0 floor list st e mi on.0 on.1 inv
 
-pub keep_records : (w : Layout) (c0 : Image) (st : Places) (e : Event) → CanHappen w c0 st e → records_.Inv st.records → records_.Inv (places_after w st e).records
-keep_records w c0 st e on inv = records_.keep st.records e on.0 inv
+pub keep_records : (w : Layout) (st : Places) (e : Event) → CanHappen w st e → records_.Inv st.records → records_.Inv (places_after w st e).records
+keep_records w st e on inv = records_.keep st.records e on.0 inv
 
 pub only_one : (v : Value) → Only v (v ∷ [])
 only_one v x (inl e) = e
@@ -306,11 +308,52 @@ node_same w o c d q same = within (is_within w q o) refl
     within true is = ap (λ x. sets_from w c o x) (found_same w o c d (same is) (w.begins o) (omega arith)) ∙ go (same is) (w.sets.found d o (node_end w o) (w.begins o))
     within false is = refl
 
+-- a set may stand behind a node's, or none may
+stands : (n : Node) → (MayStand n → ⊥) ⊎ MayStand n
+stands n = go n.sent n.failed refl refl
+  where
+    no_true : (b : Bool) → b ≡ true → b ≡ false → ⊥
+    no_true b x y = absurd (cc)
+
+    go : (a b : Bool) → n.sent ≡ a → n.failed ≡ b → (MayStand n → ⊥) ⊎ MayStand n
+    go true b s f = inr (inl s)
+    go false true s f = inr (inr f)
+    go false false s f = inl (λ m. elim m [ inl e ↦ no_true n.sent e s | inr e ↦ no_true n.failed e f ])
+
 pub firm_there : (d : Content) (z : Image) (a b : ℕ) (c : Image) → MayLeave d c → FirmOn d z a b → (t : ℕ) → a ≤ t → t < b → z t ≡ c t
 firm_there d z a b c left f t ge lt = sym ((f t ge lt).1 (c t) (left t))
 
 module _ (w : Layout) (c0 : Image) (newest : Entry) (older : List Entry) (st : Places) (inv : Inv w c0 newest.last_seq (newest ∷ older) st) (chance : NoChance w c0 st)
     (stray : (b p : ℕ) (e : Entry) → b < w.journal → IsAtBlock w.block (w.first b) p → entry_at w c0 b p ≡ Some e → (e.number < newest.last_seq) ⊎ In e (newest ∷ older)) (c : Image) (left : MayLeave st.device c) where
+  -- no set is found where the first sector is zeros
+  not_blank : (q p : ℕ) (e : NodeSet) → w.sets.found c (st.records.nodes q).owner (node_end w (st.records.nodes q).owner) p ≡ Some e → c p ≡ zeros → ⊥
+  not_blank q p e found blank = some_none (w.sets.found c (st.records.nodes q).owner (node_end w (st.records.nodes q).owner) p) e found (w.blank c (st.records.nodes q).owner (node_end w (st.records.nodes q).owner) p blank)
+    where
+      some_none : (o : Option NodeSet) (e : NodeSet) → o ≡ Some e → o ≡ None → ⊥
+      some_none o e a b = cc
+
+  -- what a crash can't tear behind a node's sets is zeros
+  not_sure : (q : ℕ) (e : NodeSet) → OwnNode w st.device (st.records.nodes q) q (st.node_next q) (st.seq q) st.log → (st.records.nodes q).loose ≡ false
+      → w.sets.found c (st.records.nodes q).owner (node_end w (st.records.nodes q).owner) (st.node_next q) ≡ Some e → AreSure st.device (st.node_next q) (st.node_next q + set_len w e) → ⊥
+  not_sure q e m known found sure =
+      let fits = w.sets.fits c (st.records.nodes q).owner (node_end w (st.records.nodes q).owner) (st.node_next q) e found in
+      let some = w.sets.some e in
+      not_blank q (st.node_next q) e found (sure (st.node_next q) (omega arith) (omega arith) (c (st.node_next q)) zeros (left (st.node_next q)) (m.blank.left known (st.node_next q) (omega arith) (omega arith)).0)
+
+  -- and so is what lies behind a last set
+  not_behind : (q p : ℕ) (e : NodeSet) → OwnNode w st.device (st.records.nodes q) q (st.node_next q) (st.seq q) st.log → (st.records.nodes q).loose ≡ false
+      → w.sets.found c (st.records.nodes q).owner (node_end w (st.records.nodes q).owner) p ≡ Some e → st.node_next q ≤ p → (MayStand (st.records.nodes q) → st.node_next q + set_len w (st.records.nodes q).last ≤ p) → ⊥
+  not_behind q p e m known found ge behind =
+      let fits = w.sets.fits c (st.records.nodes q).owner (node_end w (st.records.nodes q).owner) p e found in
+      let some = w.sets.some e in
+      not_blank q p e found (blank_there w st.device (st.records.nodes q) (st.node_next q) c m.blank known left p ge (omega arith) behind)
+
+  none_behind : (q : ℕ) → OwnNode w st.device (st.records.nodes q) q (st.node_next q) (st.seq q) st.log → (st.records.nodes q).loose ≡ false
+      → (o : Option NodeSet) → w.sets.found c (st.records.nodes q).owner (node_end w (st.records.nodes q).owner) (st.node_next q + set_len w (st.records.nodes q).last) ≡ o
+      → of_seq (st.seq q) o ≡ None
+  none_behind q m known None is = refl
+  none_behind q m known (Some e) is = absurd (not_behind q (st.node_next q + set_len w (st.records.nodes q).last) e m known is (omega arith) (λ _. omega arith))
+
   node_there : (q : ℕ) → ((st.records.nodes q).loose ≡ true) ⊎ (sets_in w c (st.records.nodes q).owner q ≡ (st.records.nodes q).sets) ⊎ NodeLeft w (st.records.nodes q) c q
   node_there q = go (st.records.nodes q).loose refl (st.own q) refl
     where
@@ -329,13 +372,16 @@ module _ (w : Layout) (c0 : Image) (newest : Entry) (older : List Entry) (st : P
             some = m.some is;
             inside = m.inside;
             within = m.within;
-            chance = λ p e ge at f.
-                let k = of_seq_some (st.seq q) (w.sets.found c (st.records.nodes q).owner (node_end w (st.records.nodes q).owner) p) e f in
-                let up = stands_high (set_len w) (set_at w m.stands.0 (st.records.nodes q).owner (st.seq q)) (w.begins (st.records.nodes q).owner) (st.records.nodes q).sets (st.node_next q) m.stands.1 in
-                elim (chance.sets c q p e left own ge at k.1 k.0) [
-                  | inl f0 ↦ absurd (m.old p e at f0 k.1)
-                  | inr wrote ↦ elim (m.log p e wrote k.1) [ inl lt ↦ absurd (omega arith) | inr y ↦ y ]
+            chance = λ e f.
+                let k = of_seq_some (st.seq q) (w.sets.found c (st.records.nodes q).owner (node_end w (st.records.nodes q).owner) (st.node_next q)) e f in
+                elim (stands (st.records.nodes q)) [
+                  | inl none_ ↦ absurd (not_behind q (st.node_next q) e m is k.0 (omega arith) (λ stand. absurd (none_ stand)))
+                  | inr stand ↦ elim (chance.sets c q e left own is stand k.1 k.0) [
+                    | inl sure ↦ absurd (not_sure q e m is k.0 sure)
+                    | inr wrote ↦ elim (m.log (st.node_next q) e wrote k.1) [ inl lt ↦ absurd (omega arith) | inr y ↦ (y.0, y.2) ]
+                  ]
                 ];
+            blank = λ stand. none_behind q m is (w.sets.found c (st.records.nodes q).owner (node_end w (st.records.nodes q).owner) (st.node_next q + set_len w (st.records.nodes q).last)) refl;
           })
 
   pub image_left : ImageLeft w st.records c

@@ -1,7 +1,7 @@
 -- The whole machine: the records at their places, who holds a bucket, and the chains that entries
 -- name.
 use Rattle.std.specs.Prelude.{◌≡◌, ◌≢◌, ◌⊎◌, ℕ, suc, ◌<◌, ◌≤◌, Bool, true, false, List, [], ◌∷◌, ◌++◌, length, Option, Some, None, if◌then◌else◌, ◌==◌}
-use Rattle.bc_model.specs.Sector.{Value, Image}
+use Rattle.bc_model.specs.Sector.{Value}
 use Rattle.bc_meta.specs.Facts.{In}
 use Rattle.bc_meta.specs.Entries.{Entry}
 use Rattle.bc_meta.specs.Tree.{NodeSet, Owner}
@@ -215,13 +215,12 @@ abbrev pub IfEvent : (Event → Type 0) → Option Event → Type 0
 IfEvent P None = Unit {0}
 IfEvent P (Some event) = P event
 
--- where the opening had this image
-abbrev pub IsEnabled : Layout → Image → State → Act → Type 0
-IsEnabled w opening st act = IfEvent (CanHappen w opening st.places) (event_of w act) × ChainsAllow w st act
+abbrev pub IsEnabled : Layout → State → Act → Type 0
+IsEnabled w st act = IfEvent (CanHappen w st.places) (event_of w act) × ChainsAllow w st act
 
-abbrev pub IsRun : Layout → Image → State → List Act → Type 0
-IsRun w opening st [] = Unit {0}
-IsRun w opening st (act ∷ acts) = IsEnabled w opening st act × IsRun w opening (after w st act) acts
+abbrev pub IsRun : Layout → State → List Act → Type 0
+IsRun w st [] = Unit {0}
+IsRun w st (act ∷ acts) = IsEnabled w st act × IsRun w (after w st act) acts
 
 abbrev pub fold : Layout → State → List Act → State
 fold w st [] = st

@@ -21,7 +21,8 @@ pub data Event : Type 0 where
   -- a further set of a node, a leaf or a parent, written well or not; what is unused from then on
   AddSet : (bucket : ℕ) → (set : NodeSet) → (values : List Value) → (unused : ℕ → Bool) → Event
   FailSet : (bucket : ℕ) → (set : NodeSet) → (values : List Value) → Event
-  -- a bucket that is unused is taken for something new, and a node's first set is written in it
+  -- a bucket that is unused is taken for something new; a node's first set is written in it, with
+  -- zeros over the rest of the node
   Reuse : (bucket : ℕ) → Event
   NewNode : (bucket : ℕ) → (owner : Owner) → (set : NodeSet) → (values : List Value) → Event
   -- old nodes are given up

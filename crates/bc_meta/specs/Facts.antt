@@ -2,6 +2,7 @@
 -- over these facts never sees bytes.
 use Rattle.std.specs.Prelude.{◌≡◌, ◌⊎◌, ℕ, zero, suc, ◌+◌, ◌*◌, ◌<◌, ◌≤◌, List, [], ◌∷◌, length, Option, Some, None}
 use Rattle.bc_model.specs.Sector.{Value, Image}
+use Rattle.bc_model.specs.Pattern.{zeros}
 use Rattle.bc_record.specs.Sectors.{Has, AgreeOn}
 
 -- so many blocks behind a first sector
@@ -27,6 +28,11 @@ pub record Facts (block : ℕ) (O A : Type 0) : Type 0 where
   -- and it rests on its own sectors alone
   pub stays : (a b : Image) (o : O) (end p : ℕ) (e : A) → found a o end p ≡ Some e → AgreeOn a b p (p + len e)
       → found b o end p ≡ Some e
+
+-- no record is found at a place whose first sector is zeros
+abbrev pub FindsNoneInZeros : {block : ℕ} {O A : Type 0} → Facts block O A → Type 0
+FindsNoneInZeros {O = O} facts = (image : Image) (o : O) (end p : ℕ) → image p ≡ zeros
+    → facts.found image o end p ≡ None
 
 abbrev pub In : {A : Type 0} → A → List A → Type 0
 In x [] = ⊥

@@ -1,17 +1,18 @@
 -- What each crash image of a run reads as.
-use Rattle.std.specs.Prelude.{◌≡◌, ◌⊎◌, ℕ, ◌+◌, ◌<◌, ◌≤◌, Bool, true, List, ◌∷◌, ◌++◌, length, Option, Some, None}
+use Rattle.std.specs.Prelude.{◌≡◌, ◌⊎◌, ℕ, ◌+◌, ◌<◌, ◌≤◌, Bool, true, false, List, ◌∷◌, ◌++◌, length, Option, Some, None}
 use Rattle.bc_model.specs.Sector.{Value, Image}
+use Rattle.bc_model.specs.Pattern.{zeros}
 use Rattle.bc_disk.specs.Device.{MayLeave}
 use Rattle.bc_key.specs.declared.key.Key.{Key}
 use Rattle.bc_meta.specs.Keys.{Alike}
 use Rattle.bc_meta.specs.Facts.{In}
 use Rattle.bc_meta.specs.Entries.{Entry, live}
 use Rattle.bc_meta.specs.Tree.{Owner, Keeps, IsNamed}
-use Rattle.bc_meta.specs.Layout.{Layout, node_sets, image_keys}
+use Rattle.bc_meta.specs.Layout.{Layout, node_end, set_len, node_sets, image_keys}
 use Rattle.bc_meta.specs.Chain.{Chain, chain_in, IsChain, bytes_of, Distinct, EachOf}
 use Rattle.bc_meta.specs.Events.{Event}
-use Rattle.bc_meta.specs.Records.{owners, MayRead, IsReady}
-use Rattle.bc_meta.specs.Places.{Places, call_of, writes, IsSoundImage, opened_places, NoChance}
+use Rattle.bc_meta.specs.Records.{owners, MayStand, MayRead, IsReady}
+use Rattle.bc_meta.specs.Places.{Places, call_of, writes, IsSoundImage, opened_places, IsSure, NoTornSet, NoChance}
 use Rattle.bc_meta.specs.Acts.{State, Act, event_of, put_all, IsEnabled, IsRun, fold}
 
 -- what a cache device is opened with
@@ -104,17 +105,32 @@ pub record Survives (w : Layout) (st : State) (image : Image) : Type 0 where
 
 abbrev pub LawCrash : Type 0
 LawCrash =
-    (w : Layout) (o : Opening) (acts : List Act) → IsSound w o → IsRun w o.image (opened w o) acts
+    (w : Layout) (o : Opening) (acts : List Act) → IsSound w o → IsRun w (opened w o) acts
     → NoChance w o.image (reached w o acts).places
     → (image : Image) → MayLeave (reached w o acts).places.device image → Survives w (reached w o acts) image
 
 -- so each crash image is a sound opening again, and what a next run leaves is sound too
 abbrev pub LawNext : Type 0
 LawNext =
-    (w : Layout) (o : Opening) (acts : List Act) → IsSound w o → IsRun w o.image (opened w o) acts
+    (w : Layout) (o : Opening) (acts : List Act) → IsSound w o → IsRun w (opened w o) acts
     → NoChance w o.image (reached w o acts).places
     → (image : Image) → MayLeave (reached w o acts).places.device image
     → (next : Opening) × (next.image ≡ image) × IsSound w next
+
+-- Whatever stood there before, and without the premise: behind the sets of a node that the run wrote,
+-- and behind one that may stand there, a crash leaves zeros alone.
+abbrev pub LawZeros : Type 0
+LawZeros =
+    (w : Layout) (o : Opening) (acts : List Act) → IsSound w o → IsRun w (opened w o) acts
+    → let p = (reached w o acts).places in
+    (image : Image) → MayLeave p.device image → (q s : ℕ) → let n = p.records.nodes q in
+    p.own q ≡ true → n.loose ≡ false → p.node_next q ≤ s → s < node_end w n.owner
+    → (MayStand n → p.node_next q + set_len w n.last ≤ s) → image s ≡ zeros
+
+-- The premise on sets is one on torn ones alone: where a crash can leave one value only in each
+-- sector, it holds by itself.
+abbrev pub LawOnlyTorn : Type 0
+LawOnlyTorn = (w : Layout) (p : Places) → ((s : ℕ) → IsSure p.device s) → NoTornSet w p
 
 abbrev pub act_writes : Layout → State → Option Event → ℕ → Option Value
 act_writes w st None s = None
@@ -123,9 +139,9 @@ act_writes w st (Some event) s = writes (call_of w st.places event) s
 -- no bucket of a chain is written from its seal on until it is given up
 abbrev pub LawUntouched : Type 0
 LawUntouched =
-    (w : Layout) (o : Opening) (acts : List Act) → IsSound w o → IsRun w o.image (opened w o) acts
+    (w : Layout) (o : Opening) (acts : List Act) → IsSound w o → IsRun w (opened w o) acts
     → let st = reached w o acts in
-    (n : ℕ) → st.ready_chain ≤ n → n ≤ st.sealed_chain → (act : Act) → IsEnabled w o.image st act
+    (n : ℕ) → st.ready_chain ≤ n → n ≤ st.sealed_chain → (act : Act) → IsEnabled w st act
     → (q s : ℕ) → In q (st.buckets n) → w.first q ≤ s → s < w.first q + w.bucket_sectors
     → act_writes w st (event_of w act) s ≡ None
 

@@ -2,7 +2,7 @@
 use Rattle.std.specs.Prelude.{◌≡◌, ◌≢◌, ℕ, zero, suc, ◌+◌, ◌<◌, ◌≤◌, List, [], ◌∷◌, ◌++◌, Option, Some, None, if◌then◌else◌, ◌==◌, Bool, ◌&&◌, nat_le}
 use Rattle.bc_model.specs.Sector.{Image}
 use Rattle.bc_key.specs.declared.key.Key.{Key}
-use Rattle.bc_meta.specs.Facts.{Facts, scan}
+use Rattle.bc_meta.specs.Facts.{Facts, FindsNoneInZeros, scan}
 use Rattle.bc_meta.specs.Entries.{Entry, all_keys}
 use Rattle.bc_meta.specs.Tree.{NodeSet, Owner, NodeSets, tree_list}
 
@@ -30,6 +30,7 @@ pub record Layout : Type 0 where
       → first b ≤ t → t < first b + bucket_sectors → ⊥
   pub entries : Facts block (Unit {0}) Entry
   pub sets : Facts block Owner NodeSet
+  pub blank : FindsNoneInZeros sets
   -- priority sets are read by the part of a chain that they are; each fills a bucket, and a chain
   -- has so many
   pub prios : Facts block ℕ PrioSet

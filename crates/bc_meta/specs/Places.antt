@@ -1,13 +1,14 @@
 -- Where the records stand on the device, and what a crash may leave of it.
-use Rattle.std.specs.Prelude.{◌≡◌, ◌≢◌, ◌⊎◌, ℕ, ◌+◌, ◌<◌, ◌≤◌, Bool, true, false, List, [], ◌∷◌, length, Option, Some, None, if◌then◌else◌}
+use Rattle.std.specs.Prelude.{◌≡◌, ◌≢◌, ◌⊎◌, ℕ, ◌+◌, ◌-◌, ◌<◌, ◌≤◌, Bool, true, false, List, [], ◌∷◌, ◌++◌, length, replicate, Option, Some, None, if◌then◌else◌}
 use Rattle.bc_model.specs.Sector.{Value, Image, at_run}
-use Rattle.bc_disk.specs.Device.{Content, written, failed, settled, quiet, MayLeave}
+use Rattle.bc_model.specs.Pattern.{zeros}
+use Rattle.bc_disk.specs.Device.{Content, Among, written, failed, settled, quiet, MayLeave}
 use Rattle.bc_meta.specs.Facts.{IsAtBlock, In, Stand}
 use Rattle.bc_meta.specs.Entries.{Entry}
 use Rattle.bc_meta.specs.Tree.{NodeSet, Owner}
 use Rattle.bc_meta.specs.Layout.{Layout, node_end, is_within, entry_len, set_len, entry_at, ring_entries, node_sets}
 use Rattle.bc_meta.specs.Events.{Event, BeginBucket, WriteEntry, FailEntry, MakeDurable, Barrier, AddSet, FailSet, Reuse, NewNode, Fill, FailFill, Elsewhere, FailElsewhere}
-use Rattle.bc_meta.specs.Records.{Records, RecordsAllow, records_after, put, IsReadable, HasRoom, opened_records}
+use Rattle.bc_meta.specs.Records.{Records, MayStand, RecordsAllow, records_after, put, IsReadable, HasRoom, opened_records}
 
 pub record Places : Type 0 where
   pub device : Content
@@ -113,7 +114,7 @@ places_after w p e =
       entry_log = entry_log_after p e;
     }
 
--- ---- what places allow, where the opening had this image
+-- ---- what places allow
 
 -- the sealed entry goes behind the entries of the current journal bucket
 abbrev pub CanEnter : Layout → Places → List Value → Type 0
@@ -126,14 +127,22 @@ CanAppend w p q set values = (p.own q ≡ true) × (set.seq ≡ p.seq q)
     × (p.node_next q + set_len w set ≤ node_end w (p.records.nodes q).owner)
     × (w.sets.spelled (p.records.nodes q).owner values ≡ Some set)
 
--- a first set of a node that lies in the bucket: no set with its seq was ever there
-abbrev pub CanStart : Layout → Image → Places → ℕ → Owner → NodeSet → List Value → Type 0
-CanStart w opening p q o set values =
-    (w.journal ≤ q) × (w.begins o + set_len w set ≤ node_end w o)
-    × ((at : ℕ) (e : NodeSet) → Wrote p.log q at e → e.seq ≢ set.seq)
-    × ((at : ℕ) (e : NodeSet) → IsAtBlock w.block (w.begins o) at
-    → w.sets.found opening o (node_end w o) at ≡ Some e → e.seq ≢ set.seq)
-    × (q < w.buckets) × (w.sets.spelled o values ≡ Some set) × (is_within w q o ≡ true)
+-- Values for a whole node: those of a set, and zeros behind them. So no set that was left there
+-- counts.
+pub record IsFirstWrite (w : Layout) (o : Owner) (set : NodeSet) (values : List Value) : Type 0 where
+  pub front : List Value
+  pub spelled : w.sets.spelled o front ≡ Some set
+  pub values_are : values ≡ front ++ replicate (w.node_sectors - set_len w set) zeros
+
+-- the first write of a node that lies in the bucket
+pub record CanStart (w : Layout) (p : Places) (q : ℕ) (o : Owner) (set : NodeSet) (values : List Value) : Type 0 where
+  pub low : w.journal ≤ q
+  pub high : q < w.buckets
+  pub inside : is_within w q o ≡ true
+  pub room : w.begins o + set_len w set ≤ node_end w o
+  pub first : IsFirstWrite w o set values
+  -- no set with its seq was written there
+  pub unheard : (at : ℕ) (e : NodeSet) → Wrote p.log q at e → e.seq ≢ set.seq
 
 -- values inside one bucket behind those of the journal
 abbrev pub CanFill : Layout → ℕ → ℕ → List Value → Type 0
@@ -145,23 +154,23 @@ abbrev pub IsOutside : Layout → ℕ → List Value → Type 0
 IsOutside w at values = (b s : ℕ) → b < w.buckets → w.first b ≤ s → s < w.first b + w.bucket_sectors
     → at_run at values s ≡ None
 
-abbrev pub PlacesAllow : Layout → Image → Places → Event → Type 0
-PlacesAllow w opening p (BeginBucket b) = b < w.journal
-PlacesAllow w opening p (WriteEntry values) = CanEnter w p values
-PlacesAllow w opening p (FailEntry values) = CanEnter w p values
-PlacesAllow w opening p (AddSet q set values unused) = (w.journal ≤ q) × CanAppend w p q set values
-PlacesAllow w opening p (FailSet q set values) = (w.journal ≤ q) × CanAppend w p q set values
-PlacesAllow w opening p (Reuse q) = w.journal ≤ q
-PlacesAllow w opening p (NewNode q owner set values) = CanStart w opening p q owner set values
-PlacesAllow w opening p (Fill q at values) = CanFill w q at values
-PlacesAllow w opening p (FailFill q at values set) = CanFill w q at values
-PlacesAllow w opening p (Elsewhere at values) = IsOutside w at values
-PlacesAllow w opening p (FailElsewhere at values) = IsOutside w at values
-PlacesAllow w opening p e = Unit {0}
+abbrev pub PlacesAllow : Layout → Places → Event → Type 0
+PlacesAllow w p (BeginBucket b) = b < w.journal
+PlacesAllow w p (WriteEntry values) = CanEnter w p values
+PlacesAllow w p (FailEntry values) = CanEnter w p values
+PlacesAllow w p (AddSet q set values unused) = (w.journal ≤ q) × CanAppend w p q set values
+PlacesAllow w p (FailSet q set values) = (w.journal ≤ q) × CanAppend w p q set values
+PlacesAllow w p (Reuse q) = w.journal ≤ q
+PlacesAllow w p (NewNode q owner set values) = CanStart w p q owner set values
+PlacesAllow w p (Fill q at values) = CanFill w q at values
+PlacesAllow w p (FailFill q at values set) = CanFill w q at values
+PlacesAllow w p (Elsewhere at values) = IsOutside w at values
+PlacesAllow w p (FailElsewhere at values) = IsOutside w at values
+PlacesAllow w p e = Unit {0}
 
 -- an event may happen to records at their places
-abbrev pub CanHappen : Layout → Image → Places → Event → Type 0
-CanHappen w opening p e = RecordsAllow p.records e × PlacesAllow w opening p e
+abbrev pub CanHappen : Layout → Places → Event → Type 0
+CanHappen w p e = RecordsAllow p.records e × PlacesAllow w p e
 
 -- ---- what they are opened with
 
@@ -195,14 +204,29 @@ opened_places w owners image newest older ring ring_next bucket unused =
       entry_log = [];
     }
 
--- The premise on torn records: what a crash image reads as a whole record at a block stood there at
--- the opening, or was written there.
+-- ---- torn records
+
+-- a crash can leave one value only in a sector, or in each from one up to another
+abbrev pub IsSure : Content → ℕ → Type 0
+IsSure d s = (a b : Value) → Among a (d.leaves s) → Among b (d.leaves s) → a ≡ b
+
+abbrev pub AreSure : Content → ℕ → ℕ → Type 0
+AreSure d from to = (s : ℕ) → from ≤ s → s < to → IsSure d s
+
+-- Of a node that this run wrote, and behind whose sets one may stand: where a crash image reads a
+-- set of its seq there, either a crash can't tear what is read, or it was written there.
+abbrev pub NoTornSet : Layout → Places → Type 0
+NoTornSet w p = (image : Image) (q : ℕ) (e : NodeSet) → MayLeave p.device image → p.own q ≡ true
+    → (p.records.nodes q).loose ≡ false → MayStand (p.records.nodes q) → e.seq ≡ p.seq q
+    → w.sets.found image (p.records.nodes q).owner (node_end w (p.records.nodes q).owner)
+    (p.node_next q) ≡ Some e
+    → AreSure p.device (p.node_next q) (p.node_next q + set_len w e)
+    ⊎ Wrote p.log q (p.node_next q) e
+
+-- The premise: what a crash image reads as a whole entry at a block stood there at the opening, or
+-- was written there, and no torn set matches by chance.
 pub record NoChance (w : Layout) (opening : Image) (p : Places) : Type 0 where
   pub entries : (image : Image) (b at : ℕ) (e : Entry) → MayLeave p.device image → b < w.journal
       → IsAtBlock w.block (w.first b) at → entry_at w image b at ≡ Some e → (entry_at w opening b at ≡ Some e)
       ⊎ Wrote p.entry_log b at e
-  -- behind what is stable of a node of this run, and of sets with its seq alone
-  pub sets : (image : Image) (q at : ℕ) (e : NodeSet) → MayLeave p.device image → p.own q ≡ true → p.node_next q ≤ at
-      → IsAtBlock w.block (w.begins (p.records.nodes q).owner) at → e.seq ≡ p.seq q
-      → w.sets.found image (p.records.nodes q).owner (node_end w (p.records.nodes q).owner) at ≡ Some e
-      → (w.sets.found opening (p.records.nodes q).owner (node_end w (p.records.nodes q).owner) at ≡ Some e) ⊎ Wrote p.log q at e
+  pub sets : NoTornSet w p

@@ -11,6 +11,12 @@
 //! it needs, whichever of its two contents each node shows, and the chain of priority sets that
 //! it names, whose buckets nobody may write until a chain after it is *ready*.
 //!
+//! A bucket that is used again still has the sets of the node that was there, and a reader would
+//! take them for further sets of the new one if their numbers matched. So a node's first set is
+//! written with zeros over the rest of the node. Once a barrier stands behind it, a crash finds
+//! nothing behind a node's sets but zeros and what was sent there since, and of that a mixture. That
+//! no such mixture reads as a whole record by chance is the premise of the laws.
+//!
 //! This crate is a machine of these orders, without code: its state says what may stand where,
 //! its acts carry the values that they write, and its laws are contracts of functions with empty
 //! bodies. It knows records by facts alone (`specs/Facts`): no proof here sees a byte or a

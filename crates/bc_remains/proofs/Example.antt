@@ -189,7 +189,7 @@ module _ (w : Layout) (layout : IsLayoutOf g w) (r : Reading) (start : IsOpened 
       let l : entry_len w (seen_entry g second) ≡ 1 = layout.entries.long tt second in
       omega (arith, n, b, f, s, l)
 
-  run : IsRun w start.opening.image (opened w start.opening) acts
+  run : IsRun w (opened w start.opening) acts
   run =
       let n = number_is in
       let last = ap (λ (e : Entry). e.last_seq) newest_is in (
@@ -246,7 +246,7 @@ module _ (w : Layout) (layout : IsLayoutOf g w) (r : Reading) (start : IsOpened 
   no_torn : NoTornRecord g start.opening.image (reached w start.opening acts).places
   no_torn = record {
     entries = λ image b at left lt block e whole. found_once image left b at lt block e whole;
-    sets = λ image q at left own le block s whole. absurd (no_true own);
+    sets = λ image q left own known stand s whole. absurd (no_true own);
   }
 
   is_run : IsRunOf g w start.opening acts

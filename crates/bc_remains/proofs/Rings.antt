@@ -193,7 +193,7 @@ module _ (w : Layout) (opening : Image) (ring : ℕ → List Entry) (ring_next :
 
 -- ---- over every run
 
-step : (w : Layout) (opening : Image) (p : Places) (e : Event) → CanHappen w opening p e → RingOf w opening p → RingOf w opening (places_after w p e)
+step : (w : Layout) (opening : Image) (p : Places) (e : Event) → CanHappen w p e → RingOf w opening p → RingOf w opening (places_after w p e)
 step w opening p (BeginBucket b) can r =
     let was = subst (λ s. Ring w opening p.records.ring p.ring_next p.records.bucket p.records.entry p.records.newest s p.entry_log) can.0.0 r in
     subst (λ s. Ring w opening (put p.records.ring b []) (put p.ring_next b (w.first b)) b p.records.entry p.records.newest s p.entry_log) (sym can.0.0)
@@ -211,10 +211,10 @@ step w opening p Barrier can r =
     restage w opening p.records.ring p.ring_next p.records.bucket p.records.entry p.records.newest p.records.stage (after_barrier p.records.stage) p.entry_log (some_after p.records.stage) (after_some p.records.stage) r
 step w opening p e can r = r
 
-pub run_ring : (w : Layout) (opening : Image) (st : State) (acts : List Act) → IsRun w opening st acts → RingOf w opening st.places → RingOf w opening (fold w st acts).places
+pub run_ring : (w : Layout) (opening : Image) (st : State) (acts : List Act) → IsRun w st acts → RingOf w opening st.places → RingOf w opening (fold w st acts).places
 run_ring w opening st [] run r = r
 run_ring w opening st (act ∷ acts) run r = run_ring w opening (after w st act) acts run.1 (one (event_of w act) run.0.0)
   where
-    one : (o : Option Event) → IfEvent (CanHappen w opening st.places) o → RingOf w opening (places_with w st.places o)
+    one : (o : Option Event) → IfEvent (CanHappen w st.places) o → RingOf w opening (places_with w st.places o)
     one None can = r
     one (Some e) can = step w opening st.places e can r

@@ -33,7 +33,7 @@ IsLeft g st r =
 pub record IsRunOf (g : Geometry) (w : Layout) (o : Opening) (acts : List Act) : Type 0 where
   pub layout : IsLayoutOf g w
   pub sound : IsSound w o
-  pub run : IsRun w o.image (opened w o) acts
+  pub run : IsRun w (opened w o) acts
   pub no_torn : NoTornRecord g o.image (reached w o acts).places
 
 abbrev pub LawCrash : Type 0

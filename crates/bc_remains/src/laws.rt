@@ -7,8 +7,9 @@ ghost use Rattle.bc_remains.specs.Laws.{LawNoStray, LawOpened, LawOne};
 /// the sealed one, and the tree and the chain that they name; each sector's key says what the index
 /// says, and the generations are those that the chain means.
 ///
-/// The premise is that no torn record matches by chance: a whole entry or set that is read was read
-/// there at the opening, or was written there.
+/// The premise is that no torn record matches by chance: a whole entry that is read was read there at
+/// the opening, or was written there; and a whole set that is read in a place in which a set was
+/// under way can't be torn, or was written there.
 pub fn law_crash()
     ensures { LawCrash }
 {}

@@ -1,6 +1,6 @@
 -- The run begins: a bucket is raised, a priority set with its new generation is written, and a new
 -- leaf and a new root are.
-use Rattle.std.proofs.Common.{◌≡◌, ◌≢◌, inl, inr, ℕ, suc, ◌/◌, ◌<◌, ◌≤◌, Bool, true, false, List, [], ◌∷◌, Option, Some, None, refl, sym, ap, ◌∙◌, subst, arith, if◌then◌else◌, ◌==◌, ◌&&◌, nat_le}
+use Rattle.std.proofs.Common.{◌≡◌, ◌≢◌, inl, inr, ℕ, suc, ◌/◌, ◌<◌, ◌≤◌, Bool, true, false, List, [], ◌∷◌, Option, Some, None, refl, sym, subst, arith, if◌then◌else◌, ◌==◌, ◌&&◌, nat_le}
 use Rattle.bc_model.specs.Sector.{Value, at_run}
 use Rattle.bc_books.specs.Shelves.{Priorities, Tree, IsPinned, Fresh, Spent}
 use Rattle.bc_books.specs.Books.{Raise, unused}
@@ -8,20 +8,18 @@ use Rattle.bc_books.specs.Enabled.{CanRaise}
 use Rattle.bc_data.specs.Data as flow
 use Rattle.bc_data.specs.Enabled.{IsSpare, IsHeard, Calls}
 use Rattle.bc_meta.specs.Facts.{In}
-use Rattle.bc_meta.specs.Tree.{NodeSet, Owner}
-use Rattle.bc_meta.specs.Layout.{PrioSet, node_end}
+use Rattle.bc_meta.specs.Layout.{PrioSet}
 use Rattle.bc_meta.specs.Acts.{IsApart, StaysUnused}
 use Rattle.bc_meta.specs.Acts as meta
 use Rattle.bc_meta.proofs.Lists.{by_test, by_le}
-use Rattle.bc_meta.proofs.Scan.{block_high}
-use Rattle.bc_meta.proofs.Example.{at_list}
-use Rattle.bc_leaves.specs.Parts.{Leaf, InnerNode, Draft, NoNode, leaf_owner, inner_owner}
+use Rattle.bc_leaves.specs.Parts.{Leaf, InnerNode, Draft, NoNode}
 use Rattle.bc_leaves.specs.Enabled.{IsVacant}
 use Rattle.bc_leaves_runs.proofs.Example.{all_but, by_slots, dead}
 use Rattle.bc_whole.specs.State.{State, Alone, WriteCache, CacheBarrier, Take, OfPriorities, OfLeaf, OfInner, Event, Act}
 use Rattle.bc_whole.specs.Run.{IsEnabled, IsRun, after, start}
-use Rattle.bc_whole.proofs.Toy.{layout, set_read, new_leaf_set, new_root_set}
-use Rattle.bc_whole.proofs.Start.{opening, held, setup, picture, table, past, off_list}
+use Rattle.bc_whole.proofs.Toy.{layout, new_leaf_set, new_root_set}
+use Rattle.bc_whole.proofs.Start.{opening, held, setup, off_list}
+use Rattle.bc_model.specs.Pattern.{zeros}
 
 abbrev pub new_gens : List ℕ
 new_gens = 300 ∷ 300 ∷ 300 ∷ 300 ∷ 300 ∷ 300 ∷ 300 ∷ 301 ∷ 300 ∷ 300 ∷ 300 ∷ []
@@ -58,6 +56,16 @@ new_root = record {
       false;
 }
 
+-- a node's first set, and zeros behind it
+abbrev pub with_zeros : Value → List Value
+with_zeros v = v ∷ zeros ∷ zeros ∷ zeros ∷ []
+
+abbrev pub leaf_values : List Value
+leaf_values = with_zeros (20 ∷ 3 ∷ [])
+
+abbrev pub root_values : List Value
+root_values = with_zeros (24 ∷ 4 ∷ [])
+
 -- by seat 1
 abbrev pub by_one : List Act → List Event
 by_one [] = []
@@ -67,8 +75,8 @@ abbrev pub building : List Act
 building =
     Alone (flow.Shelve (Raise 7)) ∷ Take Priorities 4 ∷ WriteCache
     (OfPriorities 4 0 new_prio) prio_values
-    ∷ Take Tree 5 ∷ Take Tree 6 ∷ WriteCache (OfLeaf 1 new_leaf new_leaf_set) ((20 ∷ 3 ∷ []) ∷ [])
-    ∷ WriteCache (OfInner 1 new_root new_root_set) ((24 ∷ 4 ∷ []) ∷ []) ∷ CacheBarrier ∷ []
+    ∷ Take Tree 5 ∷ Take Tree 6 ∷ WriteCache (OfLeaf 1 new_leaf new_leaf_set) leaf_values
+    ∷ WriteCache (OfInner 1 new_root new_root_set) root_values ∷ CacheBarrier ∷ []
 
 abbrev pub s0 : State
 s0 = start opening held
@@ -89,10 +97,10 @@ abbrev pub s5 : State
 s5 = after opening s4 1 (Take Tree 6)
 
 abbrev pub s6 : State
-s6 = after opening s5 1 (WriteCache (OfLeaf 1 new_leaf new_leaf_set) ((20 ∷ 3 ∷ []) ∷ []))
+s6 = after opening s5 1 (WriteCache (OfLeaf 1 new_leaf new_leaf_set) leaf_values)
 
 abbrev pub s7 : State
-s7 = after opening s6 1 (WriteCache (OfInner 1 new_root new_root_set) ((24 ∷ 4 ∷ []) ∷ []))
+s7 = after opening s6 1 (WriteCache (OfInner 1 new_root new_root_set) root_values)
 
 abbrev pub s8 : State
 s8 = after opening s7 1 CacheBarrier
@@ -105,7 +113,7 @@ pub at_one : (p : ℕ) (a : Value) (t : ℕ) (v : Value) → at_run p (a ∷ [])
 at_one p a t v e P h = by_test p t (λ b. (if b then Some a else None) ≡ Some v → P t)
     (λ is _. subst P is h) (λ _ x. absurd (cc)) e
 
-at_four : (p : ℕ) (a b c d : Value) (t : ℕ) (v : Value) → at_run p (a ∷ b ∷ c ∷ d ∷ []) t ≡ Some v
+pub at_four : (p : ℕ) (a b c d : Value) (t : ℕ) (v : Value) → at_run p (a ∷ b ∷ c ∷ d ∷ []) t ≡ Some v
     → (P : ℕ → Type 0) → P p → P (suc p) → P (suc (suc p)) → P (suc (suc (suc p))) → P t
 at_four p a b c d t v e P h0 h1 h2 h3 =
     by_test p t (λ z. (if z then Some a else at_run (suc p) (b ∷ c ∷ d ∷ []) t) ≡ Some v → P t)
@@ -220,36 +228,6 @@ barrier st seat ps heard same off = record {
   );
 }
 
--- no set stands from bucket 5 on
-blank_set : (o : Owner) (end p : ℕ) (e : NodeSet) (P : Type 0) → 14 ≤ p → end ≤ 32
-    → (if nat_le (suc p) end then set_read o (picture p) else None) ≡ Some e → P
-blank_set o end p e P ge le = by_le (suc p) end (λ t. (if t then set_read o (picture p) else None)
-    ≡ Some e → P)
-    (λ lt h. absurd (none_some e (sym (ap (λ (v : Value). set_read o v) (blank lt)) ∙ h)))
-    (λ _ h. absurd (none_some e h))
-  where
-    none_some : (e : NodeSet) → None ≡ Some e → ⊥
-    none_some e h = cc
-
-    blank : suc p ≤ end → picture p ≡ []
-    blank lt = by_test p 32 (λ t. (if t then 32 ∷ 1 ∷ [] else at_list table p) ≡ []) (λ is. absurd
-        (omega arith)) (λ _. past table p (omega arith))
-
--- and none from bucket 9 on
-pub blank_after : (o : Owner) (end p : ℕ) (e : NodeSet) (P : Type 0) → 33 ≤ p
-    → (if nat_le (suc p) end then set_read o (picture p) else None) ≡ Some e → P
-blank_after o end p e P ge = by_le (suc p) end (λ t. (if t then set_read o (picture p) else None)
-    ≡ Some e → P)
-    (λ lt h. absurd (none_some e (sym (ap (λ (v : Value). set_read o v) blank) ∙ h))) (λ _ h. absurd
-    (none_some e h))
-  where
-    none_some : (e : NodeSet) → None ≡ Some e → ⊥
-    none_some e h = cc
-
-    blank : picture p ≡ []
-    blank = by_test p 32 (λ t. (if t then 32 ∷ 1 ∷ [] else at_list table p) ≡ []) (λ is. absurd
-        (omega arith)) (λ _. past table p (omega arith))
-
 unpinned : (t : ℕ) → t / 4 ≡ 7 → IsPinned (if unused setup (t / 4) then Fresh else Spent) → ⊥
 unpinned t is = subst (λ (b : ℕ). IsPinned (if unused setup b then Fresh else Spent) → ⊥) (sym is)
     (λ h. h)
@@ -347,7 +325,7 @@ on4 = record {
   );
 }
 
-on5 : IsEnabled opening s5 1 (WriteCache (OfLeaf 1 new_leaf new_leaf_set) ((20 ∷ 3 ∷ []) ∷ []))
+on5 : IsEnabled opening s5 1 (WriteCache (OfLeaf 1 new_leaf new_leaf_set) leaf_values)
 on5 = record {
   together = tt;
   flow = (
@@ -355,7 +333,11 @@ on5 = record {
       heard = inl refl;
       steps = tt;
       can = record {
-        places = λ t v e. at_one 20 (20 ∷ 3 ∷ []) t v e (λ t. IsSpare setup s5.flow.books 1 t)
+        places = λ t v e. at_four 20 (20 ∷ 3 ∷ []) zeros zeros zeros t v e
+            (λ t. IsSpare setup s5.flow.books 1 t)
+            (record { fresh = refl; unnamed = refl; apart = inr (Tree, refl) })
+            (record { fresh = refl; unnamed = refl; apart = inr (Tree, refl) })
+            (record { fresh = refl; unnamed = refl; apart = inr (Tree, refl) })
             (record { fresh = refl; unnamed = refl; apart = inr (Tree, refl) });
         sendable = tt;
       };
@@ -365,17 +347,14 @@ on5 = record {
   store = (
     refl,
     ((refl, vacant 5 (omega arith) (omega arith) refl, refl, refl, λ s out. refl), tt),
-    (
-      (omega arith),
-      (omega arith),
-      (λ at e w. absurd w),
-      (λ at e block h. blank_set
-          (leaf_owner new_leaf) (node_end layout (leaf_owner new_leaf)) at e (e.seq ≢ 7)
-          (let ge = block_high 1 20 at block in omega arith) (omega arith) h),
-      (omega arith),
-      refl,
-      refl,
-    ),
+    record {
+      low = omega arith;
+      high = omega arith;
+      inside = refl;
+      room = omega arith;
+      first = record { front = (20 ∷ 3 ∷ []) ∷ []; spelled = refl; values_are = refl };
+      unheard = λ at e w. absurd w;
+    },
     (refl, refl),
     tt,
   );
@@ -396,7 +375,7 @@ vacant_6 = (
       ) (λ n. dead n)),
 )
 
-on6 : IsEnabled opening s6 1 (WriteCache (OfInner 1 new_root new_root_set) ((24 ∷ 4 ∷ []) ∷ []))
+on6 : IsEnabled opening s6 1 (WriteCache (OfInner 1 new_root new_root_set) root_values)
 on6 = record {
   together = tt;
   flow = (
@@ -404,7 +383,11 @@ on6 = record {
       heard = inl refl;
       steps = tt;
       can = record {
-        places = λ t v e. at_one 24 (24 ∷ 4 ∷ []) t v e (λ t. IsSpare setup s6.flow.books 1 t)
+        places = λ t v e. at_four 24 (24 ∷ 4 ∷ []) zeros zeros zeros t v e
+            (λ t. IsSpare setup s6.flow.books 1 t)
+            (record { fresh = refl; unnamed = refl; apart = inr (Tree, refl) })
+            (record { fresh = refl; unnamed = refl; apart = inr (Tree, refl) })
+            (record { fresh = refl; unnamed = refl; apart = inr (Tree, refl) })
             (record { fresh = refl; unnamed = refl; apart = inr (Tree, refl) });
         sendable = tt;
       };
@@ -414,21 +397,17 @@ on6 = record {
   store = (
     refl,
     ((refl, vacant_6, refl), tt),
-    (
-      (omega arith),
-      (omega arith),
-      (λ at e w. elim w [
-        | inl x ↦ (let x0 = x.0 in absurd
-            (omega arith))
+    record {
+      low = omega arith;
+      high = omega arith;
+      inside = refl;
+      room = omega arith;
+      first = record { front = (24 ∷ 4 ∷ []) ∷ []; spelled = refl; values_are = refl };
+      unheard = λ at e w. elim w [
+        | inl x ↦ (let x0 = x.0 in absurd (omega arith))
         | inr n ↦ absurd n
-      ]),
-      (λ at e block h. blank_set (inner_owner new_root)
-          (node_end layout (inner_owner new_root)) at e (e.seq ≢ 8)
-          (let ge = block_high 1 24 at block in omega arith) (omega arith) h),
-      (omega arith),
-      refl,
-      refl,
-    ),
+      ];
+    },
     (refl, refl),
     tt,
   );

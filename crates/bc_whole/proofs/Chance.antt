@@ -1,17 +1,16 @@
--- No torn record matches by chance where every sector of the journal has one value, and none stands
--- behind the nodes of the run.
-use Rattle.std.proofs.Common.{◌≡◌, ◌≢◌, ◌⊎◌, inl, inr, ℕ, suc, ◌+◌, ◌*◌, ◌<◌, ◌≤◌, Bool, true, false, List, [], ◌∷◌, Some, None, sym, ap, ◌∙◌, subst, arith, if◌then◌else◌, nat_le}
+-- No torn record matches by chance where every sector of the journal has one value, and no set is
+-- under way.
+use Rattle.std.proofs.Common.{◌≡◌, ◌≢◌, ◌⊎◌, inl, inr, ℕ, suc, ◌+◌, ◌*◌, ◌<◌, ◌≤◌, Bool, true, false, List, [], ◌∷◌, Some, None, sym, ap, ◌∙◌, subst, arith, if◌then◌else◌}
 use Rattle.bc_model.specs.Sector.{Value, Image}
 use Rattle.bc_disk.specs.Device.{Among, MayLeave}
 use Rattle.bc_meta.specs.Facts.{IsAtBlock}
 use Rattle.bc_meta.specs.Entries.{Entry}
-use Rattle.bc_meta.specs.Tree.{NodeSet, Owner}
-use Rattle.bc_meta.specs.Layout.{entry_at, node_end}
-use Rattle.bc_meta.specs.Records.{put}
+use Rattle.bc_meta.specs.Layout.{entry_at}
+use Rattle.bc_meta.specs.Records.{put, MayStand}
 use Rattle.bc_meta.specs.Places.{Places, NoChance, Wrote}
 use Rattle.bc_meta.proofs.Lists.{by_test, by_le}
 use Rattle.bc_meta.proofs.Scan.{block_high}
-use Rattle.bc_whole.proofs.Toy.{layout, entry_2, entry_read, set_read}
+use Rattle.bc_whole.proofs.Toy.{layout, entry_2, entry_read}
 use Rattle.bc_whole.proofs.Start.{picture, each_below, some_same}
 
 one_of : (v x : Value) → Among v (x ∷ []) → v ≡ x
@@ -43,7 +42,7 @@ in_four P p at a b c d ge lt =
     rest : p ≢ at → suc p ≢ at → suc (suc p) ≢ at → suc (suc (suc p)) ≡ at
     rest n0 n1 n2 = omega arith
 
--- the journal's sectors, the third of which has this value, and the blank ones behind a node
+-- the journal's sectors, the third of which has this value, and nodes behind which no set may stand
 pub record IsClear (p : Places) (value : Value) (entry : Entry) : Type 0 where
   pub read : entry_read tt value ≡ Some entry
   pub sector_0 : p.device.leaves 0 ≡ (1 ∷ []) ∷ []
@@ -54,17 +53,12 @@ pub record IsClear (p : Places) (value : Value) (entry : Entry) : Type 0 where
   pub second : Wrote p.entry_log 0 1 entry_2
   pub third : Wrote p.entry_log 0 2 entry
   pub new : (q : ℕ) → p.own q ≡ true → IsNew q
-  pub blank_5 : (at : ℕ) → p.node_next 5 ≤ at → at < node_end layout (p.records.nodes 5).owner
-      → p.device.leaves at ≡ [] ∷ []
-  pub blank_6 : (at : ℕ) → p.node_next 6 ≤ at → at < node_end layout (p.records.nodes 6).owner
-      → p.device.leaves at ≡ [] ∷ []
+  pub still_5 : MayStand (p.records.nodes 5) → ⊥
+  pub still_6 : MayStand (p.records.nodes 6) → ⊥
 
 module _ (p : Places) (value : Value) (entry : Entry) (clear : IsClear p value entry) where
   none_entry : (e : Entry) → None ≡ Some e → ⊥
   none_entry e h = cc
-
-  none_set : (e : NodeSet) → None ≡ Some e → ⊥
-  none_set e h = cc
 
   -- what a crash leaves there is the one value
   is_one : (image : Image) (at : ℕ) (x : Value) → MayLeave p.device image → p.device.leaves at ≡ x
@@ -131,30 +125,14 @@ module _ (p : Places) (value : Value) (entry : Entry) (clear : IsClear p value e
           → (entry_at layout picture 1 at ≡ Some e) ⊎ Wrote p.entry_log 1 at e)
           (λ le h. absurd (entry_none image e at left ge le h)) (λ _ h. absurd (none_entry e h))
 
-  no_set : (image : Image) (o : Owner) (end at : ℕ) (e : NodeSet) → MayLeave p.device image
-      → (at < end → p.device.leaves at ≡ [] ∷ []) → (if nat_le (suc at) end then set_read o
-      (image at) else None) ≡ Some e → ⊥
-  no_set image o end at e left blank = by_le (suc at) end (λ t. (if t then set_read o
-      (image at) else None) ≡ Some e → ⊥)
-      (λ le h. none_set e (ap (λ (u : Value). set_read o u) (sym (is_one image at [] left
-      (blank le))) ∙ h)) (λ _ h. none_set e h)
-
-  abbrev AtSet : Image → NodeSet → ℕ → ℕ → Type 0
-  AtSet image e at q = p.node_next q ≤ at → layout.sets.found image (p.records.nodes q).owner
-      (node_end layout (p.records.nodes q).owner) at ≡ Some e → ⊥
-
-  set_none : (image : Image) (q at : ℕ) (e : NodeSet) → MayLeave p.device image → p.own q ≡ true
-      → AtSet image e at q
-  set_none image q at e left own = elim (clear.new q own) [
-    | inl is ↦ subst (AtSet image e at) (sym is) (λ ge h. no_set image (p.records.nodes 5).owner
-        (node_end layout (p.records.nodes 5).owner) at e left (clear.blank_5 at ge) h)
-    | inr is ↦ subst (AtSet image e at) (sym is) (λ ge h. no_set image (p.records.nodes 6).owner
-        (node_end layout (p.records.nodes 6).owner) at e left (clear.blank_6 at ge) h)
+  still : (q : ℕ) → p.own q ≡ true → MayStand (p.records.nodes q) → ⊥
+  still q own = elim (clear.new q own) [
+    | inl is ↦ subst (λ (k : ℕ). MayStand (p.records.nodes k) → ⊥) (sym is) clear.still_5
+    | inr is ↦ subst (λ (k : ℕ). MayStand (p.records.nodes k) → ⊥) (sym is) clear.still_6
   ]
 
   pub no_chance : NoChance layout picture p
   no_chance = record {
     entries = entry_chance;
-    sets = λ image q at e left own ge block seq found. absurd
-        (set_none image q at e left own ge found);
+    sets = λ image q e left own known stand seq found. absurd (still q own stand);
   }

@@ -1,6 +1,6 @@
 -- The run's end: the leaf gets a further set, a write of data fails, which halts the run, and
 -- another seat's barrier comes late. And no torn record matches by chance there.
-use Rattle.std.proofs.Common.{◌≡◌, ◌≢◌, inl, inr, ℕ, ◌<◌, ◌≤◌, false, List, [], ◌∷◌, ◌++◌, refl, sym, ap, subst, arith, ◌==◌}
+use Rattle.std.proofs.Common.{◌≡◌, ◌≢◌, inl, inr, ℕ, ◌≤◌, false, List, [], ◌∷◌, ◌++◌, refl, ap, arith, ◌==◌, ◌⊎◌, true}
 use Rattle.bc_data.specs.Data as flow
 use Rattle.bc_data.specs.Enabled.{IsSpare, MayWrite}
 use Rattle.bc_meta.specs.Facts.{In}
@@ -118,26 +118,8 @@ whole = by_one building ++ (by_one growing ++ (by_one storing ++ ending))
 abbrev last : Places
 last = s31.store.places
 
-from_22 : (at : ℕ) → 22 ≤ at → at < 24 → last.device.leaves at ≡ [] ∷ []
-from_22 at ge lt = by_test at 22 (λ _. Blank at) (λ is. subst Blank (sym is) refl)
-    (λ ne. subst Blank (next at ge lt ne) refl)
-  where
-    Blank : ℕ → Type 0
-    Blank at = last.device.leaves at ≡ [] ∷ []
-
-    next : (p : ℕ) → 22 ≤ p → p < 24 → p ≢ 22 → 23 ≡ p
-    next p ge lt ne = omega arith
-
-from_25 : (at : ℕ) → 25 ≤ at → at < 28 → last.device.leaves at ≡ [] ∷ []
-from_25 at ge lt = by_test at 25 (λ _. Blank at) (λ is. subst Blank (sym is) refl)
-    (λ n5. by_test at 26 (λ _. Blank at) (λ is. subst Blank (sym is) refl) (λ n6. subst Blank
-    (next at ge lt n5 n6) refl))
-  where
-    Blank : ℕ → Type 0
-    Blank at = last.device.leaves at ≡ [] ∷ []
-
-    next : (p : ℕ) → 25 ≤ p → p < 28 → p ≢ 25 → p ≢ 26 → 27 ≡ p
-    next p ge lt a b = omega arith
+not_both : (false ≡ true) ⊎ (false ≡ true) → ⊥
+not_both m = elim m [ inl e ↦ absurd (cc) | inr e ↦ absurd (cc) ]
 
 clear : IsClear last (3 ∷ []) entry_3
 clear = record {
@@ -152,8 +134,8 @@ clear = record {
   third = inl (refl, refl, refl);
   new = put_no _ 7 (put_no _ 7 (put_yes _ 6 (inr refl) (put_yes _ 5 (inl refl)
       (put_no _ 6 (put_no _ 5 (put_no _ 4 (put_no _ 4 (λ q e. absurd (cc)))))))));
-  blank_5 = from_22;
-  blank_6 = from_25;
+  still_5 = not_both;
+  still_6 = not_both;
 }
 
 other : (a b : ℕ) → (a == b) ≡ false → a ≢ b

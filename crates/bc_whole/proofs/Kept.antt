@@ -109,8 +109,8 @@ module _ (w : Opening) (st : State) (seat : ℕ) (order : IsTruthful w.flow st.f
 
   -- the metadata and the parts go on together
   joined : (act : Act) → IsEnabled w st seat act
-      → JoinsFrom w.layout w.store.image st.store st.parts (steps_of w.layout st seat act)
-  joined act on = joins w.layout w.store.image st.store st.parts
+      → JoinsFrom w.layout st.store st.parts (steps_of w.layout st seat act)
+  joined act on = joins w.layout st.store st.parts
       (steps_of w.layout st seat act) inv.same inv.records inv.fits on.store
 
   -- where the parts do what the metadata does

@@ -1,6 +1,6 @@
 -- A key comes into the leaf that names another place than the key of the books, and is durable: a
 -- crash then shows what was never written.
-use Rattle.std.proofs.Common.{◌≡◌, ◌≢◌, inl, inr, ℕ, ◌<◌, ◌≤◌, false, List, [], ◌∷◌, ◌++◌, Option, Some, None, refl, sym, subst, arith, ◌==◌}
+use Rattle.std.proofs.Common.{◌≡◌, ◌≢◌, inl, inr, ℕ, ◌≤◌, false, List, [], ◌∷◌, ◌++◌, Option, Some, None, refl, sym, subst, arith, ◌==◌, ◌⊎◌, true}
 use Rattle.bc_model.specs.Sector.{Value, Image, at_run, unless}
 use Rattle.bc_model.specs.History.{Allowed}
 use Rattle.bc_disk.specs.Device.{Among, MayLeave, instead}
@@ -20,7 +20,7 @@ use Rattle.bc_whole.specs.Laws.{keys_in, shown}
 use Rattle.bc_whole.specs.Teeth.{IsMisread, LawTeethKeys}
 use Rattle.bc_whole.proofs.Toy.{false_key, entry_1, entry_2, false_entry}
 use Rattle.bc_whole.proofs.Start.{opening, held, sound, setup, picture}
-use Rattle.bc_whole.proofs.Built.{barrier, s0, building, builds, by_one, at_one, stays, prio_values, new_bytes}
+use Rattle.bc_whole.proofs.Built.{barrier, s0, building, builds, by_one, at_one, stays, prio_values, new_bytes, leaf_values, root_values}
 use Rattle.bc_whole.proofs.Grown.{growing, grows}
 use Rattle.bc_whole.proofs.Stored.{s21, take_act, pin_act, data_act, claim_act, keep_act, answer_act, book_key, nine, on17, on18, on19, on20, can_put, can_write}
 use Rattle.bc_whole.proofs.Chance.{IsClear, no_chance, put_no, put_yes, in_four}
@@ -152,27 +152,8 @@ keeps = (on22, (on23, (on24, (on25, (on26, (on27, tt))))))
 abbrev last : Places
 last = u28.store.places
 
-from_21 : (at : ℕ) → 21 ≤ at → at < 24 → last.device.leaves at ≡ [] ∷ []
-from_21 at ge lt = by_test at 21 (λ _. Blank at) (λ is. subst Blank (sym is) refl)
-    (λ n1. by_test at 22 (λ _. Blank at) (λ is. subst Blank (sym is) refl) (λ n2. subst Blank
-    (next at ge lt n1 n2) refl))
-  where
-    Blank : ℕ → Type 0
-    Blank at = last.device.leaves at ≡ [] ∷ []
-
-    next : (p : ℕ) → 21 ≤ p → p < 24 → p ≢ 21 → p ≢ 22 → 23 ≡ p
-    next p ge lt a b = omega arith
-
-from_25 : (at : ℕ) → 25 ≤ at → at < 28 → last.device.leaves at ≡ [] ∷ []
-from_25 at ge lt = by_test at 25 (λ _. Blank at) (λ is. subst Blank (sym is) refl)
-    (λ n5. by_test at 26 (λ _. Blank at) (λ is. subst Blank (sym is) refl) (λ n6. subst Blank
-    (next at ge lt n5 n6) refl))
-  where
-    Blank : ℕ → Type 0
-    Blank at = last.device.leaves at ≡ [] ∷ []
-
-    next : (p : ℕ) → 25 ≤ p → p < 28 → p ≢ 25 → p ≢ 26 → 27 ≡ p
-    next p ge lt a b = omega arith
+not_both : (false ≡ true) ⊎ (false ≡ true) → ⊥
+not_both m = elim m [ inl e ↦ absurd (cc) | inr e ↦ absurd (cc) ]
 
 clear : IsClear last (4 ∷ []) false_entry
 clear = record {
@@ -187,15 +168,15 @@ clear = record {
   third = inl (refl, refl, refl);
   new = put_no _ 7 (put_yes _ 6 (inr refl) (put_yes _ 5 (inl refl)
       (put_no _ 6 (put_no _ 5 (put_no _ 4 (put_no _ 4 (λ q e. absurd (cc))))))));
-  blank_5 = from_21;
-  blank_6 = from_25;
+  still_5 = not_both;
+  still_6 = not_both;
 }
 
 -- all that was written stands
 abbrev left_image : Image
 left_image s = unless (at_run 2 ((4 ∷ []) ∷ []) s) (unless (at_run 28 (nine ∷ []) s)
     (unless (at_run 1 ((2 ∷ []) ∷ []) s)
-    (unless (at_run 24 ((24 ∷ 4 ∷ []) ∷ []) s) (unless (at_run 20 ((20 ∷ 3 ∷ []) ∷ []) s)
+    (unless (at_run 24 root_values s) (unless (at_run 20 leaf_values s)
     (unless (at_run 16 prio_values s) (picture s))))))
 
 newly : (o : Option Value) (v : Value) (vs : List Value) → Among v vs → Among (unless o v)
@@ -206,7 +187,7 @@ newly (Some x) v vs i = inl refl
 is_left : MayLeave u28.flow.cache left_image
 is_left s = newly (at_run 2 ((4 ∷ []) ∷ []) s) _ _ (newly (at_run 28 (nine ∷ []) s) _ _
     (newly (at_run 1 ((2 ∷ []) ∷ []) s) _ _
-    (newly (at_run 24 ((24 ∷ 4 ∷ []) ∷ []) s) _ _ (newly (at_run 20 ((20 ∷ 3 ∷ []) ∷ []) s) _ _
+    (newly (at_run 24 root_values s) _ _ (newly (at_run 20 leaf_values s) _ _
     (newly (at_run 16 prio_values s) _ _ (inl refl))))))
 
 abbrev Three : List Entry

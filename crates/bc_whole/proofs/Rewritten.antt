@@ -6,13 +6,11 @@ use Rattle.bc_books.specs.Books.{MakeNode, Regroup, DropNode}
 use Rattle.bc_data.specs.Enabled.{IsSpare}
 use Rattle.bc_meta.specs.Facts.{In}
 use Rattle.bc_meta.specs.Tree.{NodeSet, set_keys, children_of}
-use Rattle.bc_meta.specs.Layout.{node_end}
 use Rattle.bc_meta.specs.Records.{Nothing}
 use Rattle.bc_meta.specs.Places.{Wrote}
 use Rattle.bc_meta.specs.Acts.{MayKeep}
 use Rattle.bc_meta.proofs.Lists.{by_test}
-use Rattle.bc_meta.proofs.Scan.{block_high}
-use Rattle.bc_leaves.specs.Parts.{Leaf, NoNode, Draft, Free, Leaving, Stays, AllUpTo, InRange, node_of, inner_node_of, keys_in_leaf, leaf_owner}
+use Rattle.bc_leaves.specs.Parts.{Leaf, NoNode, Draft, Free, Leaving, Stays, AllUpTo, InRange, node_of, inner_node_of, keys_in_leaf}
 use Rattle.bc_leaves.specs.Rows.{Fills}
 use Rattle.bc_leaves.specs.Keys.{last_said, ref_said}
 use Rattle.bc_leaves.specs.Enabled.{IsVacant, CanBegin, CanSetParent, CanInstall, IsStable}
@@ -24,10 +22,11 @@ use Rattle.bc_whole.specs.Together.{AreHeldFor}
 use Rattle.bc_whole.specs.Run.{IsEnabled, IsRun, after}
 use Rattle.bc_whole.proofs.Toy.{layout, stored_key, draft_set, moved_set, parent_set}
 use Rattle.bc_whole.proofs.Start.{opening, setup, each_one}
-use Rattle.bc_whole.proofs.Built.{by_one, at_one, barrier, stays, blank_after}
+use Rattle.bc_whole.proofs.Built.{by_one, at_one, at_four, barrier, stays, with_zeros}
 use Rattle.bc_whole.proofs.Grown.{used_in}
 use Rattle.bc_whole.proofs.Stored.{s28}
 use Rattle.bc_whole.proofs.Failed.{s29, set_act, on28}
+use Rattle.bc_model.specs.Pattern.{zeros}
 
 abbrev pub draft_leaf : Leaf
 draft_leaf = record {
@@ -59,10 +58,10 @@ abbrev unused_4 : ℕ → Bool
 unused_4 = all_but (6 ∷ 10 ∷ [])
 
 abbrev draft_act : Act
-draft_act = WriteCache (OfLeaf 2 draft_leaf draft_set) ((36 ∷ 6 ∷ []) ∷ [])
+draft_act = WriteCache (OfLeaf 2 draft_leaf draft_set) (with_zeros (36 ∷ 6 ∷ []))
 
 abbrev leaf_act : Act
-leaf_act = WriteCache (OfLeaf 2 next_leaf moved_set) ((40 ∷ 7 ∷ []) ∷ [])
+leaf_act = WriteCache (OfLeaf 2 next_leaf moved_set) (with_zeros (40 ∷ 7 ∷ []))
 
 abbrev change_act : Act
 change_act = BeginChange 0 8 (1 ∷ []) (2 ∷ []) [] [] unused_3
@@ -206,12 +205,12 @@ on3 = record {
       heard = inl refl;
       steps = tt;
       can = record {
-        places = λ t v e. at_one 36 (36 ∷ 6
-            ∷ []) t v e (λ t. IsSpare setup v3.flow.books 1 t) (record {
-              fresh = refl;
-              unnamed = refl;
-              apart = inr (Tree, refl);
-            });
+        places = λ t v e. at_four 36 (36 ∷ 6 ∷ []) zeros zeros zeros t v e
+            (λ t. IsSpare setup v3.flow.books 1 t)
+            (record { fresh = refl; unnamed = refl; apart = inr (Tree, refl) })
+            (record { fresh = refl; unnamed = refl; apart = inr (Tree, refl) })
+            (record { fresh = refl; unnamed = refl; apart = inr (Tree, refl) })
+            (record { fresh = refl; unnamed = refl; apart = inr (Tree, refl) });
         sendable = tt;
       };
     },
@@ -220,17 +219,14 @@ on3 = record {
   store = (
     refl,
     ((refl, vacant_9, refl, refl, λ s out. refl), tt),
-    (
-      (omega arith),
-      (omega arith),
-      (λ at e. not_logged 9 at e v3.store.places.log refl),
-      (λ at e block h. blank_after (leaf_owner draft_leaf) (node_end layout
-          (leaf_owner draft_leaf)) at e (e.seq ≢ 9) (let ge = block_high 1 36 at block in
-          omega arith) h),
-      (omega arith),
-      refl,
-      refl,
-    ),
+    record {
+      low = omega arith;
+      high = omega arith;
+      inside = refl;
+      room = omega arith;
+      first = record { front = (36 ∷ 6 ∷ []) ∷ []; spelled = refl; values_are = refl };
+      unheard = λ at e. not_logged 9 at e v3.store.places.log refl;
+    },
     (refl, refl),
     tt,
   );
@@ -285,12 +281,12 @@ on7 = record {
       heard = inl refl;
       steps = tt;
       can = record {
-        places = λ t v e. at_one 40 (40 ∷ 7
-            ∷ []) t v e (λ t. IsSpare setup v7.flow.books 1 t) (record {
-              fresh = refl;
-              unnamed = refl;
-              apart = inr (Tree, refl);
-            });
+        places = λ t v e. at_four 40 (40 ∷ 7 ∷ []) zeros zeros zeros t v e
+            (λ t. IsSpare setup v7.flow.books 1 t)
+            (record { fresh = refl; unnamed = refl; apart = inr (Tree, refl) })
+            (record { fresh = refl; unnamed = refl; apart = inr (Tree, refl) })
+            (record { fresh = refl; unnamed = refl; apart = inr (Tree, refl) })
+            (record { fresh = refl; unnamed = refl; apart = inr (Tree, refl) });
         sendable = tt;
       };
     },
@@ -299,17 +295,14 @@ on7 = record {
   store = (
     refl,
     ((refl, vacant_10, refl, refl, in_leaf), tt),
-    (
-      (omega arith),
-      (omega arith),
-      (λ at e. not_logged 10 at e v7.store.places.log refl),
-      (λ at e block h. blank_after (leaf_owner next_leaf) (node_end layout
-          (leaf_owner next_leaf)) at e (e.seq ≢ 10) (let ge = block_high 1 40 at block in
-          omega arith) h),
-      (omega arith),
-      refl,
-      refl,
-    ),
+    record {
+      low = omega arith;
+      high = omega arith;
+      inside = refl;
+      room = omega arith;
+      first = record { front = (40 ∷ 7 ∷ []) ∷ []; spelled = refl; values_are = refl };
+      unheard = λ at e. not_logged 10 at e v7.store.places.log refl;
+    },
     (refl, refl),
     tt,
   );

@@ -1,5 +1,5 @@
 -- A sound opening of this layout: a root over one leaf, a chain of one set, and no key.
-use Rattle.std.proofs.Common.{◌≡◌, ◌≢◌, ◌⊎◌, inl, inr, ℕ, zero, suc, ◌+◌, ◌*◌, ◌/◌, ◌<◌, ◌≤◌, Bool, true, false, List, [], ◌∷◌, length, Option, Some, None, refl, sym, ap, subst, arith, if◌then◌else◌, ◌==◌, ◌||◌, nat_le}
+use Rattle.std.proofs.Common.{◌≡◌, ◌≢◌, ◌⊎◌, inl, inr, ℕ, zero, suc, ◌+◌, ◌*◌, ◌/◌, ◌<◌, ◌≤◌, Bool, true, false, List, [], ◌∷◌, Option, Some, None, refl, sym, ap, subst, arith, if◌then◌else◌, ◌==◌, ◌||◌, nat_le}
 use Rattle.bc_model.specs.Sector.{Image, Value}
 use Rattle.bc_books.specs.Shelves.{Purpose, Priorities, Tree}
 use Rattle.bc_books.specs.Marks.{Unmarked, Metadata}
@@ -38,12 +38,6 @@ table = (1 ∷ []) ∷ [] ∷ [] ∷ [] ∷ [] ∷ [] ∷ [] ∷ [] ∷ (8 ∷ 2
 
 abbrev pub picture : Image
 picture t = if t == 32 then 32 ∷ 1 ∷ [] else at_list table t
-
--- behind what stands there, all is blank
-pub past : (vs : List Value) (n : ℕ) → length vs ≤ n → at_list vs n ≡ []
-past [] n le = refl
-past (v ∷ vs) zero le = absurd (omega arith)
-past (v ∷ vs) (suc n) le = past vs n (omega arith)
 
 abbrev pub ring : ℕ → List Entry
 ring b = if b == 0 then entry_1 ∷ [] else []

@@ -26,7 +26,7 @@ use Rattle.bc_leaves_runs.proofs.Example.{by_slots, dead, one_pending}
 use Rattle.bc_whole.specs.State.{State, Alone, Keyed, WriteCache, CacheBarrier, Seal, MakeDurable, OfData, OfEntry, SameRoot, SameChain, Act}
 use Rattle.bc_whole.specs.Together.{SayTheSame, said_of, data_of}
 use Rattle.bc_whole.specs.Run.{IsEnabled, IsRun, after, by, run}
-use Rattle.bc_whole.proofs.Toy.{layout, stored_key}
+use Rattle.bc_whole.proofs.Toy.{stored_key}
 use Rattle.bc_whole.proofs.Start.{opening, setup}
 use Rattle.bc_whole.proofs.Built.{barrier, s0, building, by_one, at_one, stays, not_one}
 use Rattle.bc_whole.proofs.Grown.{s17, growing}

@@ -1,6 +1,6 @@
 -- A layout with records of few numbers, which serves all machines: entries and sets are named by
 -- numbers, and a priority set is read off its values.
-use Rattle.std.proofs.Common.{◌≢◌, ℕ, zero, suc, ◌+◌, ◌*◌, ◌<◌, ◌≤◌, ◌^◌, true, false, List, [], ◌∷◌, Option, Some, None, refl, sym, subst, arith, if◌then◌else◌, ◌==◌, nat_le, replicate, lit<, lit≤}
+use Rattle.std.proofs.Common.{◌≢◌, ℕ, zero, suc, ◌+◌, ◌*◌, ◌<◌, ◌≤◌, ◌^◌, true, false, List, [], ◌∷◌, Option, Some, None, refl, sym, subst, arith, if◌then◌else◌, ◌==◌, nat_le, replicate, lit<, lit≤, ◌≡◌}
 use Rattle.bc_model.specs.Sector.{Value}
 use Rattle.bc_key.specs.declared.key.Key.{Key}
 use Rattle.bc_key.specs.declared.ptr.Ptr.{Ptr}
@@ -10,8 +10,9 @@ use Rattle.bc_meta.specs.Facts.{Facts}
 use Rattle.bc_meta.specs.Entries.{Entry}
 use Rattle.bc_meta.specs.Tree.{Child, NodeSet, Owner}
 use Rattle.bc_meta.specs.Layout.{Layout}
-use Rattle.bc_meta.proofs.Example.{no_more, one_long, one_back, one_stays, one_fits, at_list}
+use Rattle.bc_meta.proofs.Example.{no_more, one_long, one_back, one_stays, one_fits, at_list, one_blank}
 use Rattle.bc_meta.proofs.Example as toy
+use Rattle.bc_model.specs.Pattern.{zeros}
 
 -- ---- records
 
@@ -204,6 +205,10 @@ one_sector read = record {
   stays = one_stays read;
 }
 
+pub no_set : (o : Owner) → set_read o zeros ≡ None
+unfolding zeros
+no_set o = refl
+
 -- ---- buckets of four sectors: 0 and 1 are the journal's, 2 has the leaf, 3 the chain, 4 is spare,
 -- 5, 6, 9 and 10 are kept for nodes, 7 has nothing, and 8 has the root
 
@@ -225,6 +230,7 @@ layout = record {
   apart = apart;
   entries = one_sector entry_read;
   sets = one_sector set_read;
+  blank = one_blank set_read no_set;
   prios = toy.layout.prios;
   fills = λ e. refl;
   chain_sets = 1;

@@ -28,7 +28,7 @@ module _ (w : Opening) (st : State) (seat : ℕ) (link : AreLinked (stored w.bef
   sent_keys Safe e = absurd (cc)
 
   pub write_link : (x : Write) (values : List Value)
-      → IsJoint w.layout w.store.image st.store st.parts
+      → IsJoint w.layout st.store st.parts
       (steps_of w.layout st seat (WriteCache x values))
       → AreLinked (stored w.before (meta.after w.layout st.store (meta_write st seat x values)))
       (flow_step.after w.flow st.flow seat

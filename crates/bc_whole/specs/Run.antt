@@ -20,7 +20,7 @@ by seat (act ∷ acts) = record { seat = seat; act = act } ∷ by seat acts
 pub record IsEnabled (w : Opening) (st : State) (seat : ℕ) (act : Act) : Type 0 where
   pub together : GoTogether st seat act
   pub flow : IsCourse w.flow st.flow (by seat (data_of w st seat act))
-  pub store : IsJoint w.layout w.store.image st.store st.parts (steps_of w.layout st seat act)
+  pub store : IsJoint w.layout st.store st.parts (steps_of w.layout st seat act)
 
 -- drafts are given up by the parts alone
 abbrev pub parts_after : Opening → State → ℕ → Act → parts.State

@@ -27,8 +27,8 @@ pub record State : Type 0 where
   pub parts : parts.State
 
 -- what is written to the cache device: data to places of a bucket, the sealed entry, a further set
--- of a leaf or of an inner node, the first set of a new leaf or a new inner node, a priority set by
--- its part of a chain, or what lies outside all buckets
+-- of a leaf or of an inner node, the first set of a new leaf or a new inner node with zeros over the
+-- rest of it, a priority set by its part of a chain, or what lies outside all buckets
 pub data Write : Type 0 where
   OfData : (bucket place : ℕ) → Write
   OfEntry : Write

@@ -28,7 +28,7 @@ pub record IsTorn (w : Opening) (x : parts.State) (before : List Event) (seat : 
   pub flow : let st = run w (start w x) before in
       IsCourse w.flow st.flow (by seat (data_of w st seat act))
   pub store : let st = run w (start w x) before in
-      IsJoint w.layout w.store.image st.store st.parts (steps_of w.layout st seat act)
+      IsJoint w.layout st.store st.parts (steps_of w.layout st seat act)
   pub ends : IsRun w (after w (run w (start w x) before) seat act) later
   pub broken : IsBroken (run w (after w (run w (start w x) before) seat act) later)
 

@@ -7,5 +7,8 @@ returns-clause-entries c = written.entry_written
 pub returns-clause-sets : goal.returns-clause-sets
 returns-clause-sets c = written.set_written
 
+pub returns-clause-first : goal.returns-clause-first
+returns-clause-first c = written.first_written
+
 pub returns-clause-prios : goal.returns-clause-prios
 returns-clause-prios c = written.prio_written

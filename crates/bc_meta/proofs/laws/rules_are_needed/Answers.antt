@@ -6,3 +6,6 @@ returns-clause-barrier c = teeth.needs_barrier
 
 pub returns-clause-ready : goal.returns-clause-ready
 returns-clause-ready c = teeth.needs_ready
+
+pub returns-clause-zeros : goal.returns-clause-zeros
+returns-clause-zeros c = teeth.needs_zeros

@@ -1,0 +1,5 @@
+use Rattle.bc_meta.proofs.Acts as acts
+use Rattle.bc_meta.proofs.laws.law_only_torn.Goals as goal
+
+pub returns : goal.returns
+returns c = acts.law_only_torn
