@@ -22,3 +22,6 @@ mod room;
 pub use error::JournalError;
 pub use journal::Journal;
 pub use read::read_journal;
+
+#[cfg(test)]
+mod tests;
