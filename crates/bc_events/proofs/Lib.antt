@@ -3,3 +3,4 @@ pub mod Plain
 pub mod Names
 pub mod Example
 pub mod Collect
+pub mod Keys

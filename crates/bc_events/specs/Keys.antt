@@ -1,12 +1,13 @@
 -- Keys as records have them, with generations of a byte, and as the books have them, with versions
 -- that count on for ever.
-use Rattle.std.specs.Prelude.{ℕ, suc, ◌-◌, ◌%◌, List, [], ◌∷◌, Option, Some, None, if◌then◌else◌, nat_lt}
+use Rattle.std.specs.Prelude.{◌≡◌, ℕ, suc, ◌+◌, ◌-◌, ◌%◌, ◌^◌, ◌<◌, ◌≤◌, List, [], ◌∷◌, Option, Some, None, if◌then◌else◌, nat_lt}
 use Rattle.bc_key.specs.declared.key.Key.{Key}
 use Rattle.bc_key.specs.declared.ptr.Ptr.{Ptr}
 use Rattle.bc_key.specs.Key.{start_of, pointer_of}
 use Rattle.bc_books.specs.Index.{Kind, Clean, Dirty}
 use Rattle.bc_books.specs.Index as books
 use Rattle.bc_books.specs.Versions.{behind}
+use Rattle.bc_whole.specs.Together.{SayTheSame}
 
 -- the greatest version up to this one that has this byte
 abbrev pub version_by : ℕ → ℕ → ℕ
@@ -41,3 +42,27 @@ versions_by before version n [] = []
 versions_by before version n (byte ∷ bytes) =
     (if nat_lt n before then byte else version_by (version (n - before)) byte)
     ∷ versions_by before version (suc n) bytes
+
+-- ---- keys that both have alike
+
+-- A key whose pointer's generation is no older than its bucket has bytes for: of the one device, in
+-- a place that is one. The opening has versions from 256 on.
+pub record IsPlain (bucket version : ℕ → ℕ) (key : Key) (ptr : Ptr) : Type 0 where
+  pub device : ptr.dev ≡ 0
+  pub byte : ptr.generation < 256
+  pub places : ptr.offset + key.size ≤ 2 ^ 43
+  pub counted : 255 ≤ version (bucket ptr.offset)
+
+abbrev pub IfPoints : Option Ptr → (Ptr → Type 0) → Type 0
+IfPoints None P = Unit {0}
+IfPoints (Some ptr) P = P ptr
+
+abbrev pub ArePlain : (bucket version : ℕ → ℕ) → List Key → Type 0
+ArePlain bucket version [] = Unit {0}
+ArePlain bucket version (key ∷ keys) = (key.size ≤ key.end)
+    × (IfPoints (pointer_of key) (IsPlain bucket version key) × ArePlain bucket version keys)
+
+-- then they say the same of each sector
+abbrev pub LawKeys : Type 0
+LawKeys = (bucket version : ℕ → ℕ) (keys : List Key) → ArePlain bucket version keys
+    → SayTheSame keys (book_keys bucket version keys)

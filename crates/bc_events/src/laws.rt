@@ -1,6 +1,7 @@
 //! What holds of every run, each law the contract of a function.
 ghost use Rattle.bc_events.specs.Collect.{LawCollect, LawHad};
 ghost use Rattle.bc_events.specs.Example.{LawPlainRuns, LawPlainTooth};
+ghost use Rattle.bc_events.specs.Keys.{LawKeys};
 ghost use Rattle.bc_events.specs.Laws.{LawMachine, LawNow, LawCrash, LawRaise, LawNext, LawWorkers};
 ghost use Rattle.bc_events.specs.Laws.{LawPlainNow, LawPlainCrash, LawPlainCache};
 
@@ -73,4 +74,10 @@ pub fn law_plain_runs()
 /// Without its barrier the write isn't acknowledged.
 pub fn law_plain_tooth()
     ensures { LawPlainTooth }
+{}
+
+/// Keys with the bytes of generations and keys with versions say the same of each sector, where the
+/// bytes are read as the greatest versions that have them.
+pub fn law_keys()
+    ensures { LawKeys }
 {}
