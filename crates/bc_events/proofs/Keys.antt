@@ -34,6 +34,7 @@ out_of_run a p (suc n) s out =
     not_in : (s < a) ⊎ (a + suc n ≤ s) → a ≡ s → ⊥
     not_in (inl low) e = omega arith
     not_in (inr high) e = omega arith
+
     further : (s < a) ⊎ (a + suc n ≤ s) → (s < suc a) ⊎ (suc a + n ≤ s)
     further (inl low) = inl (omega arith)
     further (inr high) = inr (omega arith)

@@ -4,3 +4,4 @@ pub mod Names
 pub mod Example
 pub mod Collect
 pub mod Keys
+pub mod Firsts

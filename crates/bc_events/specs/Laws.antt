@@ -1,20 +1,29 @@
 -- What holds of every run. With a cache it is opened from a sound pair; a plain run uses the backing
 -- device alone, and needs no more than that nothing is cached.
-use Rattle.std.specs.Prelude.{◌≡◌, ℕ, true, List}
-use Rattle.bc_model.specs.Sector.{Image}
+use Rattle.std.specs.Prelude.{◌≡◌, ℕ, true, List, Some}
+use Rattle.bc_model.specs.Sector.{Value, Image}
 use Rattle.bc_model.specs.History.{IsLegal, Allowed}
 use Rattle.bc_disk.specs.Device.{MayLeave, quiet}
 use Rattle.bc_books.specs.Enabled.{CanRaise}
 use Rattle.bc_data.specs.Laws.{IsPair}
-use Rattle.bc_meta.specs.Places.{NoChance}
+use Rattle.bc_meta.specs.Tree.{NodeSet}
+use Rattle.bc_meta.specs.Layout.{set_len}
+use Rattle.bc_meta.specs.Places.{IsFirstWrite, NoChance}
+use Rattle.bc_leaves.specs.Parts.{leaf_owner, inner_owner}
 use Rattle.bc_leaves.specs.Parts as parts
 use Rattle.bc_leaves_runs.specs.Reopen.{AllReplay}
 use Rattle.bc_whole.specs.Laws.{Reads, IsUnneeded}
+use Rattle.bc_whole.specs.State.{OfLeaf, OfInner}
+use Rattle.bc_whole.specs.State as whole
+use Rattle.bc_known.specs.Acts as known
 use Rattle.bc_known.specs.Run as machine
 use Rattle.bc_known.specs.Laws.{IsSound, OpensAgain}
 use Rattle.bc_known.specs.Workers.{AreToldApart, SaysTheSame}
 use Rattle.bc_events.specs.Run.{Opening, State, IsSeat, start, history_of, IsRun, run, machine_events}
+use Rattle.bc_events.specs.Writes.{draft_leaf, draft_inner, write_of}
 use Rattle.bc_events.specs.declared.event.Event.{Event}
+use Rattle.bc_events.specs.declared.event.NewNode.{NewNode}
+use Rattle.bc_events.specs.declared.event.Written.TheVariants.{Leaf, Inner}
 
 -- its acts are a run of the machine
 pub record IsMachines (w : Opening) (first : State) (es : List Event) : Type 0 where
@@ -25,6 +34,15 @@ pub record IsMachines (w : Opening) (first : State) (es : List Event) : Type 0 w
 abbrev pub LawMachine : Type 0
 LawMachine = (w : Opening) (first : State) (es : List Event) → IsRun w first es
     → IsMachines w first es
+
+-- values that begin a node with a set are a write of that set
+abbrev pub LawFirstWrite : Type 0
+LawFirstWrite = (w : whole.Opening) (st : known.State) (x : NewNode) (at : ℕ) (set : NodeSet)
+    (values : List Value) → x.sectors ≡ set_len w.layout set
+    → (IsFirstWrite w.layout (leaf_owner (draft_leaf x)) set values
+    → write_of w st (Leaf x) at values ≡ Some (OfLeaf x.slot (draft_leaf x) set))
+    × (IsFirstWrite w.layout (inner_owner (draft_inner x)) set values
+    → write_of w st (Inner x) at values ≡ Some (OfInner x.slot (draft_inner x) set))
 
 -- ---- with a cache
 

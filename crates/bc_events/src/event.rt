@@ -32,9 +32,7 @@ pub enum Form {
 #[derive(Clone, Copy, Debug, PartialEq, Eq, Drop)]
 pub enum MarkForm {
     Begin,
-    Walk {
-        leaf: u32,
-    },
+    Walk { leaf: u32 },
     End,
     Drop,
 }
@@ -43,19 +41,11 @@ pub enum MarkForm {
 #[derive(Clone, Copy, Debug, PartialEq, Eq, Drop)]
 pub enum UnpinKind {
     /// Places that the seat pinned.
-    Place {
-        at: u64,
-        count: u32,
-    },
+    Place { at: u64, count: u32 },
     /// The places of a killed candidate.
-    Dead {
-        candidate: u64,
-    },
+    Dead { candidate: u64 },
     /// A bucket that the seat holds; `back` says that it goes back to the list for priority sets.
-    Hold {
-        bucket: u32,
-        back: bool,
-    },
+    Hold { bucket: u32, back: bool },
 }
 
 /// A node that doesn't stand yet: its range, its bucket and the word of the pointer to it. Above
@@ -91,26 +81,14 @@ pub enum Written {
     /// The sealed entry of the journal.
     Entry,
     /// A further set of a leaf.
-    Set {
-        leaf: u32,
-    },
+    Set { leaf: u32 },
     /// A further set of an inner node, which makes a change of the tree.
-    Parent {
-        inner: u32,
-        change: Change,
-    },
+    Parent { inner: u32, change: Change },
     /// The first set of a new leaf, or of a new inner node.
-    Leaf {
-        node: NewNode,
-    },
-    Inner {
-        node: NewNode,
-    },
+    Leaf { node: NewNode },
+    Inner { node: NewNode },
     /// The part of a chain of priority sets.
-    Priorities {
-        bucket: u32,
-        part: u32,
-    },
+    Priorities { bucket: u32, part: u32 },
 }
 
 /// A call of a device that failed.

@@ -2,12 +2,18 @@
 ghost use Rattle.bc_events.specs.Collect.{LawCollect, LawHad};
 ghost use Rattle.bc_events.specs.Example.{LawPlainRuns, LawPlainTooth};
 ghost use Rattle.bc_events.specs.Keys.{LawKeys};
-ghost use Rattle.bc_events.specs.Laws.{LawMachine, LawNow, LawCrash, LawRaise, LawNext, LawWorkers};
+ghost use Rattle.bc_events.specs.Laws.{LawMachine, LawFirstWrite};
+ghost use Rattle.bc_events.specs.Laws.{LawNow, LawCrash, LawRaise, LawNext, LawWorkers};
 ghost use Rattle.bc_events.specs.Laws.{LawPlainNow, LawPlainCrash, LawPlainCache};
 
 /// Each run is one of the machine: each event is some acts of it.
 pub fn law_machine()
     ensures { LawMachine }
+{}
+
+/// The values of a new node, a set and zeros over the rest, are a write of that set.
+pub fn law_first_write()
+    ensures { LawFirstWrite }
 {}
 
 /// Each answer's values are those of the last writes before it.

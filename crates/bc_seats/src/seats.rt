@@ -12,12 +12,7 @@ use std::sync::Wait;
 
 /// Waits until no seat holds the part, and takes it. It stands for the state that the seat has seen
 /// then.
-pub fn take<M: Machine, R: Wait>(
-    rt: &R,
-    parts: &Parts<M>,
-    seat: &mut Seat<M>,
-    part: u32,
-) -> M::Part
+pub fn take<M: Machine, R: Wait>(rt: &R, parts: &Parts<M>, seat: &mut Seat<M>, part: u32) -> M::Part
     requires run { seat.old.run ≡ parts.now.run }
     requires seat { IsSeat M.Machine seat.old }
     requires part { part < length parts.now.run.start }
