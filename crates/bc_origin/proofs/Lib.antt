@@ -1,0 +1,5 @@
+pub mod Lists
+pub mod Held
+pub mod Tree
+pub mod Acts
+pub mod Law
