@@ -1,0 +1,5 @@
+pub mod Lists
+pub mod Found
+pub mod Sector
+pub mod Law
+pub mod Events

@@ -1,0 +1,3 @@
+pub mod On
+pub mod Laws
+pub mod Events
