@@ -19,3 +19,6 @@ mod inner;
 mod ranges;
 
 pub use inner::Inner;
+
+#[cfg(test)]
+mod tests;
