@@ -1,0 +1,9 @@
+pub mod Opened
+pub mod Leads
+pub mod Built
+pub mod Grown
+pub mod Stored
+pub mod Ended
+pub mod Rewritten
+pub mod Used
+pub mod Each
