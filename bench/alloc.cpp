@@ -1,10 +1,10 @@
 // Chooses the buckets that a refill gives up, by a sort of the first ones: those with the least priorities, and of those
 // with the same one the ones with the least numbers.
 #include <algorithm>
-#include <chrono>
 #include <cstdint>
 #include <cstdio>
 #include <cstdlib>
+#include <time.h>
 #include <vector>
 
 struct Bucket {
@@ -19,6 +19,14 @@ static std::size_t room_for(std::size_t buckets)
     std::size_t sets = (buckets + 174748) / 174749;
     std::size_t plain = std::min<std::size_t>(std::max<std::size_t>(buckets / 1024, 8), 1024);
     return sets + 4 + 8 + plain;
+}
+
+// Microseconds of processor time.
+static long long now()
+{
+    timespec at;
+    clock_gettime(CLOCK_PROCESS_CPUTIME_ID, &at);
+    return at.tv_sec * 1000000ll + at.tv_nsec / 1000;
 }
 
 int main(int words, char **word)
@@ -39,7 +47,7 @@ int main(int words, char **word)
     auto before = [&](std::uint32_t a, std::uint32_t b) {
         return buckets[a].priority != buckets[b].priority ? buckets[a].priority < buckets[b].priority : a < b;
     };
-    auto start = std::chrono::steady_clock::now();
+    long long begun = now();
     for (unsigned n = 0; n < refills; ++n) {
         open.clear();
         for (std::uint32_t k = 0; k < count; ++k)
@@ -51,10 +59,10 @@ int main(int words, char **word)
             ++buckets[open[i]].generation;
         raised += chosen;
     }
-    auto spent = std::chrono::steady_clock::now() - start;
+    long long spent = now() - begun;
     std::uint64_t sum = 0;
     for (const Bucket &bucket : buckets)
         sum = sum * 31 + bucket.generation;
     std::printf("%llu raised, sum %llu\n", static_cast<unsigned long long>(raised), static_cast<unsigned long long>(sum));
-    std::printf("%lld us\n", static_cast<long long>(std::chrono::duration_cast<std::chrono::microseconds>(spent).count()));
+    std::printf("%lld us\n", spent);
 }

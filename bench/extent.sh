@@ -4,25 +4,19 @@
 # After some erases as many inserts bring keys back, which aren't timed. Both have to end with the same keys.
 #
 # For each number of keys it prints the nanoseconds of processor time of a call in both, and their ratio, and at the end the bytes
-# that a key takes in both: the memory that a map of 100,000 keys has above one of 4. What is timed are the calls alone, of a program
-# that was proved and built before. A word on the command line gives another number of calls.
+# that a key takes in both: the memory that a map of 100,000 keys has above one of 4. A word on the command line gives another number
+# of calls.
 set -euo pipefail
 cd "$(dirname "$0")/.."
+. bench/beside.sh
 
 calls=${1:-1000000}
-folder=$(mktemp -d)
-trap 'rm -rf "$folder"' EXIT
-"${CXX:-c++}" -O2 -Wall -Wextra -std=c++17 -o "$folder/extent" bench/extent.cpp
+build_both bc_extent_bench extent.cpp
 "${CC:-cc}" -O2 -Wall -Wextra -o "$folder/measure" bench/measure.c
-cd crates/bc_extent_bench
-rt run > /dev/null 2> "$folder/proof" || { cat "$folder/proof" >&2; exit 1; }
-proved=$PWD/out/bc_extent_bench
 
 echo "   keys call             proved ns  C++ ns   ratio"
 for keys in 1000 10000 100000; do
-    "$proved" "$keys" "$calls" > "$folder/proved"
-    "$folder/extent" "$keys" "$calls" > "$folder/plain"
-    cmp <(head -n 1 "$folder/proved") <(head -n 1 "$folder/plain")
+    run_both "$keys" "$calls"
     paste <(tail -n 3 "$folder/proved") <(tail -n 3 "$folder/plain") | awk -v keys="$keys" -v calls="$calls" '
         BEGIN { split("insert,look up and replace,erase", name, ",") }
         { printf "%7d %-19s %6.0f %7.0f %7.2f\n", keys, name[NR], 1000 * $1 / calls, 1000 * $3 / calls, $1 / $3 }'
@@ -32,6 +26,6 @@ done
 kilobytes() {
     "$folder/measure" "$1" "$2" 1 2>&1 > /dev/null | awk '{ print $NF }'
 }
-for program in "$proved" "$folder/extent"; do
+for program in "$proved" "$plain"; do
     echo $(((1024 * ($(kilobytes "$program" 100000) - $(kilobytes "$program" 4))) / 100000))
 done | paste -s | awk '{ printf "bytes a key: %d, in C++ %d\n", $1, $2 }'

@@ -1,5 +1,5 @@
 //! A list of buckets of bounded length.
-ghost use Rattle.std.specs.Prelude.{◌≡◌, ◌==◌, ◌-◌, ◌<◌, ◌≤◌, ◌∷◌, ◌++◌, [], length, IfOk, IfSome, IfNone, MatchOption};
+ghost use Rattle.std.specs.Prelude.{◌≡◌, ◌==◌, ◌-◌, ◌<◌, ◌≤◌, ◌∷◌, ◌++◌, [], length, slice_index, IfOk, IfSome, IfNone, MatchOption};
 ghost use Rattle.bc_alloc.specs.Reserve.{appended, free, has_room, prepended};
 
 use std::alloc::{AllocError, Global};
@@ -55,6 +55,14 @@ impl Reserve {
         ensures { result ≡ (length self.now.buckets == 0) }
     {
         self.len() == 0
+    }
+
+    /// The bucket at this place, counted from the one that is taken next.
+    pub fn get(&self, place: u32) -> u32
+        requires { place < length self.now.buckets }
+        ensures { result ≡ slice_index self.now.buckets place }
+    {
+        self.buckets[place as usize]
     }
 
     /// How many more buckets it may have.

@@ -1,5 +1,5 @@
 //! The four lists, and the raised buckets.
-ghost use Rattle.std.specs.Prelude.{◌≡◌, ◌↔◌, ℕ, ◌+◌, ◌<◌, ◌≤◌, ◌⊎◌, true, false, IfOk, IfErr, IsErr, IsTrue, IsNone, IfSome, OnErr, List, [], ◌∷◌, ◌++◌, length, slice_index_or, take, drop, vec_capacity, IfNone};
+ghost use Rattle.std.specs.Prelude.{◌≡◌, ◌↔◌, ℕ, ◌+◌, ◌<◌, ◌≤◌, ◌⊎◌, true, false, IfOk, IfErr, IsErr, IsTrue, IsNone, IfSome, OnErr, List, [], ◌∷◌, ◌++◌, length, slice_index, slice_index_or, take, drop, vec_capacity, IfNone};
 ghost use Rattle.bc_bucket.specs.Bucket.{raised, with_held, IsReclaimable};
 ghost use Rattle.bc_bucket.specs.Buckets.{bucket_of, changed};
 ghost use Rattle.bc_alloc.specs.Buckets.{AreFor, AreLoose, all_changed, made_ready, unmarked};
@@ -285,6 +285,23 @@ impl Reserves {
     {
         let list = &self.lists[purpose.place()];
         list.room()
+    }
+
+    /// The bucket at this place of the list of this purpose, counted from the one that is taken next.
+    pub fn get(&self, purpose: Purpose, place: u32) -> u32
+        requires { place < length (list_of purpose self.now).buckets }
+        ensures { result ≡ slice_index (list_of purpose self.now).buckets place }
+    {
+        let list = &self.lists[purpose.place()];
+        list.get(place)
+    }
+
+    /// The raised bucket at this place, counted from the one that was raised first.
+    pub fn raised(&self, place: u32) -> u32
+        requires { place < length self.now.raised }
+        ensures { result ≡ slice_index self.now.raised place }
+    {
+        self.raised.get(place)
     }
 
     /// How many raised buckets wait for their generations to become durable.

@@ -12,8 +12,7 @@ use bc_disk::gens::Gens;
 use bc_disk::geometry::Geometry;
 use std::alloc::{AllocError, Global};
 use std::process::ExitCode;
-use std::rt::Clock;
-use std::time::Instant;
+use std::time::{CpuClock, Duration};
 use std::{env, io};
 
 /// How much is done.
@@ -119,21 +118,23 @@ fn work_of(arguments: &[String]) -> Option<Work> {
 }
 
 // Does the work, and prints how many buckets were given up, the sum of their generations and the
-// microseconds of the refills.
-fn run<R: Clock + Print + AllocGlobal>(rt: &R, work: Work, timed: bool) -> io::Result<ExitCode> {
+// microseconds of processor time of the refills.
+fn run<R: CpuClock + Print + AllocGlobal>(rt: &R, work: Work, timed: bool) -> io::Result<ExitCode> {
     let g = geometry(work);
     let mut buckets = random_buckets(rt.alloc(), &g)?;
     let mut raised = 0u64;
-    let mut micros = 0u128;
+    let mut spent = Duration::ZERO;
     for _refill in 0..work.refills {
         let mut reserves = no_reserves(rt.alloc(), &g, &buckets)?;
-        let start = Instant::now(rt)?;
+        let begun = rt.process_cpu_time()?;
         raised = raised.wrapping_add(u64::from(refill(&mut reserves, &mut buckets)));
-        micros = micros.wrapping_add(start.elapsed(rt)?.as_micros());
+        let ended = rt.process_cpu_time()?;
+        let more = ended.checked_sub(begun).unwrap_or(Duration::ZERO);
+        spent = spent.saturating_add(more);
     }
     println!(rt; "{raised} raised, sum {}", sum_of(&buckets))?;
     if timed {
-        println!(rt; "{micros} us")?;
+        println!(rt; "{} us", spent.as_micros())?;
     }
     Ok(ExitCode::SUCCESS)
 }

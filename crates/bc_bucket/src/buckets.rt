@@ -1,5 +1,5 @@
 //! All buckets of a device.
-ghost use Rattle.std.specs.Prelude.{◌≡◌, ◌↔◌, ℕ, List, ◌+◌, ◌-◌, ◌<◌, ◌≤◌, ◌^◌, false, true, length, map, replicate, slice_set, IfOk, IsTrue};
+ghost use Rattle.std.specs.Prelude.{◌≡◌, ◌↔◌, ℕ, List, ◌+◌, ◌-◌, ◌<◌, ◌≤◌, ◌^◌, false, true, length, map, replicate, slice_index_or, slice_set, IfOk, IsTrue};
 ghost use Rattle.bc_bucket.specs.Bucket.{aged, hit, made_durable, marked, pinned, raised, unpinned, with_held, with_last_gc, IsReclaimable};
 ghost use Rattle.bc_bucket.specs.Buckets.{opened_by, settled};
 
@@ -108,6 +108,21 @@ impl Buckets {
     {
         let _ = &self.records;
         self.size
+    }
+
+    /// The first bucket behind superblock and journal.
+    pub fn data_from(&self) -> u32
+        ensures { result ≡ self.now.data_from }
+    {
+        self.data_from
+    }
+
+    /// Whether a key into the bucket was added since the trace round began.
+    pub fn is_touched(&self, bucket: u32) -> bool
+        requires { bucket < length self.now.records }
+        ensures { result ≡ slice_index_or self.now.touched bucket false }
+    {
+        self.touched[bucket as usize]
     }
 
     /// The record of each bucket, in the order of the buckets.

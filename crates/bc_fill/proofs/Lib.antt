@@ -1,2 +1,4 @@
 pub mod Opens
 pub mod Freshness
+pub mod Listed
+pub mod Taken

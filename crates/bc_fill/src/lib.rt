@@ -9,4 +9,4 @@
 mod fill;
 pub mod laws;
 
-pub use fill::{Fill, Open, Placed, place};
+pub use fill::{Fill, MOST, Open, Placed, place};

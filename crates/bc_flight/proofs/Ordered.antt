@@ -1,5 +1,5 @@
 -- Lists of claims that are in order.
-use Rattle.std.proofs.Common.{◌≡◌, ◌≢◌, ◌⊎◌, inl, inr, ℕ, zero, suc, ◌+◌, ◌<◌, ◌≤◌, Bool, true, false, ◌==◌, ◌&&◌, ◌||◌, List, [], ◌∷◌, ◌++◌, length, Option, Some, None, refl, sym, ap, ◌∙◌, subst, arith, if◌then◌else◌}
+use Rattle.std.proofs.Common.{◌≡◌, ◌≢◌, ◌⊎◌, inl, inr, ℕ, zero, suc, ◌+◌, ◌<◌, ◌≤◌, Bool, true, false, ◌==◌, ◌&&◌, ◌||◌, List, [], ◌∷◌, ◌++◌, length, get_or, Option, Some, None, refl, sym, ap, ◌∙◌, subst, arith, if◌then◌else◌}
 use Rattle.std.specs.Prelude.{nat_lt, slice_get, All, IfSome}
 use Rattle.std.specs.List.{remove}
 use Rattle.std.proofs.lemmas.Bool.Decides.{eqb_tells}
@@ -220,3 +220,19 @@ taken seats c (x ∷ xs) order h = go (conflicts c x) refl (λ later. taken seat
     go : (b : Bool) → conflicts c x ≡ b → (conflicts_any c xs ≡ true → IsTaken c xs) → IsTaken c (x ∷ xs)
     go true is later = (x, by_test x.seat x.seat (λ b. (if b then Some x else claim_of x.seat xs) ≡ Some x) (λ _. refl) (λ ne. absurd (ne refl)), is)
     go false is later = taken_by c x xs order.2 (later (ap (λ b. b || conflicts_any c xs) (sym is) ∙ h))
+
+pub at_most : (seats : ℕ) (cs : List Claim) → IsInOrder seats cs → length cs ≤ seats
+at_most seats cs h = few seats cs (seated seats cs h)
+
+-- each claim is its seat's
+pub stand : (seats : ℕ) (cs : List Claim) → IsInOrder seats cs → All (λ (c : Claim). claim_of c.seat cs ≡ Some c) cs
+stand seats [] h = λ i d inside. absurd (omega arith)
+stand seats (x ∷ xs) h = go (stand seats xs h.4)
+  where
+    go : All (λ (c : Claim). claim_of c.seat xs ≡ Some c) xs → All (λ (c : Claim). claim_of c.seat (x ∷ xs) ≡ Some c) (x ∷ xs)
+    go rest zero d inside = by_test x.seat x.seat (λ b. (if b then Some x else claim_of x.seat xs) ≡ Some x) (λ _. refl) (λ ne. absurd (ne refl))
+    go rest (suc i) d inside =
+        let own : claim_of (get_or xs i d).seat xs ≡ Some (get_or xs i d) = rest i d (omega arith) in
+        by_test x.seat (get_or xs i d).seat (λ b. (if b then Some x else claim_of (get_or xs i d).seat xs) ≡ Some (get_or xs i d))
+        (λ same. absurd (let gone : claim_of (get_or xs i d).seat xs ≡ None = subst (λ n. claim_of n xs ≡ None) same h.2 in cc))
+        (λ ne. own)

@@ -178,6 +178,16 @@ impl Candidates {
         }
     }
 
+    /// Those that stand, killed ones that weren't taken out included, the oldest first: 64 at most,
+    /// whose numbers rise and stay below the next one.
+    pub fn items(&self) -> &[Candidate]
+        ensures value { result.now ≡ self.now.candidates }
+        ensures numbered { AreNumbered 0 self.now.next self.now.candidates }
+        ensures few { length self.now.candidates ≤ 64 }
+    {
+        &self.items
+    }
+
     /// How many stand, killed ones that weren't taken out included.
     pub fn len(&self) -> usize
         ensures count { result ≡ length self.now.candidates }

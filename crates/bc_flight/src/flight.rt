@@ -1,11 +1,11 @@
 //! The claims that stand, and the candidates beside them.
 ghost use Rattle.std.specs.Prelude.{◌≡◌, ◌↔◌, ◌+◌, ◌-◌, ◌<◌, ◌≤◌, ◌^◌, ◌++◌, ◌∷◌, [], IfOk, IfSome, IsNone, OnSome, IfNone, true, false, Some, None, All, length, slice_get};
 ghost use Rattle.bc_flight.specs.Claims.{conflicts_any};
-ghost use Rattle.bc_flight.specs.Candidates.{after_claim, first_of, without_first, kill_over, key_of};
+ghost use Rattle.bc_flight.specs.Candidates.{after_claim, first_of, without_first, kill_over, key_of, AreNumbered};
 ghost use Rattle.bc_flight.specs.Flight.{claim_at, claim_of, without, IsRanged, IsInOrder, IsTaken};
 ghost use Rattle.bc_flight.specs.declared.candidate.Wanted.{Wanted};
 
-use crate::candidate::{Candidates, Wanted};
+use crate::candidate::{Candidate, Candidates, Wanted};
 use crate::claim::{Claim, Share};
 use bc_key::Key;
 use std::alloc::{AllocError, Global};
@@ -166,6 +166,27 @@ impl Flight {
         ensures seats { self.new.seats ≡ self.old.seats }
     {
         self.candidates.kill(first, count);
+    }
+
+    /// The claims that stand, the oldest first: of each seat that there is one at most, and no two that
+    /// conflict. Each of them may be released.
+    pub fn claims(&self) -> &[Claim]
+        ensures value { result.now ≡ self.now.claims }
+        ensures in_order { IsInOrder self.now.seats self.now.claims }
+        ensures few { length self.now.claims ≤ self.now.seats }
+        ensures stand { All (λ c. claim_of c.seat self.now.claims ≡ Some c) self.now.claims }
+    {
+        &self.claims
+    }
+
+    /// The candidates, the oldest first, killed ones that weren't taken out included: at most `MOST`,
+    /// whose numbers rise and stay below the next one.
+    pub fn candidates(&self) -> &[Candidate]
+        ensures value { result.now ≡ self.now.candidates }
+        ensures numbered { AreNumbered 0 self.now.next self.now.candidates }
+        ensures few { length self.now.candidates ≤ 64 }
+    {
+        self.candidates.items()
     }
 
     /// How many candidates stand, killed ones that weren't taken out included: at most `MOST`.

@@ -153,15 +153,37 @@ fn listed_flags(alloc: Global, r: &Reserves, b: &Buckets) -> Result<Vec<bool>, A
     Ok(flags)
 }
 
-// Whether the lists have the same lengths and the same buckets.
+// Whether the list of this purpose has just these buckets, in this order.
+fn is_list(r: &Reserves, purpose: Purpose, list: &[u32]) -> bool {
+    let count = r.len(purpose);
+    let mut same = count as usize == list.len();
+    for place in 0..count {
+        let bucket = r.get(purpose, place);
+        same &= list.get(place as usize).copied() == Some(bucket);
+    }
+    same
+}
+
+// Whether just these buckets are raised, in this order.
+fn are_raised(r: &Reserves, raised: &[u32]) -> bool {
+    let count = r.raised_len();
+    let mut same = count as usize == raised.len();
+    for place in 0..count {
+        let bucket = r.raised(place);
+        same &= raised.get(place as usize).copied() == Some(bucket);
+    }
+    same
+}
+
+// Whether the lists have the same buckets in the same order, and no other is listed.
 fn agrees(r: &Reserves, b: &Buckets, plain: &Plain) -> bool
     requires { AreFor r.now b.now }
 {
     let _size = b.bucket_sectors();
     let count = b.records().len() as u32;
-    let mut same = r.raised_len() as usize == plain.raised.len();
+    let mut same = are_raised(r, &plain.raised);
     for (purpose, list) in PURPOSES.into_iter().zip(&plain.lists) {
-        same &= r.len(purpose) as usize == list.len();
+        same &= is_list(r, purpose, list);
     }
     for bucket in 0..count {
         same &= r.is_listed(bucket) == plain.has(bucket);

@@ -1,6 +1,6 @@
 //! Claims and candidates, asked of each sector and each candidate in turn.
-ghost use Rattle.std.specs.Prelude.{◌≡◌, ◌+◌, ◌<◌, ◌≤◌, ◌^◌, ◌++◌, ◌∷◌, [], All, IfOk, OnOk};
-ghost use Rattle.bc_flight.specs.Claims.{overlaps, conflicts};
+ghost use Rattle.std.specs.Prelude.{◌≡◌, ◌+◌, ◌<◌, ◌≤◌, ◌^◌, ◌++◌, ◌∷◌, [], All, IfOk, IfSome, OnOk};
+ghost use Rattle.bc_flight.specs.Claims.{overlaps, conflicts, conflicts_any};
 ghost use Rattle.bc_flight.specs.Candidates.{is_over, is_wanted, first_of, kill_over};
 ghost use Rattle.bc_flight.specs.Flight.{claim_of, without, IsRanged};
 
@@ -31,6 +31,43 @@ pub fn conflicts(a: &Claim, b: &Claim) -> bool
     overlaps(a, b) && (a.share == Share::Exclusive || b.share == Share::Exclusive)
 }
 
+/// Whether one of these claims can't stand beside it, by asking each.
+pub fn is_taken(claim: &Claim, claims: &[Claim]) -> bool
+    requires claim { IsRanged claim.now }
+    requires claims { All IsRanged claims.now }
+    ensures { result ≡ conflicts_any claim.now claims.now }
+{
+    let mut any = false;
+    for other in claims {
+        any |= conflicts(claim, other);
+    }
+    any
+}
+
+/// Whether one of these sectors is the candidate's, by asking each.
+pub fn is_over(candidate: &Candidate, first: u64, count: u32) -> bool
+    requires { first + count < 2 ^ 64 }
+    ensures { result ≡ is_over first count candidate.now }
+{
+    let mut any = false;
+    for i in 0..count {
+        any |= candidate.key.covers(first + u64::from(i));
+    }
+    any
+}
+
+/// Kills each of these that has one of these sectors.
+pub fn kill_over(candidates: &mut [Candidate], first: u64, count: u32)
+    requires { first + count < 2 ^ 64 }
+    ensures { candidates.new ≡ kill_over first count candidates.old }
+{
+    for candidate in candidates.iter_mut() {
+        if is_over(candidate, first, count) {
+            candidate.killed = true;
+        }
+    }
+}
+
 // Whether the candidate is one of those.
 fn is_wanted(candidate: &Candidate, wanted: Wanted) -> bool
     ensures { result ≡ is_wanted wanted candidate.now }
@@ -56,7 +93,8 @@ pub fn first_of(candidates: &[Candidate], wanted: Wanted) -> Option<Candidate>
 
 /// The first of these claims that is the seat's.
 pub fn claim_of(seat: u32, claims: &[Claim]) -> Option<Claim>
-    ensures { result ≡ claim_of seat claims.now }
+    ensures value { result ≡ claim_of seat claims.now }
+    ensures own { IfSome result (λ claim. claim.seat ≡ seat) }
 {
     for claim in claims {
         if claim.seat == seat {

@@ -8,8 +8,6 @@ mod alloc_tests;
 pub mod bucket;
 #[cfg(test)]
 mod bucket_tests;
-#[cfg(test)]
-mod candidates;
 pub mod device;
 pub mod extent;
 #[cfg(test)]
@@ -18,6 +16,8 @@ pub mod fill;
 #[cfg(test)]
 mod fill_tests;
 pub mod flight;
+#[cfg(test)]
+mod flight_tests;
 pub mod history;
 mod image;
 pub mod journal;

@@ -1,4 +1,4 @@
-use Rattle.std.proofs.Common.{ℕ, [], List, length, reverse, sym, subst}
+use Rattle.std.proofs.Common.{ℕ, [], List, length, sym, subst}
 use Rattle.std.specs.BinaryHeap.{heap_items}
 use Rattle.bc_alloc.specs.Choice.{AreChosen}
 use Rattle.bc_alloc.specs.Victims.{AreFirst, IsOpen}

@@ -1,4 +1,4 @@
-use Rattle.std.proofs.Common.{ℕ, [], ◌∷◌, ◌++◌, List, length, sym, subst, ap, ◌∙◌, arith}
+use Rattle.std.proofs.Common.{ℕ, [], ◌∷◌, ◌++◌, List, sym, subst, ap, ◌∙◌, arith}
 use Rattle.std.specs.BinaryHeap.{heap_items}
 use Rattle.std.proofs.lemmas.List.{nil_from_length}
 use Rattle.std.proofs.lemmas.List.Sorted.{le_from_greatest}

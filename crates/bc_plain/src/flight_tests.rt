@@ -1,0 +1,176 @@
+//! Claims and candidates beside plain lists of them, at random.
+ghost use Rattle.std.specs.Prelude.{◌≡◌, ◌+◌, ◌<◌, ◌≤◌, ◌^◌, None};
+ghost use Rattle.bc_flight.specs.Flight.{claim_of, IsRanged};
+
+use crate::flight::{claim_of, first_of, is_taken, kill_over, without};
+use crate::random::next;
+use bc_flight::candidate::{Candidate, MOST, Wanted};
+use bc_flight::claim::{Claim, Share};
+use bc_flight::flight::Flight;
+use bc_key::Key;
+use std::alloc::{AllocError, Global};
+use std::test::Fail;
+
+// How many seats claim.
+const SEATS: u32 = 12;
+
+// What a flight is to have.
+#[derive(Drop)]
+struct Plain {
+    claims: Vec<Claim>,
+    candidates: Vec<Candidate>,
+    next: u64,
+}
+
+impl Plain {
+    // No claim and no candidate.
+    fn new(alloc: Global) -> Plain {
+        Plain {
+            claims: Vec::new(alloc),
+            candidates: Vec::new(alloc),
+            next: 0,
+        }
+    }
+
+    // Takes out the oldest candidate that is wanted.
+    fn take(&mut self, wanted: Wanted) -> Option<Key> {
+        let oldest = first_of(&self.candidates, wanted)?;
+        self.candidates.retain(|c| c.number != oldest.number);
+        Some(oldest.key)
+    }
+
+    // Whether the flight has just these.
+    fn agrees(&self, flight: &Flight) -> bool {
+        self.claims.as_slice() == flight.claims()
+            && self.candidates.as_slice() == flight.candidates()
+            && self.candidates.len() == flight.waiting()
+            && self.next == flight.next()
+    }
+}
+
+// Claims in both, and answers whether the claim was granted exactly where nothing is in its way.
+fn claim(flight: &mut Flight, plain: &mut Plain, wanted: &Claim) -> Result<bool, AllocError>
+    requires seat { wanted.now.seat < flight.old.seats }
+    requires none { claim_of wanted.now.seat flight.old.claims ≡ None }
+    requires range { IsRanged wanted.now }
+    ensures { flight.new.seats ≡ flight.old.seats }
+{
+    let taken = is_taken(wanted, flight.claims());
+    let Claim {
+        seat,
+        first,
+        count,
+        share,
+    } = *wanted;
+    let Some(granted) = flight.try_claim(seat, first, count, share) else {
+        return Ok(taken);
+    };
+    plain.claims.push(granted)?;
+    if share == Share::Exclusive {
+        kill_over(&mut plain.candidates, first, count);
+    }
+    Ok(!taken && granted == *wanted)
+}
+
+// Claims in both where the seat has no claim, and else ends its claim in both.
+fn claim_or_release(
+    alloc: Global,
+    flight: &mut Flight,
+    plain: &mut Plain,
+    wanted: &Claim,
+) -> Result<bool, AllocError>
+    requires seat { wanted.now.seat < flight.old.seats }
+    requires range { IsRanged wanted.now }
+    ensures { flight.new.seats ≡ flight.old.seats }
+{
+    let Some(standing) = claim_of(wanted.seat, flight.claims()) else {
+        return claim(flight, plain, wanted);
+    };
+    flight.release(standing);
+    plain.claims = without(alloc, wanted.seat, &plain.claims)?;
+    Ok(true)
+}
+
+// Notes a candidate in both, where there is room for it.
+fn note(flight: &mut Flight, plain: &mut Plain, key: Key) -> Result<bool, AllocError>
+    ensures { flight.new.seats ≡ flight.old.seats }
+{
+    if flight.waiting() >= MOST || flight.next() == u64::MAX {
+        return Ok(plain.candidates.len() == MOST);
+    }
+    let number = flight.candidate(key);
+    plain.candidates.push(Candidate {
+        number,
+        key,
+        killed: false,
+    })?;
+    plain.next = number.saturating_add(1);
+    Ok(true)
+}
+
+// Kills in both.
+fn kill(flight: &mut Flight, plain: &mut Plain, first: u64, count: u32)
+    requires { first + count < 2 ^ 64 }
+    ensures { flight.new.seats ≡ flight.old.seats }
+{
+    flight.kill(first, count);
+    kill_over(&mut plain.candidates, first, count);
+}
+
+// Makes a random call in both, and answers whether both said the same.
+fn change(
+    alloc: Global,
+    flight: &mut Flight,
+    plain: &mut Plain,
+    random: u64,
+) -> Result<bool, AllocError>
+    requires { flight.old.seats ≡ 12 }
+    ensures { flight.new.seats ≡ 12 }
+{
+    let first = random / 1024 % 64;
+    let count = (random / 65536 % 9 + 1) as u32;
+    match random / 64 % 16 {
+        0..=7 => {
+            let seat = (random / 4096 % 12) as u32;
+            let share = match random / 262144 % 3 {
+                0 => Share::Exclusive,
+                _ => Share::Shared,
+            };
+            let wanted = Claim {
+                seat,
+                first,
+                count,
+                share,
+            };
+            claim_or_release(alloc, flight, plain, &wanted)
+        }
+        8..=11 => note(flight, plain, Key::new(first + 8, 8, false, None)),
+        12 => {
+            kill(flight, plain, first, count);
+            Ok(true)
+        }
+        13 => Ok(flight.dead() == plain.take(Wanted::Dead)),
+        _ => {
+            let before = plain.next.saturating_sub(random / 8192 % 32);
+            Ok(flight.settled(before) == plain.take(Wanted::Due(before)))
+        }
+    }
+}
+
+#[test]
+fn claims_and_candidates_beside_plain_lists(rt: HostRuntime) -> Result<(), Fail> {
+    let mut random: u64 = 1;
+    let mut most = 0;
+    for _round in 0..4 {
+        let mut flight = Flight::new(rt.alloc(), SEATS)?;
+        let mut plain = Plain::new(rt.alloc());
+        for _step in 0..1000 {
+            random = next(random);
+            assert!(rt; change(rt.alloc(), &mut flight, &mut plain, random)?);
+            assert!(rt; plain.agrees(&flight));
+            most = flight.waiting().max(most);
+        }
+    }
+    assert_eq!(rt; most, MOST);
+    Ok(())
+}
