@@ -5,3 +5,11 @@ pub mod Stages
 pub mod Behind
 pub mod Pairs
 pub mod Replays
+pub mod Words
+pub mod Marks
+pub mod Used
+pub mod Judge
+pub mod True
+pub mod Surveyed
+pub mod Refuses
+pub mod Once

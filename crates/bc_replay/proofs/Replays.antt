@@ -15,7 +15,7 @@ use Rattle.bc_jset.proofs.Entries.{stand_in_journal}
 use Rattle.bc_key.specs.Key.{IsExtent}
 use Rattle.bc_key.specs.declared.key.Key.{Key}
 use Rattle.bc_model.specs.Sector.{Image}
-use Rattle.bc_node.specs.Leaf.{AreAdded, AreLastOfAll}
+use Rattle.bc_node.specs.Leaf.{AreAdded}
 use Rattle.bc_node.proofs.LastKeys.{added_more}
 use Rattle.bc_walk.specs.Seen.{found_of}
 use Rattle.bc_walk.specs.Walk.{IsIndexSearch}
@@ -23,7 +23,8 @@ use Rattle.bc_walk.specs.declared.visit.Visit.{Visit}
 use Rattle.bc_walk.specs.declared.error.WalkError.TheVariants as walks
 use Rattle.bc_replay.specs.declared.error.OpenError.{OpenError}
 use Rattle.bc_replay.specs.declared.error.OpenError.TheVariants as errors
-use Rattle.bc_replay.specs.Index.{HasTree, IsTreeCause}
+use Rattle.bc_replay.specs.Index.{HasTree, IsTreeCause, IsIndexed, rule_by}
+use Rattle.bc_replay.specs.Refused.{KeepsWord}
 use Rattle.bc_replay.specs.Replay.{AddsEntries, HaveExtents, HasIndex, IsIndexCause, entry_keys}
 use Rattle.bc_replay.proofs.Behind.{newest_at, none_in}
 
@@ -35,14 +36,15 @@ told_so None P Q so p = tt
 told_so (Some image) P Q so p = so image p
 
 module _ (d : DiskFacts) (g : Geometry) (j : Journal) (newest : FoundEntry) (at : slice_get j.entries (length j.entries - 1) ≡ Some newest) where
-  pub has_index : (visits : List Visit) (tree index : List Key) → HasTree d g newest.item.level newest.item.root visits tree → AddsEntries j.entries tree index → HasIndex d g j visits index
-  has_index visits tree index has adds =
-      told_so d.holds (λ image. (keys : List Key) × AreLastOfAll keys tree × IsIndexSearch g image newest.item.level newest.item.root (Ok (found_of visits keys))) _
+  pub has_index : (size : ℕ) (visits : List Visit) (tree index : List Key) (old new : Option ℕ) → HasTree d (rule_by g size) newest.item.level newest.item.root visits tree old → AddsEntries j.entries tree index
+      → ((seen : List Key) → KeepsWord (rule_by g size) seen old → KeepsWord (rule_by g size) (seen ++ entry_keys j.entries) new) → HasIndex d (rule_by g size) j visits index new
+  has_index size visits tree index old new has adds words =
+      told_so d.holds (λ image. (keys : List Key) × IsIndexed (rule_by g size) keys tree old × IsIndexSearch g image newest.item.level newest.item.root (Ok (found_of visits keys))) _
       (λ image so journal. record {
         journal = journal;
         keys = so.0;
         search = subst (λ (e : FoundEntry). IsIndexSearch g image e.item.level e.item.root (Ok (found_of visits so.0))) (sym (newest_at g image j journal newest at)) so.2;
-        last = adds (have_extents g image j.entries journal.entries) so.0 so.1;
+        last = record { last = adds (have_extents g image j.entries journal.entries) so.0 so.1.last; first = words so.0 so.1.first };
       }) has
 
   pub index_cause : (e : OpenError) → IsTreeCause d g newest.item.level newest.item.root e → IsIndexCause d g j e

@@ -6,3 +6,9 @@ pub mod Causes
 pub mod Behind
 pub mod Index
 pub mod Replay
+pub mod Refused
+pub mod Limits
+pub mod Used
+pub mod Marks
+pub mod Judge
+pub mod Survey

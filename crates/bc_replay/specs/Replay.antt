@@ -1,5 +1,5 @@
 -- The index of a cache device: the last keys of its tree and of the entries of its journal.
-use Rattle.std.specs.Prelude.{ℕ, List, ◌++◌, All, Ok, Err}
+use Rattle.std.specs.Prelude.{ℕ, List, ◌++◌, All, Option, Ok, Err}
 use Rattle.std.specs.List.{flat_map}
 use Rattle.bc_disk.specs.Disk.{DiskFacts, IfTold}
 use Rattle.bc_disk.specs.declared.disk.Device.TheVariants as device
@@ -9,11 +9,13 @@ use Rattle.bc_jset.specs.Entries.{FoundEntry}
 use Rattle.bc_key.specs.Key.{IsExtent}
 use Rattle.bc_key.specs.declared.key.Key.{Key}
 use Rattle.bc_model.specs.Sector.{Image}
-use Rattle.bc_node.specs.Leaf.{AreAdded, AreLastOfAll}
+use Rattle.bc_node.specs.Leaf.{AreAdded}
+use Rattle.bc_walk.specs.Rule.{Rule}
 use Rattle.bc_walk.specs.Seen.{found_of}
 use Rattle.bc_walk.specs.Walk.{IsIndexSearch}
 use Rattle.bc_walk.specs.declared.visit.Visit.{Visit}
 use Rattle.bc_walk.specs.declared.error.WalkError.TheVariants as walks
+use Rattle.bc_replay.specs.Index.{IsIndexed}
 use Rattle.bc_replay.specs.declared.error.OpenError.{OpenError}
 use Rattle.bc_replay.specs.declared.error.OpenError.TheVariants as errors
 
@@ -28,16 +30,16 @@ HaveExtents es = All (λ e. All IsExtent e.item.keys) es
 abbrev pub AddsEntries : List FoundEntry → List Key → List Key → Type 0
 AddsEntries es old new = HaveExtents es → AreAdded (entry_keys es) old new
 
--- the walk from the root that the newest entry names went so, and the index has the last of all keys
-pub record IsIndex (g : Geometry) (image : Image) (j : Journal) (visits : List Visit) (index : List Key) : Type 0 where
-  pub journal : HasJournal g image j
+-- the walk from the root that the newest entry names went so, and the index is that of all keys
+pub record IsIndex (r : Rule) (image : Image) (j : Journal) (visits : List Visit) (index : List Key) (word : Option ℕ) : Type 0 where
+  pub journal : HasJournal r.geometry image j
   pub keys : List Key
-  pub search : IsIndexSearch g image journal.entries.newest.item.level journal.entries.newest.item.root (Ok (found_of visits keys))
-  pub last : AreLastOfAll (keys ++ entry_keys j.entries) index
+  pub search : IsIndexSearch r.geometry image journal.entries.newest.item.level journal.entries.newest.item.root (Ok (found_of visits keys))
+  pub last : IsIndexed r (keys ++ entry_keys j.entries) index word
 
 -- so it is where this is the journal of the device
-abbrev pub HasIndex : DiskFacts → Geometry → Journal → List Visit → List Key → Type 0
-HasIndex d g j visits index = IfTold d.holds (λ image. HasJournal g image j → IsIndex g image j visits index)
+abbrev pub HasIndex : DiskFacts → Rule → Journal → List Visit → List Key → Option ℕ → Type 0
+HasIndex d r j visits index word = IfTold d.holds (λ image. HasJournal r.geometry image j → IsIndex r image j visits index word)
 
 -- why the index isn't had
 abbrev pub IsIndexCause : DiskFacts → Geometry → Journal → OpenError → Type 0

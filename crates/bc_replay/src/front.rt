@@ -1,5 +1,5 @@
 //! What a pair holds before its index.
-ghost use Rattle.std.specs.Prelude.{◌≡◌, IfOk, IfErr, OnOk};
+ghost use Rattle.std.specs.Prelude.{◌≡◌, ◌*◌, ◌≤◌, IfOk, IfErr, OnOk};
 ghost use Rattle.bc_disk.specs.Disk.{IsKept};
 ghost use Rattle.bc_replay.specs.Heads.{HasHeads};
 ghost use Rattle.bc_replay.specs.Causes.{CountsFault, IsOpenCause, OfHeld};
@@ -37,6 +37,8 @@ pub fn read_heads<C: Disk, B: Disk>(
     ensures found { IfOk result (λ f. OfHeld
         (λ p. HasHeads p f.supers.backing f.supers.cache f.supers.geometry f.journal f.gens)
         (C.facts cache.old) (B.facts backing.old)) }
+    ensures room { IfOk result (λ f. f.supers.geometry.bucket * f.supers.geometry.nbuckets
+        ≤ (C.facts cache.new).sectors) }
     ensures refused { IfErr result (IsOpenCause (C.facts cache.old) (B.facts backing.old)) }
     ensures cache_kept { IsKept (C.facts cache.old) (C.facts cache.new) }
     ensures backing_kept { IsKept (B.facts backing.old) (B.facts backing.new) }

@@ -10,15 +10,26 @@
 mod error;
 mod front;
 mod heads;
+mod held;
 mod index;
 pub mod laws;
+mod pointers;
 mod replay;
 mod supers;
+mod uses;
 mod uuids;
+mod whole;
 
 pub use error::OpenError;
 pub use front::{Front, read_heads};
+pub use held::Survey;
 pub use index::{Index, read_tree};
+pub use pointers::Limits;
 pub use replay::read_index;
 pub use supers::{Supers, read_supers};
+pub use uses::{Use, age_of, generation_of, is_live};
 pub use uuids::names_device;
+pub use whole::survey;
+
+#[cfg(test)]
+mod tests;

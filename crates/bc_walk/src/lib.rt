@@ -21,6 +21,6 @@ mod visit;
 
 pub use error::WalkError;
 pub use gather::Gather;
-pub use pointers::{bucket_of, points_into_data};
+pub use pointers::{bucket_of, lies_in_data, points_into_data};
 pub use search::walk;
 pub use visit::Visit;

@@ -107,6 +107,7 @@ pub fn take_leaf<D: Disk, T: Gather>(
     requires proper { IsNodeKey g.now key.now }
     ensures taken { IfOk result (λ _. TakesLeaf (D.facts disk.old) g.now from key.now
         (T.took gather.old) (T.took gather.new)) }
+    ensures rule { T.rule gather.new ≡ T.rule gather.old }
     ensures refused { IfErr result (IsUnread (D.facts disk.old) g.now 0 from key.now bucket) }
     ensures kept { IsKept (D.facts disk.old) (D.facts disk.new) }
     ensures faults { RisesWith result (D.facts disk.old).faults (D.facts disk.new).faults }

@@ -9,7 +9,7 @@ use bc_disk::geometry::Geometry;
 use bc_key::{Key, Ptr};
 
 /// Whether so many sectors from the pointer on lie whole in one data bucket.
-fn lies_in_data(g: &Geometry, ptr: &Ptr, n: u16) -> bool
+pub fn lies_in_data(g: &Geometry, ptr: &Ptr, n: u16) -> bool
     ensures { MatchBool result (LiesInData g.now ptr.now n) (¬ (LiesInData g.now ptr.now n)) }
 {
     let bucket = ptr.offset / u64::from(g.bucket);

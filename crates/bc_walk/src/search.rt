@@ -71,6 +71,7 @@ fn walk_key<D: Disk, T: Gather>(
         visits.old.items visits.new.items) }
     ensures ended { IfErr result (Ended (D.facts disk.old)
         (λ image. IsSearch g.now image level from key.now) (T.took gather.old) visits.old.items) }
+    ensures rule { T.rule gather.new ≡ T.rule gather.old }
     ensures kept { IsKept (D.facts disk.old) (D.facts disk.new) }
     ensures faults { RisesWith result (D.facts disk.old).faults (D.facts disk.new).faults }
 {
@@ -117,6 +118,7 @@ fn walk_children<D: Disk, T: Gather>(
     ensures ended { IfErr result (Ended (D.facts disk.old)
         (λ image. AreSearches (IsSearch g.now image level) from children.now)
         (T.took gather.old) visits.old.items) }
+    ensures rule { T.rule gather.new ≡ T.rule gather.old }
     ensures kept { IsKept (D.facts disk.old) (D.facts disk.new) }
     ensures faults { RisesWith result (D.facts disk.old).faults (D.facts disk.new).faults }
 {
@@ -147,6 +149,7 @@ pub fn walk<D: Disk, T: Gather>(
     requires nothing_taken { T.took gather.old [] }
     ensures went { IfOk result (λ visits. WentWhole (D.facts disk.old) g.now level root.now
         (T.took gather.new) visits.items) }
+    ensures rule { T.rule gather.new ≡ T.rule gather.old }
     ensures ended { IfErr result (EndedWhole (D.facts disk.old) g.now level root.now) }
     ensures kept { IsKept (D.facts disk.old) (D.facts disk.new) }
     ensures faults { RisesWith result (D.facts disk.old).faults (D.facts disk.new).faults }

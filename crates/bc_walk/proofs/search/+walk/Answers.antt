@@ -31,6 +31,7 @@ walk_children-loop-child-preserved g t c =
     record {
       flags = c.in_ok-walk_key.ensures.flags;
       kept = kept_both d mid (g.D.Disk.facts c.walk_key.new.disk) c.loop-child.invariant.kept c.in_ok-walk_key.ensures.kept;
+      rule = c.in_ok-walk_key.ensures.rule ∙ c.loop-child.invariant.rule;
       faults = c.in_ok-walk_key.ensures.faults ∙ c.loop-child.invariant.faults;
       leads =
           leads_more d (λ image. IsSearch c.args.g.now image c.args.level) took c.args.from children c.args.visits.now.items mid c.loop-child.invariant.kept c.loop-child.low c.child-item.result (drop i children) (drop (i + 1) children)
