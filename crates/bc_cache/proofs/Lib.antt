@@ -1,0 +1,3 @@
+pub mod Oldest
+pub mod Changed
+pub mod Stands

@@ -1,0 +1,5 @@
+pub mod Slots
+pub mod Search
+pub mod Fetch
+pub mod Lending
+pub mod Stands
