@@ -12,3 +12,4 @@ pub mod Outcomes
 pub mod Drawn
 pub mod Sums
 pub mod Examples
+pub mod Digits

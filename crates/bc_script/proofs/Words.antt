@@ -40,7 +40,7 @@ nonempty (suc n) [] some le = absurd (omega arith)
 nonempty (suc n) (x ∷ xs) some le = refl
 
 -- a space in front makes no word
-space_first : (b : ℕ) (bs : List ℕ) → is_space b ≡ true → words (b ∷ bs) ≡ words bs
+pub space_first : (b : ℕ) (bs : List ℕ) → is_space b ≡ true → words (b ∷ bs) ≡ words bs
 space_first b bs is = ap (λ s. filter is_word (cond s ([] ∷ slice_split is_space bs) (onto_first b (slice_split is_space bs)))) is
 
 kept : (w : List ℕ) (ws : List (List ℕ)) → is_word w ≡ true → filter is_word (w ∷ ws) ≡ w ∷ filter is_word ws

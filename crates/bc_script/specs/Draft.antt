@@ -21,6 +21,12 @@ IsSoFar text lines phase part left = (front : List (List ℕ)) × (lines_of text
 abbrev pub bytes_read : List Line → List ℕ → ℕ
 bytes_read lines part = 81 * length lines + length part
 
+-- nothing has come
+pub record IsEmpty (draft : Draft) : Type 0 where
+  pub lines_are : draft.lines.items ≡ []
+  pub phase_is : draft.phase ≡ 0
+  pub part_is : draft.part.items ≡ []
+
 -- the same of a draft
 abbrev pub IsValid : Draft → Type 0
 IsValid draft = IsDraft draft.lines.items draft.phase draft.part.items

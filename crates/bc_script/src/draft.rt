@@ -10,12 +10,15 @@ use crate::parse::line_of;
 use crate::reason::Reason;
 use crate::script::{Script, ScriptError, TraceError};
 use memchr::memchr;
-use std::alloc::Global;
+use std::alloc::{AllocError, Global};
 
 // The most lines of a trace.
 const MOST_LINES: usize = 262_144;
 // The most bytes of a line, its newline not counted.
 const MOST_BYTES: usize = 80;
+// Room for so many lines is taken at once: it is large enough to be grown without a copy, and costs
+// little where few lines come.
+const FIRST_LINES: usize = 4096;
 
 // The first line of a text, without its newline, and the text behind it; `None` where no newline
 // stands in the text.
@@ -37,19 +40,18 @@ pub(crate) struct Draft {
 }
 
 impl Draft {
-    ghost use Rattle.bc_script.specs.Draft.{IsValid, Continues, Reaches, size_of, line_count, Stops, IsAfter};
+    ghost use Rattle.bc_script.specs.Draft.{IsEmpty, IsValid, Continues, Reaches, size_of, line_count, Stops, IsAfter};
 
     /// Nothing has come.
-    pub(crate) fn new(alloc: Global) -> Draft
-        ensures lines { result.lines.items ≡ [] }
-        ensures phase { result.phase ≡ 0 }
-        ensures part { result.part.items ≡ [] }
+    pub(crate) fn new(alloc: Global) -> Result<Draft, AllocError>
+        ensures { IfOk result (λ draft. IsEmpty draft) }
     {
-        Draft {
-            lines: Vec::new(alloc),
+        let lines = Vec::with_capacity(alloc, FIRST_LINES)?;
+        Ok(Draft {
+            lines,
             phase: 0,
             part: Vec::new(alloc),
-        }
+        })
     }
 
     // The line that is read is refused.

@@ -17,6 +17,7 @@ pub mod reason;
 pub mod script;
 mod seen;
 mod serving;
+mod simple;
 pub mod summary;
 #[cfg(test)]
 mod tests;

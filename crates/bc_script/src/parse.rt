@@ -13,15 +13,16 @@ use crate::form::Form;
 use crate::line::{Action, Rounds};
 use crate::reason::Reason;
 use crate::serving::if_served;
+use crate::simple::simple_request;
 
 // The most bytes of a line, its newline not counted.
 const MOST_BYTES: usize = 80;
-// The last sector that a range may begin at.
-const MOST_FIRST: u64 = 1 << 40;
-// The most sectors of a range.
-const MOST_COUNT: u64 = 2048;
-// The greatest number of a worker.
-const MOST_WORKER: u64 = 16;
+/// The last sector that a range may begin at.
+pub(crate) const MOST_FIRST: u64 = 1 << 40;
+/// The most sectors of a range.
+pub(crate) const MOST_COUNT: u64 = 2048;
+/// The greatest number of a worker.
+pub(crate) const MOST_WORKER: u64 = 16;
 
 // How many spaces stand in front.
 #[inline(always)]
@@ -246,10 +247,14 @@ fn request_of(text: &[u8]) -> Result<Form, Reason>
 
 // What the words of a line that is no comment say.
 #[inline(always)]
+#[tactic(auto, using(crate::proofs::Digits::said_request))]
 fn said_of(text: &[u8]) -> Result<Form, Reason>
     ensures found { result ≡ said_in (words text.now) }
     ensures proper { IfOk result IsProperForm }
 {
+    if let Some(form) = simple_request(text) {
+        return Ok(form);
+    }
     let Some((word, rest)) = first_word(text) else {
         return Ok(Form::Quiet);
     };
@@ -287,6 +292,7 @@ fn form_of(text: &[u8]) -> Result<Form, Reason>
 }
 
 /// What the text of a line says, without its newline, where it is served.
+#[inline(always)]
 #[tactic(auto, unfolding(crate::specs::Serving::line_in))]
 pub(crate) fn line_of(text: &[u8]) -> Result<Form, Reason>
     ensures found { result ≡ line_in text.now }

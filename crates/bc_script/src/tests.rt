@@ -89,6 +89,8 @@ fn lines_are_read(rt: HostRuntime) {
     let lines = [write, read, Action::Flush].map(|action| request(0, action));
     assert!(rt; is_read(alloc, b"1 w 0 8 7\n1 r 0 10\n1 f\n", 5000, &lines));
     assert!(rt; is_read(alloc, b" 1  w 0 8 007 \n01 r 0 10\n1 f", 0, &lines));
+    let long = b"1 w 00000000000000000000 8 7\n0000000000000000000001 r 0 10\n1 f ";
+    assert!(rt; is_read(alloc, long, 40, &lines));
     assert!(rt; is_read(alloc, b"", 0, &[]));
     let lines = [
         Line::Silent,
@@ -286,5 +288,35 @@ fn a_trace_is_summed_up(rt: HostRuntime) -> Result<(), Fail> {
     let text = print_summary(alloc, &summary_of(script.lines(), &answers))?;
     let wanted = b"lines 10 writes 6 reads 4 flushes 0 refused 0 sum 804";
     assert!(rt; text.as_slice() == wanted.as_slice());
+    Ok(())
+}
+
+// The lines for eight workers over 4,096 sectors, by numbers that were computed apart.
+#[test]
+fn many_lines_are_generated(rt: HostRuntime) -> Result<(), Fail> {
+    let script = generate(rt.alloc(), 5, 20_000, 8, 4096)?;
+    let lines = script.lines();
+    let summary = summary_of(lines, &[]);
+    assert_eq!(rt; summary.lines, 20_000);
+    assert_eq!(rt; summary.writes, 9_929);
+    assert_eq!(rt; summary.reads, 7_518);
+    assert_eq!(rt; summary.flushes, 2_553);
+    let write = Action::Write {
+        first: 557,
+        count: 34,
+        stamp: 2,
+    };
+    let read = Action::Read {
+        first: 3748,
+        count: 55,
+    };
+    for (place, worker, action) in [(0, 1, Action::Flush), (1, 2, write), (19_999, 8, read)] {
+        let line = Line::Request {
+            worker,
+            phase: 0,
+            action,
+        };
+        assert!(rt; lines.get(place) == Some(&line));
+    }
     Ok(())
 }

@@ -31,7 +31,7 @@ pub fn read_trace<S: Source>(alloc: Global, source: &mut S) -> Result<Script, Tr
     ensures taken { BothToldText (IsTaken 21233665)
         (S.facts source.old).text (S.facts source.new).text }
 {
-    let mut draft = Draft::new(alloc);
+    let mut draft = Draft::new(alloc)?;
     let mut buffer = [0; BUFFER];
     let mut taken = 0;
     loop {

@@ -7,7 +7,7 @@ use Rattle.bc_script.proofs.trace.read_trace.Goals as goal
 pub returns-in_err-take_all-clause-cause : goal.returns-in_err-take_all-clause-cause
 returns-in_err-take_all-clause-cause g c =
     let facts = g.S.Source.facts in
-    let p = err_from_is_err_and c.from_residual.result c.from_residual.ensures.1 in
+    let p = err_from_is_err_and c.from_residual-in_err-take_all.result c.from_residual-in_err-take_all.ensures.1 in
     let room = c.min-room.ensures in
     let kept : length c.next.new.into ≡ length (take c.min-room.result c.loop-count.buffer) = c.next.auto.into in
     let cut = length-take c.min-room.result c.loop-count.buffer in
