@@ -5,3 +5,6 @@ pub mod Loops
 pub mod Open
 pub mod Chosen
 pub mod Raising
+pub mod Unique
+pub mod Next
+pub mod OneByOne

@@ -56,7 +56,7 @@ not_before_itself records j k (inr p) e = let lt = p.1 in omega arith
 pub distinct : (P : ℕ → Type 0) (records : List Bucket) (most : ℕ) (vs : List ℕ) → AreFirst P records most vs → IsDistinct vs
 distinct P records most vs h = distinct_by vs (λ i j ij lt. not_before_itself records (get_or vs i 0) (get_or vs j 0) (h.ordered i j ij lt))
 
-place_in : (k : ℕ) (xs : List ℕ) → 0 < times k xs → (i : ℕ) × (i < length xs) × (get_or xs i 0 ≡ k)
+pub place_in : (k : ℕ) (xs : List ℕ) → 0 < times k xs → (i : ℕ) × (i < length xs) × (get_or xs i 0 ≡ k)
 place_in k [] some = absurd (omega arith)
 place_in k (x ∷ xs) some = go (cases_eq x k) (λ rest. place_in k xs rest)
   where

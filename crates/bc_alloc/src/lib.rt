@@ -8,6 +8,7 @@
 //! itself.
 #![tactic(auto)]
 
+pub mod laws;
 mod purpose;
 mod reserve;
 mod reserves;

@@ -29,6 +29,42 @@ fn mark_of(number: u64) -> Mark {
     }
 }
 
+// Pins the bucket, ends a pin, holds it or lets it go, where that may be, and answers what its record is
+// to be then.
+fn hold(buckets: &mut Buckets, bucket: u32, choice: u64, known: Bucket) -> Bucket
+    requires { bucket < length buckets.old.records }
+    ensures { length buckets.new.records ≡ length buckets.old.records }
+{
+    let now = buckets.get(bucket);
+    match choice {
+        0 if now.pins < 3 => {
+            buckets.pin(bucket);
+            let pins = known.pins.saturating_add(1);
+            Bucket { pins, ..known }
+        }
+        1 if 0 < now.pins => {
+            buckets.unpin(bucket);
+            let pins = known.pins.saturating_sub(1);
+            Bucket { pins, ..known }
+        }
+        2 if !now.held => {
+            buckets.hold(bucket);
+            Bucket {
+                held: true,
+                ..known
+            }
+        }
+        _ if now.held => {
+            buckets.let_go(bucket);
+            Bucket {
+                held: false,
+                ..known
+            }
+        }
+        _ => known,
+    }
+}
+
 // Changes a bucket, and answers what its record is to be then.
 fn change(buckets: &mut Buckets, bucket: u32, choice: u64, known: Bucket) -> Bucket
     requires { bucket < length buckets.old.records }
@@ -57,6 +93,7 @@ fn change(buckets: &mut Buckets, bucket: u32, choice: u64, known: Bucket) -> Buc
                 ..known
             }
         }
+        4..=7 => hold(buckets, bucket, choice - 4, known),
         _ => {
             let mark = mark_of(choice % 8);
             buckets.mark(bucket, mark, 8);
