@@ -1,5 +1,5 @@
 -- Each pair that was made anew is opened, and one is there.
-use Rattle.std.proofs.Common.{◌≡◌, inl, inr, true, false, refl, lit≤}
+use Rattle.std.proofs.Common.{◌≡◌, inl, inr, true, false, refl, sym, subst, lit≤}
 use Rattle.bc_disk.specs.declared.geometry.Geometry.{Geometry}
 use Rattle.bc_jset.specs.Entries.{bucket_end}
 use Rattle.bc_jset.specs.Records.{entry_kind}
@@ -9,7 +9,9 @@ use Rattle.bc_image.specs.NewPair.{new_pair}
 use Rattle.bc_image.proofs.Examples.{geometry}
 use Rattle.bc_image.proofs.NewPair.{backing, cache, is_formatted, superblocks}
 use Rattle.bc_facts.proofs.Made as made
-use Rattle.bc_anew.specs.Laws.{HasExample, LawAnew}
+use Rattle.bc_shows.specs.On.{IsRunOn}
+use Rattle.bc_shows.proofs.Law as shows
+use Rattle.bc_anew.specs.Laws.{HasExample, LawAnew, LawShown}
 use Rattle.bc_anew.proofs.Anew.{held, opened_on, opening}
 
 pub law_anew : LawAnew
@@ -20,6 +22,17 @@ g = geometry 8 (lit≤ tt)
 
 no_true : false ≡ true → ⊥
 no_true e = cc
+
+pub law_shown : LawShown
+law_shown p b g w x on next_seq es ran left v same is s =
+    shows.law_shown w x next_seq es left v (subst (λ (y : Geometry). IsRunOn y w x next_seq es) (sym same) (record {
+      machine = on.machine;
+      sound = on.sound;
+      course = ran.course;
+      old_keys = λ key was. absurd (on.no_key key was);
+      keys = ran.keys;
+      no_torn = ran.no_torn;
+    })) is s
 
 pub example : HasExample
 example =

@@ -1,5 +1,5 @@
 //! What holds of pairs that were made anew: each law is the contract of a function.
-ghost use Rattle.bc_anew.specs.Laws.{HasExample, LawAnew};
+ghost use Rattle.bc_anew.specs.Laws.{HasExample, LawAnew, LawShown};
 
 /// Each pair that was made anew is opened: by a machine of its device, with both devices' data and
 /// no key, which shows what the backing device has.
@@ -7,8 +7,16 @@ pub fn law_anew()
     ensures { LawAnew }
 {}
 
-/// There is such a pair, byte by byte; so there is a run of which all holds that is asked of runs on a
-/// device.
+/// So whatever a crash leaves of such a pair, behind any run of which all keys lie in data whole,
+/// shows each sector with a value that the run allows, over what the backing device had.
+///
+/// The premise is that no torn record matches by chance.
+pub fn law_shown()
+    ensures { LawShown }
+{}
+
+/// There is such a pair, byte by byte; so there is a run of which all holds that is asked of runs
+/// on a device.
 pub fn example()
     ensures { HasExample }
 {}

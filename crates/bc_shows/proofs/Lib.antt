@@ -3,3 +3,5 @@ pub mod Found
 pub mod Sector
 pub mod Law
 pub mod Events
+pub mod Keys
+pub mod Teeth

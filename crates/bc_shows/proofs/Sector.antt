@@ -36,14 +36,14 @@ gen_here (x ∷ xs) zero = refl
 gen_here (x ∷ xs) (suc b) = gen_here xs b
 
 -- only the byte of a bucket's generation counts
-byte_alone : (x p : ℕ) → p < 256 → (x % 256 + 256 - p) % 256 ≡ (x + 256 - p) % 256
+pub byte_alone : (x p : ℕ) → p < 256 → (x % 256 + 256 - p) % 256 ≡ (x + 256 - p) % 256
 byte_alone x p small =
     let parts : x + 256 - p ≡ 256 * (x / 256) + (x % 256 + 256 - p) = omega (arith, small) in
     sym (ap (λ n. n % 256) parts ∙ mul-add-mod_self_left 256 (x / 256) (x % 256 + 256 - p))
 
 module _ (g : Geometry) (w : Opening) (on : IsMachineOf g w) (laid : AreLaid w) where
   -- the bucket of a sector's place is the one into which the key's pointer points
-  bucket_is : (key : Key) (s : ℕ) → LiesInData g (ptr_at key 0) key.size → Covers key s
+  pub bucket_is : (key : Key) (s : ℕ) → LiesInData g (ptr_at key 0) key.size → Covers key s
       → w.flow.books.bucket (place_at key 0 s) ≡ bucket_at g (ptr_at key 0).offset - g.first_bucket
   bucket_is key s lies covers =
       let k = lies_in_bucket g key 0 s lies covers in
@@ -64,7 +64,7 @@ module _ (g : Geometry) (w : Opening) (on : IsMachineOf g w) (laid : AreLaid w) 
 
   module _ (gens : Gens) (said : List ℕ) (same : gens_of gens.records ≡ said) (c : Image) where
     -- so both ask about one generation
-    gen_is : (key : Key) (s : ℕ) → LiesInData g (ptr_at key 0) key.size → Covers key s
+    pub gen_is : (key : Key) (s : ℕ) → LiesInData g (ptr_at key 0) key.size → Covers key s
         → gen_from w.before said (w.flow.books.bucket (place_at key 0 s)) ≡ generation_of gens (bucket_at g (ptr_at key 0).offset) % 256
     gen_is key s lies covers =
         let low = lies.bucket.0 in

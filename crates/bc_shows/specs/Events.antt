@@ -17,8 +17,8 @@ use Rattle.bc_origin.specs.Keys.{WasThere, new_keys}
 use Rattle.bc_shows.specs.On.{IsMachineOf}
 use Rattle.bc_shows.specs.Laws.{Shows, value_of}
 
--- A run of events from an opening; all that its keys point to lies in data whole, and no torn record
--- matched by chance.
+-- A run of events from an opening; all that its keys point to lies in data whole, and no torn
+-- record matched by chance.
 pub record AreEventsOn (g : Geometry) (w : Opening) (x : parts.State) (next_seq : ℕ)
     (es : List Event) : Type 0 where
   pub machine : IsMachineOf g w.machine
@@ -31,7 +31,8 @@ pub record AreEventsOn (g : Geometry) (w : Opening) (x : parts.State) (next_seq 
       (run w (start w x next_seq) es).machine.whole.store.places
 
 -- and the history by workers allows the same
-pub record ShowsEvents (g : Geometry) (w : Opening) (st : State) (c b : Image) (r : Reading) : Type 0 where
+pub record ShowsEvents (g : Geometry) (w : Opening) (st : State) (c b : Image)
+    (r : Reading) : Type 0 where
   pub shows : Shows g w.machine st.machine c b r
   pub workers : HaveWorkers w → (s : ℕ)
       → Allowed w.machine.flow.image (history_of w st) s (value_of g r c b s)

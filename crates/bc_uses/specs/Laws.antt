@@ -1,0 +1,31 @@
+-- How old keys are in each pair of images that a crash may leave, and what its buckets are used
+-- for.
+use Rattle.std.specs.Prelude.{◌≡◌, ◌≢◌, ℕ, ◌≤◌, true, List}
+use Rattle.bc_model.specs.Sector.{Image}
+use Rattle.bc_disk.specs.Device.{MayLeave}
+use Rattle.bc_disk.specs.declared.geometry.Geometry.{Geometry}
+use Rattle.bc_leaves.specs.Parts as parts
+use Rattle.bc_image.specs.Reading.{Reading, IsReading}
+use Rattle.bc_image.specs.Sound.{IsWithinWindow}
+use Rattle.bc_image.specs.Uses.{Use, Uuid, Data, IsUsedFor}
+use Rattle.bc_facts.specs.Seen.{counted}
+use Rattle.bc_whole.specs.State.{Opening}
+use Rattle.bc_known.specs.Acts.{Event}
+use Rattle.bc_known.specs.Run.{run, start}
+use Rattle.bc_shows.specs.On.{IsRunOn}
+
+pub record HasUses (g : Geometry) (w : Opening) (r : Reading) : Type 0 where
+  pub window : IsWithinWindow g r
+  pub one : (bucket : ℕ) (a b : Use) → a ≢ Uuid → b ≢ Uuid → IsUsedFor g r a bucket
+      → IsUsedFor g r b bucket → a ≡ b
+  -- no data lies where the books know of superblock, journal or uuid table
+  pub fixed : (bucket : ℕ) → g.first_bucket ≤ bucket
+      → w.flow.books.fixed (counted g bucket) ≡ true → IsUsedFor g r Data bucket → ⊥
+
+-- at the end of every run, and so at every state of one
+abbrev pub LawUses : Type 0
+LawUses =
+    (g : Geometry) (w : Opening) (x : parts.State) (next_seq : ℕ) (es : List Event)
+    → IsRunOn g w x next_seq es → let st = run w (start w x next_seq) es in
+    (c b : Image) → MayLeave st.whole.flow.cache c → MayLeave st.whole.flow.backing b
+    → (r : Reading) → IsReading g c r → HasUses g w r
