@@ -11,8 +11,8 @@ pub fn example_exists()
     ensures { HasExample }
 {}
 
-/// A sound opening with a cache and a run of events from it exist in which there is an event of each
-/// kind.
+/// A sound opening with a cache and a run of events from it exist in which there is an event of
+/// each kind.
 pub fn each_deed_exists()
     ensures { HasAllDeeds }
 {}
