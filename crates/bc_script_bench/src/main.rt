@@ -1,14 +1,16 @@
 //! Measures the texts of traces and answers, and the generator of traces: how long a trace of so many
 //! lines takes to be read, its answers to be printed, and as many lines to be generated.
 //! `bench/trace.c` has the plain loops beside it. And it reads random lines with the reader of
-//! traces and with the plain one, which have to answer alike.
+//! traces and with the plain one, which have to answer alike, and makes each call that takes memory.
 #![tactic(auto)]
 
 ghost use Rattle.std.specs.Prelude.{◌<◌};
 
+mod calls;
 mod lines;
 mod texts;
 
+use crate::calls::CALLS;
 use crate::lines::compare;
 use crate::texts::{answers_of, generated, print_all, text_of};
 use bc_disk::mem_source::MemSource;
@@ -61,6 +63,17 @@ fn run_random<R: Clock + Print + AllocGlobal>(rt: &R, lines: u32) -> io::Result<
     Ok(ExitCode::from(u8::from(all.differing != 0)))
 }
 
+// Makes each call that takes memory, and prints what it answered.
+fn run_calls<R: Print + AllocGlobal>(rt: &R) -> io::Result<ExitCode> {
+    let mut status = 0;
+    for call in CALLS {
+        let outcome = call.make(rt.alloc())?;
+        println!(rt; "{} {}", call.name(), outcome.name())?;
+        status = outcome.status().max(status);
+    }
+    Ok(ExitCode::from(status))
+}
+
 // What the arguments ask for.
 #[derive(Clone, Copy, Drop)]
 enum Task {
@@ -68,11 +81,14 @@ enum Task {
     Measure(u32),
     /// To read so many random lines.
     Random(u32),
+    /// To make the calls that take memory.
+    Calls,
 }
 
 // What these arguments ask for, or `None` where they are wrong.
 fn task_of(arguments: &[String]) -> Option<Task> {
     match arguments {
+        [word] if word.as_str() == "calls" => Some(Task::Calls),
         [lines] => Some(Task::Measure(lines.parse::<u32>().ok()?)),
         [word, lines] if word.as_str() == "random" => {
             Some(Task::Random(lines.parse::<u32>().ok()?))
@@ -85,13 +101,15 @@ fn main(rt: HostRuntime) -> io::Result<ExitCode> {
     let arguments: Vec<String> = env::args(&rt)?.skip(1).collect(rt.alloc())?;
     if arguments.is_empty() {
         let _measured = run(&rt, 100, false)?;
+        let _called = run_calls(&rt)?;
         return run_random(&rt, 400);
     }
     match task_of(&arguments) {
         Some(Task::Measure(lines)) if lines <= 262_144 => run(&rt, lines, true),
         Some(Task::Random(lines)) => run_random(&rt, lines),
+        Some(Task::Calls) => run_calls(&rt),
         _ => {
-            eprintln!(rt; "usage: bc_script_bench [LINES | random LINES]")?;
+            eprintln!(rt; "usage: bc_script_bench [LINES | random LINES | calls]")?;
             Ok(ExitCode::from(2))
         }
     }
