@@ -5,3 +5,8 @@ pub mod Choices
 pub mod Few
 pub mod Proper
 pub mod Places
+pub mod Renames
+pub mod Nexts
+pub mod Trees
+pub mod Same
+pub mod Coming

@@ -1,11 +1,14 @@
 -- Keys put over children.
-use Rattle.std.proofs.Common.{◌≡◌, ◌≢◌, ◌==◌, ◌⊎◌, inl, inr, ℕ, zero, suc, ◌+◌, ◌-◌, ◌<◌, ◌≤◌, true, false, List, [], ◌∷◌, ◌++◌, length, get_or, take, drop, refl, sym, subst, ap, ◌∙◌, eq-eqb, arith, length-append}
+use Rattle.std.proofs.Common.{◌≡◌, ◌≢◌, ◌==◌, ◌⊎◌, inl, inr, ℕ, zero, suc, ◌+◌, ◌-◌, ◌*◌, ◌<◌, ◌≤◌, true, false, List, [], ◌∷◌, ◌++◌, length, get_or, take, drop, refl, sym, subst, ap, ◌∙◌, eq-eqb, arith, length-append}
 use Rattle.std.specs.Prelude.{All, nat_lt}
 use Rattle.std.proofs.lemmas.Bool.{lt-ltb, le-ltb}
 use Rattle.std.proofs.lemmas.Bool.Decides.{eqb_tells}
 use Rattle.std.proofs.lemmas.List.{append_assoc, drop-drop, take-append-drop, drop_more, get_or_push, get_or_append_left, length-take-le, length-drop}
 use Rattle.std.proofs.lemmas.List.Elements.{All-head, All-tail}
 use Rattle.bc_key.specs.declared.key.Key.{Key}
+use Rattle.bc_keys.proofs.KeyLists.{length-words_of}
+use Rattle.bc_tree.specs.Needs.{words}
+use Rattle.bc_tree.proofs.Proper.{words_cons}
 use Rattle.bc_image.specs.Children.{child_before, with_child, with_children}
 use Rattle.bc_set.specs.declared.set.SetKind.TheVariants.{Children}
 use Rattle.bc_set.specs.SetBytes.{AreSetKeys}
@@ -168,3 +171,19 @@ away_more [] [] child key away none end = (none, end, tt)
 away_more [] (k ∷ keys) child key away none end = absurd away
 away_more (g ∷ gone) [] child key away none end = absurd away
 away_more (g ∷ gone) (k ∷ keys) child key away none end = (away.0, away.1, away_more gone keys child key away.2 none end)
+
+-- keys without pointers take two words each
+away_words : (gone keys : List Key) → TakeAway gone keys → words keys ≡ 2 * length gone
+away_words [] [] away = refl
+away_words [] (key ∷ keys) away = absurd away
+away_words (g ∷ gone) [] away = absurd away
+away_words (g ∷ gone) (key ∷ keys) away = omega (arith, words_cons key keys, length-words_of key, away.0, away_words gone keys away.2)
+
+words_append : (xs ys : List Key) → words (xs ++ ys) ≡ words xs + words ys
+words_append [] ys = omega arith
+words_append (x ∷ xs) ys = omega (arith, words_cons x (xs ++ ys), words_cons x xs, words_append xs ys)
+
+pub few_words : (children come bares : List Key) (at gone : ℕ) → 0 < gone → at + gone ≤ length children → TakeAway (take (gone - 1) (drop at children)) bares → words (bares ++ come) ≡ 2 * (gone - 1) + words come
+few_words children come bares at gone some within away =
+    let going = length-take-le (gone - 1) (drop at children) (omega (arith, length-drop at children)) in
+    omega (arith, words_append bares come, away_words (take (gone - 1) (drop at children)) bares away, going)

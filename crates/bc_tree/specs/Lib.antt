@@ -2,4 +2,8 @@ pub mod Children
 pub mod Parts
 pub mod Spine
 pub mod Needs
+pub mod Change
+pub mod Next
+pub mod Same
+pub mod Plan
 pub mod Laws

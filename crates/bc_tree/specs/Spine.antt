@@ -97,6 +97,8 @@ pub record IsParentAt (spine : Spine) (sector : ℕ) (node : Inner) : Type 0 whe
 pub record IsPlaceAt (spine : Spine) (sector : ℕ) (place : LeafPlace) : Type 0 where
   pub parent : Inner
   pub node : slice_get (bottom spine.root spine.below) place.node ≡ Some parent
+  pub from : parent.from ≤ sector
+  pub end : sector < parent.end
   pub key : Key
   pub child : slice_get parent.children place.child ≡ Some key
   pub there : slice_get spine.leaves place.leaf ≡ Some place.range

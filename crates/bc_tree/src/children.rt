@@ -4,6 +4,7 @@ ghost use Rattle.bc_image.specs.Children.{with_children};
 ghost use Rattle.bc_set.specs.declared.set.SetKind.{SetKind};
 ghost use Rattle.bc_set.specs.SetBytes.{AreSetKeys};
 ghost use Rattle.bc_tree.specs.Children.{CanGiveWay, TakeAway, children_after};
+ghost use Rattle.bc_tree.specs.Needs.{words};
 
 use bc_key::Key;
 use std::alloc::{AllocError, Global};
@@ -35,6 +36,7 @@ pub fn set_keys(
         ≡ children_after children.now at gone come.now) }
     ensures proper { IfOk result (λ keys. AreSetKeys SetKind.Children keys.items) }
     ensures few { IfOk result (λ keys. length keys.items ≡ gone - 1 + length come.now) }
+    ensures words { IfOk result (λ keys. words keys.items ≡ 2 * (gone - 1) + words come.now) }
 {
     let mut keys = take_away(alloc, &children[at..at + gone - 1])?;
     keys.extend_from_slice(come)?;

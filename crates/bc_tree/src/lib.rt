@@ -13,18 +13,25 @@
 //! are the buckets that it takes.
 #![tactic(auto)]
 
+mod above;
 mod build;
+mod change;
 mod children;
+mod install;
 pub mod laws;
 mod needs;
 mod parts;
 mod place;
+mod plan;
 mod spine;
 #[cfg(test)]
 mod tests;
 
+pub use change::NodeChange;
 pub use children::{first_half, replaced, set_keys};
+pub use install::NewLeaves;
 pub use needs::Needs;
 pub use parts::{cut_of, keys_between};
 pub use place::LeafPlace;
+pub use plan::{Plan, PlanError};
 pub use spine::Spine;

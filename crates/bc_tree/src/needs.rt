@@ -27,7 +27,7 @@ fn fits_node(g: &Geometry, node: &Inner, more: usize) -> bool
 }
 
 /// Whether a set of so many words can be put behind the others of a node.
-fn has_room(g: &Geometry, node: &Inner, set: usize) -> bool
+pub(crate) fn has_room(g: &Geometry, node: &Inner, set: usize) -> bool
     requires few { set ≤ 8 }
     ensures { result ≡ has_room g.now node.now set }
 {

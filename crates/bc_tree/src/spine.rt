@@ -16,10 +16,10 @@ use std::marker::Model;
 /// The inner nodes of the index, and its leaves.
 #[derive(Drop)]
 pub struct Spine {
-    g: Geometry,
-    root: Inner,
-    below: Vec<Inner>,
-    leaves: Leaves,
+    pub(crate) g: Geometry,
+    pub(crate) root: Inner,
+    pub(crate) below: Vec<Inner>,
+    pub(crate) leaves: Leaves,
 }
 
 impl Model for Spine {
@@ -154,7 +154,7 @@ impl Spine {
     }
 
     /// The node at a place among those whose children are leaves.
-    fn node(&self, place: usize) -> &Inner
+    pub(crate) fn node(&self, place: usize) -> &Inner
         requires { place < length (bottom self.now.root self.now.below) }
         ensures { slice_get (bottom self.now.root self.now.below) place ≡ Some result.now }
     {

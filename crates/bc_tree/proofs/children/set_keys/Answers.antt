@@ -3,7 +3,8 @@ use Rattle.bc_image.specs.Children.{with_children}
 use Rattle.bc_set.specs.declared.set.SetKind.TheVariants.{Children}
 use Rattle.bc_set.specs.SetBytes.{AreSetKeys}
 use Rattle.bc_tree.specs.Children.{TakeAway}
-use Rattle.bc_tree.proofs.Puts.{set_puts, few_keys, proper, part_order, come_order}
+use Rattle.bc_tree.specs.Needs.{words}
+use Rattle.bc_tree.proofs.Puts.{set_puts, few_keys, few_words, proper, part_order, come_order}
 use Rattle.bc_tree.proofs.children.set_keys.Goals as goal
 
 pub returns-clause-put : goal.returns-clause-put
@@ -36,3 +37,13 @@ returns-clause-few c =
     let away = subst (λ n. TakeAway (take n (drop at children)) c.in_ok-keys.keys.items) count c.in_ok-keys.ensures in
     ap length c.in_ok-extend_from_slice.ensures.items
     ∙ few_keys children c.args.come.now c.in_ok-keys.keys.items at gone c.requires.some c.requires.within away
+
+pub returns-clause-words : goal.returns-clause-words
+returns-clause-words c =
+    let children = c.args.children.now in
+    let at = c.args.at in
+    let gone = c.args.gone in
+    let count : at + gone - 1 - at ≡ gone - 1 = omega (arith, c.requires.some) in
+    let away = subst (λ n. TakeAway (take n (drop at children)) c.in_ok-keys.keys.items) count c.in_ok-keys.ensures in
+    ap words c.in_ok-extend_from_slice.ensures.items
+    ∙ few_words children c.args.come.now c.in_ok-keys.keys.items at gone c.requires.some c.requires.within away

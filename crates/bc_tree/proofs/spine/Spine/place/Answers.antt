@@ -20,6 +20,7 @@ returns c =
     let found_there = found.1 in
     let same : found.0 ≡ node = cc in
     let begins = subst (λ (x : Inner). x.from ≤ sector) same found.2 in
+    let until = subst (λ (x : Inner). sector < x.end) same found.3 in
     let i = c.place_of-child.result in
     let child = some_there node.children i c.place_of-child.ensures.within in
     let key = child.0 in
@@ -37,6 +38,8 @@ returns c =
     record {
       parent = node;
       node = there;
+      from = begins;
+      end = until;
       key = key;
       child = child.1;
       there = at;

@@ -1,0 +1,23 @@
+-- A tree of which nothing has changed but its room.
+use Rattle.std.specs.Prelude.{◌≡◌, List, [], ◌∷◌}
+use Rattle.bc_inner.specs.Inner.{Inner, IsSameNode}
+use Rattle.bc_tree.specs.Spine.{Spine}
+
+-- nothing of the node has changed but its room
+pub record SameNode (old new : Inner) : Type 0 where
+  pub node : IsSameNode old new
+  pub children_are : new.children ≡ old.children
+
+-- nothing of any of the nodes has
+abbrev pub SameNodes : List Inner → List Inner → Type 0
+SameNodes [] [] = Unit {0}
+SameNodes [] (b ∷ bs) = ⊥
+SameNodes (a ∷ more) [] = ⊥
+SameNodes (a ∷ more) (b ∷ bs) = SameNode a b × SameNodes more bs
+
+-- nothing of the tree has
+pub record IsSameTree (old new : Spine) : Type 0 where
+  pub geometry_is : new.geometry ≡ old.geometry
+  pub leaves_are : new.leaves ≡ old.leaves
+  pub root_is : SameNode old.root new.root
+  pub below_are : SameNodes old.below new.below

@@ -1,0 +1,81 @@
+//! A plan, put into the tree.
+ghost use Rattle.std.specs.Prelude.{◌≡◌, IfSome, Some, slice_get};
+ghost use Rattle.bc_inner.specs.Inner.{Inner};
+ghost use Rattle.bc_tree.specs.Next.{leaves_next, nodes_next, root_next};
+ghost use Rattle.bc_tree.specs.Plan.{CanTake, Fits};
+ghost use Rattle.bc_tree.specs.Same.{SameNode, SameNodes};
+ghost use Rattle.bc_tree.specs.Spine.{bottom};
+
+use crate::change::NodeChange;
+use crate::plan::{Plan, change};
+use crate::spine::Spine;
+use bc_inner::Inner;
+use bc_node::Leaf;
+use bc_spine::Exchange;
+
+/// The leaves that a plan has brought.
+#[derive(Drop)]
+pub struct NewLeaves {
+    /// Their ranges and numbers, and those of the leaves that went.
+    pub leaves: Exchange,
+    /// The one of the lower sectors.
+    pub first: Leaf,
+    /// The one of the higher sectors, where two have come.
+    pub second: Option<Leaf>,
+}
+
+/// Does to the node at a place above leaves, and to the root, what changes say.
+fn change_nodes(
+    root: &mut Inner,
+    below: &mut Vec<Inner>,
+    place: usize,
+    lower: NodeChange,
+    upper: Option<NodeChange>,
+)
+    requires node { (node : Inner) × (slice_get (bottom root.old below.old.items) place ≡ Some node)
+        × CanTake node lower }
+    requires root { IfSome upper (CanTake root.old) }
+    ensures root { SameNode (root_next root.old below.old.items lower upper) root.new }
+    ensures below { SameNodes (nodes_next below.old.items place lower) below.new.items }
+{
+    if below.is_empty() {
+        change(root, lower);
+        return;
+    }
+    change(&mut below[place], lower);
+    if let Some(upper) = upper {
+        change(root, upper);
+    }
+}
+
+impl Spine {
+    /// Puts what was planned in the place of what goes. Each sector still lies in one leaf. Takes
+    /// no memory.
+    pub fn install(&mut self, plan: Plan) -> NewLeaves
+        requires { Fits self.old plan }
+        ensures geometry { self.new.geometry ≡ self.old.geometry }
+        ensures root { SameNode (root_next self.old.root self.old.below plan.bottom plan.top)
+            self.new.root }
+        ensures below { SameNodes (nodes_next self.old.below plan.place plan.bottom) self.new.below }
+        ensures leaves { self.new.leaves ≡ leaves_next self.old.leaves plan.leaves }
+        ensures exchange { result.leaves ≡ plan.leaves }
+        ensures first { result.first ≡ plan.first }
+        ensures second { result.second ≡ plan.second }
+    {
+        let Plan {
+            leaves,
+            first,
+            second,
+            place,
+            bottom,
+            top,
+        } = plan;
+        self.leaves.install(&leaves);
+        change_nodes(&mut self.root, &mut self.below, place, bottom, top);
+        NewLeaves {
+            leaves,
+            first,
+            second,
+        }
+    }
+}
