@@ -67,6 +67,12 @@ shelve step = Alone (flow.Shelve step) ∷ []
 
 -- ---- rows that need more than a line
 
+-- In a plain run there is no leaf to look at, so a claim is a look too.
+abbrev pub claimed : Bool → ℕ → ℕ → ℕ → Bool → List Act
+claimed false leaf first count exclusive = Alone (flow.MakeClaim first count exclusive) ∷ []
+claimed true leaf first count exclusive =
+    Alone (flow.MakeClaim first count exclusive) ∷ Alone (flow.Learn (flow.Look leaf)) ∷ []
+
 abbrev pub pinned : Opening → ℕ → ℕ → Bool → List Act
 pinned w at count false = Alone (flow.PinPlaces at count) ∷ []
 pinned w at count true =
@@ -146,8 +152,8 @@ failed w st (failure.BackingWrite first of values) =
 
 -- what a seat's deed is, where it is anything
 abbrev pub acts_of : Opening → State → ℕ → Deed → Option (List Act)
-acts_of w st i (deed.Claim first count how) =
-    Some (Alone (flow.MakeClaim first count (is_exclusive how)) ∷ [])
+acts_of w st i (deed.Claim first count how) = Some (claimed w.flow.plain
+    (st.whole.flow.books.index.leaf first) first count (is_exclusive how))
 acts_of w st i deed.Release = Some (Alone flow.Release ∷ [])
 acts_of w st i (deed.Look leaf) = Some (Alone (flow.Learn (flow.Look leaf)) ∷ [])
 acts_of w st i (deed.Pin at count full) = Some (pinned w at count full)

@@ -3,6 +3,7 @@ pub mod Changes
 pub mod Writes
 pub mod Acts
 pub mod Run
+pub mod Columns
 pub mod Laws
 pub mod Example
 pub mod Collect

@@ -1,5 +1,5 @@
 -- What a seat knows of a state to which others have led the run.
-use Rattle.std.proofs.Common.{◌≡◌, ℕ, ◌+◌, ◌-◌, ◌<◌, Bool, List, [], ◌∷◌, ◌++◌, Option, Ok, refl, sym, ap, ◌∙◌, subst, arith}
+use Rattle.std.proofs.Common.{◌≡◌, ℕ, ◌+◌, ◌-◌, ◌<◌, Bool, List, [], ◌∷◌, ◌++◌, Option, None, Ok, refl, sym, ap, ◌∙◌, subst, arith}
 use Rattle.std.specs.Prelude.{fold, All}
 use Rattle.std.proofs.lemmas.List.{append-nil}
 use Rattle.std.proofs.lemmas.List.Sums.{fold-append}
@@ -20,7 +20,7 @@ module _ {Z P E B T : Type 0} (m : Ghosts Z P E B T) where
   run_behind [] fs x h = h
   run_behind (e ∷ es) fs x h = run_behind es fs (m.after x e) h.1
 
-  run_on : (es fs : List E) (x : m.State) → IsRun m x es → IsRun m (fold m.after x es) fs
+  pub run_on : (es fs : List E) (x : m.State) → IsRun m x es → IsRun m (fold m.after x es) fs
       → IsRun m x (es ++ fs)
   run_on [] fs x a b = b
   run_on (e ∷ es) fs x a b = (a.0, run_on es fs (m.after x e) a.1 b)
@@ -87,18 +87,20 @@ module _ {Z P E B T : Type 0} (m : Ghosts Z P E B T) where
       (since_grows v w.seen sees.grows sees.run)
 
   pub waited_later : (v w : SeatView P E T) → IsSeat m v → SeesLater m v w.seen → w.run ≡ v.run
-      → w.first ≡ v.first → w.end ≡ v.end → w.promises ≡ v.promises → Waited m v w
-  waited_later v w seat sees run first_is end_is promises = let live = seat.live in record {
+      → w.first ≡ v.first → w.end ≡ v.end → w.promises ≡ v.promises
+      → (w.told ≡ None → v.told ≡ None) → Waited m v w
+  waited_later v w seat sees run first_is end_is promises told = let live = seat.live in record {
     same = record { run = run; first = first_is; end = end_is };
     promises = promises;
     own = ap (λ n. events_by m n w.seen) first_is ∙ sees.own v.first (omega arith) live;
     since = since_later v w sees run;
+    told = told;
   }
 
   -- nothing was seen since
   pub waited_not : (v w : SeatView P E T) → w.run ≡ v.run → w.first ≡ v.first → w.end ≡ v.end
-      → w.promises ≡ v.promises → w.seen ≡ v.seen → Waited m v w
-  waited_not v w run first_is end_is promises seen = record {
+      → w.promises ≡ v.promises → w.seen ≡ v.seen → w.told ≡ v.told → Waited m v w
+  waited_not v w run first_is end_is promises seen told = record {
     same = record { run = run; first = first_is; end = end_is };
     promises = promises;
     own = ap (λ n. events_by m n w.seen) first_is ∙ ap (λ l. events_by m v.first l) seen;
@@ -109,13 +111,14 @@ module _ {Z P E B T : Type 0} (m : Ghosts Z P E B T) where
       follow = tt;
       foreign = λ k d low. absurd (omega (arith, low));
     };
+    told = λ none. sym told ∙ none;
   }
 
   pub committed_at : (v w : SeatView P E T) (e : E) (es : List E) (t : Option T)
       → AtCommit m v e es → m.enabled (state_after m v.run.start es) e → 0 < v.promises
       → w ≡ record v { seen = es ++ e ∷ []; promises = v.promises - 1; told = t }
-      → AddsOwn m v e w.seen → Committed m v e w
-  committed_at v w e es t at may some is own =
+      → t ≡ m.stop (es ++ e ∷ []) → AddsOwn m v e w.seen → Committed m v e w
+  committed_at v w e es t at may some is stop own =
       let first_is : w.first ≡ v.first = ap (λ (x : SeatView P E T). x.first) is in
       let promises : w.promises ≡ v.promises - 1 = ap (λ (x : SeatView P E T). x.promises) is in
       record {
@@ -131,6 +134,8 @@ module _ {Z P E B T : Type 0} (m : Ghosts Z P E B T) where
         may = may;
         state = ap (λ (x : SeatView P E T). state_seen m x) is
             ∙ state_after-push m v.run.start es e;
+        told = ap (λ (x : SeatView P E T). x.told) is ∙ stop
+            ∙ ap (λ l. m.stop l) (sym (ap (λ (x : SeatView P E T). x.seen) is));
       }
 
   pub kept_committed : Frame m → (v w : SeatView P E T) (e : E) → IsSeat m w → w.parts ≡ v.parts

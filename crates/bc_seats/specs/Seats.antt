@@ -1,5 +1,5 @@
 -- What a seat of any machine knows, and what it has done.
-use Rattle.std.specs.Prelude.{◌≡◌, ℕ, ◌+◌, ◌<◌, Bool, false, List, [], ◌∷◌, ◌++◌, fold, All}
+use Rattle.std.specs.Prelude.{◌≡◌, ℕ, ◌+◌, ◌<◌, Bool, false, List, [], ◌∷◌, ◌++◌, fold, All, None}
 use Rattle.bc_parts.specs.declared.machine.Machine.{Ghosts}
 use Rattle.bc_parts.specs.Machine.{state_after, IsRun, events_by}
 use Rattle.bc_parts.specs.Seat.{SeatView, Holds}
@@ -53,6 +53,8 @@ module _ {Z P E B T : Type 0} (m : Ghosts Z P E B T) where
     pub promises : w.promises ≡ v.promises
     pub own : own_events w ≡ own_events v
     pub since : Since v (state_seen w)
+    -- it forgot no stop that it was told of
+    pub told : w.told ≡ None → v.told ≡ None
 
   -- it committed this event, behind some events of others, and nothing else
   pub record Committed (v : SeatView P E T) (e : E) (w : SeatView P E T) : Type 0 where
@@ -63,6 +65,8 @@ module _ {Z P E B T : Type 0} (m : Ghosts Z P E B T) where
     pub since : Since v before
     pub may : m.enabled before e
     pub state : state_seen w ≡ m.after before e
+    -- it was told of the stop that the events have made then
+    pub told : w.told ≡ m.stop w.seen
 
   -- it holds what it held, and that stands still, but for these parts
   pub record Kept (v w : SeatView P E T) (changed : ℕ → Bool) : Type 0 where

@@ -1,4 +1,4 @@
-use Rattle.std.proofs.Common.{ap}
+use Rattle.std.proofs.Common.{ap, sym, ◌∙◌}
 use Rattle.bc_parts.specs.Seat.{SeatView}
 use Rattle.bc_seats.proofs.Knowing.{since_commit, admitted_at, committed_at, waited_later, seat_later, since_later, kept_committed, kept_since}
 use Rattle.bc_seats.proofs.seats.commit.Goals as goal
@@ -14,7 +14,7 @@ returns-in-Ok-clause-ok g c = let h = c.in-Ok.ensures.ok in
     let e = c.args.event in
     committed_at g.M.Machine v c.commit.new.seat e h.0 _ h.1
     (c.requires.enabled _ (since_commit g.M.Machine v e h.0 h.1) (admitted_at g.M.Machine v e h.0 h.1))
-    c.requires.promise h.2 c.in-Ok.ensures.own
+    c.requires.promise h.2 h.3 c.in-Ok.ensures.own
 
 pub returns-in-Ok-clause-kept : goal.returns-in-Ok-clause-kept
 returns-in-Ok-clause-kept g c = let h = c.in-Ok.ensures.ok in
@@ -29,7 +29,7 @@ returns-in-Ok-clause-kept g c = let h = c.in-Ok.ensures.ok in
     (ap (λ (x : SeatView _ _ _). x.parts) is)
     (committed_at g.M.Machine v w e h.0 _ h.1
     (c.requires.enabled _ (since_commit g.M.Machine v e h.0 h.1) (admitted_at g.M.Machine v e h.0 h.1))
-    c.requires.promise h.2 c.in-Ok.ensures.own)
+    c.requires.promise h.2 h.3 c.in-Ok.ensures.own)
 
 pub returns-in-Err-clause-err : goal.returns-in-Err-clause-err
 returns-in-Err-clause-err g c = let h = c.in-Err.ensures.refused in
@@ -37,6 +37,7 @@ returns-in-Err-clause-err g c = let h = c.in-Err.ensures.refused in
     waited_later g.M.Machine c.args.seat.now c.commit.new.seat c.requires.seat h.0
     (ap (λ (x : SeatView _ _ _). x.run) is) (ap (λ (x : SeatView _ _ _). x.first) is)
     (ap (λ (x : SeatView _ _ _). x.end) is) (ap (λ (x : SeatView _ _ _). x.promises) is)
+    (λ none. absurd (cc (none, ap (λ (x : SeatView _ _ _). x.told) is)))
 
 pub returns-in-Err-clause-kept : goal.returns-in-Err-clause-kept
 returns-in-Err-clause-kept g c = let h = c.in-Err.ensures.refused in

@@ -1,0 +1,195 @@
+//! The book of a run: the list of its events.
+ghost use Rattle.std.specs.Prelude.{◌≡◌, ℕ, ◌+◌, ◌<◌, ◌≤◌, ◌++◌, ◌∷◌, [], length, vec_capacity};
+ghost use Rattle.std.specs.Prelude.{MatchResult, OnOk};
+ghost use Rattle.bc_events.specs.Columns.{halt_of, entries_of, verdict_of};
+ghost use Rattle.bc_book.specs.Pass.{kept_of, events_in};
+ghost use Rattle.bc_book.specs.Told.{EndAt, kept_after, with_aside, HasRoom};
+
+use crate::halt::{halted_after, is_late};
+use crate::pass::Pass;
+use crate::told::{Aside, Places, Told, told_of};
+use bc_disk::disk::Device;
+use bc_events::event::Event;
+use std::alloc::{AllocError, Global};
+use std::marker::Model;
+
+/// The list of all events of a run, with room for so many more.
+#[derive(Drop)]
+pub struct Book {
+    pass: Pass,
+    room: usize,
+    halted: Option<Device>,
+}
+
+impl Model for Book {
+    ghost use Rattle.std.specs.Prelude.{◌≡◌};
+    ghost use Rattle.bc_events.specs.Columns.{halt_of};
+    ghost use Rattle.bc_book.specs.Book.{BookView};
+    ghost use Rattle.bc_book.specs.Pass.{events_in};
+    ghost use Rattle.bc_book.specs.Told.{IsKept, HasRoom};
+
+    ghost Value = { BookView };
+
+    ghost view = { λ b. record { events = events_in b.pass; room = b.room } };
+
+    ghost invariant = { λ b. IsKept b.pass × HasRoom b.pass b.room
+        × (b.halted ≡ halt_of (events_in b.pass)) };
+}
+
+// The next places of its lists.
+fn places_of(pass: &Pass) -> Places
+    ensures { EndAt (kept_of pass.now) result }
+{
+    Places {
+        entries: pass.entries.as_slice().len(),
+        beside: pass.beside.as_slice().len(),
+        readings: pass.readings.as_slice().len(),
+        insertions: pass.insertions.as_slice().len(),
+        others: pass.others.as_slice().len(),
+    }
+}
+
+// Puts the item behind the others.
+fn put<T: Drop>(list: &mut Vec<T>, item: T)
+    requires { length list.old.items < vec_capacity list.old }
+    ensures items { list.new.items ≡ list.old.items ++ item ∷ [] }
+    ensures capacity { vec_capacity list.old ≤ vec_capacity list.new }
+{
+    let Ok(()) = list.push(item) else {
+        unreachable!()
+    };
+}
+
+// Puts what goes into a list that is neither the history nor that of the records.
+fn put_aside(pass: &mut Pass, aside: Aside)
+    requires { HasRoom pass.old 1 }
+    ensures kept { kept_of pass.new ≡ with_aside (kept_of pass.old) aside }
+    ensures entries { pass.new.entries ≡ pass.old.entries }
+    ensures records { pass.new.records ≡ pass.old.records }
+    ensures room { (n : ℕ) → HasRoom pass.old (n + 1) → HasRoom pass.new n }
+{
+    match aside {
+        Aside::Nothing => {}
+        Aside::Values(values) => put(&mut pass.beside, values),
+        Aside::Reading(reading) => put(&mut pass.readings, reading),
+        Aside::Insertion(insertion) => put(&mut pass.insertions, insertion),
+        Aside::Deed(deed) => put(&mut pass.others, deed),
+    }
+}
+
+// Puts what an event was taken apart into.
+fn put_told(pass: &mut Pass, told: Told)
+    requires { HasRoom pass.old 1 }
+    ensures kept { kept_of pass.new ≡ kept_after (kept_of pass.old) told }
+    ensures records { pass.new.records.items ≡ pass.old.records.items ++ told.record ∷ [] }
+    ensures room { (n : ℕ) → HasRoom pass.old (n + 1) → HasRoom pass.new n }
+{
+    let Told {
+        record,
+        entry,
+        aside,
+    } = told;
+    put_aside(pass, aside);
+    put(&mut pass.records, record);
+    match entry {
+        Some(entry) => put(&mut pass.entries, entry),
+        None => {}
+    }
+}
+
+// Makes room for so many events more.
+fn make_room(pass: &mut Pass, room: usize) -> Result<(), AllocError>
+    ensures kept { kept_of pass.new ≡ kept_of pass.old }
+    ensures records { pass.new.records.items ≡ pass.old.records.items }
+    ensures before { (n : ℕ) → HasRoom pass.old n → HasRoom pass.new n }
+    ensures room { OnOk result (HasRoom pass.new room) }
+{
+    pass.entries.reserve(room)?;
+    pass.records.reserve(room)?;
+    pass.beside.reserve(room)?;
+    pass.readings.reserve(room)?;
+    pass.insertions.reserve(room)?;
+    pass.others.reserve(room)?;
+    Ok(())
+}
+
+impl Book {
+    /// A book without events and without room.
+    pub fn new(alloc: Global) -> Book
+        ensures { (result.events ≡ []) × (result.room ≡ 0) }
+    {
+        let pass = Pass {
+            entries: Vec::new(alloc),
+            records: Vec::new(alloc),
+            beside: Vec::new(alloc),
+            readings: Vec::new(alloc),
+            insertions: Vec::new(alloc),
+            others: Vec::new(alloc),
+        };
+        Book {
+            pass,
+            room: 0,
+            halted: None,
+        }
+    }
+
+    /// The number of events.
+    pub fn count(&self) -> u64
+        ensures { result ≡ length self.now.events }
+    {
+        self.pass.records.as_slice().len() as u64
+    }
+
+    /// The device that halted the run: that of the first write or barrier that failed.
+    pub fn halted(&self) -> Option<Device>
+        ensures { result ≡ halt_of self.now.events }
+    {
+        self.halted
+    }
+
+    /// Puts the event behind the others. Takes no memory.
+    pub fn put_event(&mut self, event: Event)
+        requires { 0 < self.old.room }
+        ensures events { self.new.events ≡ self.old.events ++ event ∷ [] }
+        ensures room { self.new.room + 1 ≡ self.old.room }
+    {
+        let halted = halted_after(self.halted, &event);
+        let places = places_of(&self.pass);
+        let told = told_of(event, places);
+        put_told(&mut self.pass, told);
+        self.room -= 1;
+        self.halted = halted;
+    }
+
+    /// Makes room for so many events beyond those for which there is room. `Err` comes from want of
+    /// memory, or of numbers for it, and leaves the events as they are and as much room as before.
+    pub fn reserve(&mut self, more: usize) -> Result<(), AllocError>
+        ensures events { self.new.events ≡ self.old.events }
+        ensures room { MatchResult result (λ _. self.new.room ≡ self.old.room + more)
+            (λ _. self.new.room ≡ self.old.room) }
+    {
+        let room = self.room.checked_add(more).ok_or(AllocError)?;
+        make_room(&mut self.pass, room)?;
+        self.room = room;
+        Ok(())
+    }
+
+    /// Whether the event may stand behind the others: after a halt only a late one does. `Err`
+    /// names the device that halted the run.
+    pub fn admits(&self, event: &Event) -> Result<(), Device>
+        ensures { result ≡ verdict_of self.now.events event.now }
+    {
+        match self.halted {
+            Some(device) if !is_late(&event.deed) => Err(device),
+            _ => Ok(()),
+        }
+    }
+
+    /// What the run did.
+    pub fn into_pass(self) -> Pass
+        ensures events { events_in result ≡ self.events }
+        ensures entries { result.entries.items ≡ entries_of self.events }
+    {
+        self.pass
+    }
+}

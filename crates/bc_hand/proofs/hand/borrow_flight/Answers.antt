@@ -1,0 +1,16 @@
+use Rattle.std.proofs.Common.{◌≡◌, None, subst}
+use Rattle.bc_machine.specs.declared.part.CorePart.{CorePart}
+use Rattle.bc_machine.specs.World.{IsPart}
+use Rattle.bc_hand.specs.Seats.{world}
+use Rattle.bc_hand.proofs.Lending.{works_took_flight}
+use Rattle.bc_hand.proofs.hand.borrow_flight.Goals as goal
+
+pub returns-clause-lent : goal.returns-clause-lent
+returns-clause-lent g c =
+    let no : c.args.hand.now.flight ≡ None = cc in
+    let others = c.requires.order no in
+    let value = subst (λ (p : CorePart g.row.C.Denot g.row.B.Denot). IsPart g.C.Disk.facts g.B.Disk.facts 1 p
+    (world g.C.Disk.facts g.B.Disk.facts c.take-2.new.seat)) c.in-Flight.is c.take-2.ensures.value in
+    works_took_flight g.C.Disk.facts g.B.Disk.facts c.args.parts.now c.args.seat.now c.take-2.new.seat
+    c.args.hand.now c.in-Flight.flight c.requires.works no others.0 others.1 c.take-2.ensures.seat
+    c.take-2.ensures.waited c.take-2.ensures.parts value.1

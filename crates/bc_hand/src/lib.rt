@@ -1,0 +1,7 @@
+//! What a seat of the core has in hand, what it knows, and how it commits a deed.
+#![tactic(auto)]
+
+pub mod error;
+pub mod hand;
+pub mod laws;
+pub mod seat;

@@ -1,0 +1,5 @@
+pub mod Plain
+pub mod World
+pub mod Frame
+pub mod Note
+pub mod Bare
