@@ -80,6 +80,10 @@ try_words 'an unknown mode' 2 usage cache.img backing.img serve --mode fast
 try_words 'a cutoff one too large' 2 usage cache.img backing.img serve --cutoff=1099511627777
 try_words 'a block of three sectors' 2 usage cache.img backing.img format "${ids[@]}" --block 3 --bucket 64
 try_words 'a bucket beyond any number' 2 usage cache.img backing.img format "${ids[@]}" --block 1 --bucket 18446744073709551680
+try_words 'an unknown mode of a pair' 2 usage cache.img backing.img format "${ids[@]}" --mode fast
+try_words 'a mode twice' 2 usage cache.img backing.img format "${ids[@]}" --mode none --mode=none
+try_words 'an offset below 16' 2 usage cache.img backing.img format "${ids[@]}" --offset 15
+try_words 'an offset above 2^40' 2 usage cache.img backing.img format "${ids[@]}" --offset=1099511627777
 try_words 'a further word behind format' 2 usage cache.img backing.img format "${ids[@]}" --block 1 --bucket 64 now
 try_words 'a further word behind show' 2 usage cache.img backing.img show now
 try_words 'format over an empty cache file' 4 'superblock cache 7' cache.img backing.img format "${ids[@]}" --block 1 --bucket 64
@@ -138,10 +142,19 @@ truncate -s 4M cache.img
 try_words 'format over a backing file with no data sector' 4 'superblock backing 14' cache.img backing.img format "${ids[@]}" --block 1 --bucket 64
 new_files 80
 truncate -s 4M cache.img
+try_words 'an offset behind the last sector' 4 'superblock backing 14' cache.img backing.img format "${ids[@]}" --block 1 --bucket 64 --offset 80
+"$bcache" cache.img backing.img format "${ids[@]}" --block 1 --bucket 64 --offset 79 --mode=writeback
+"$bcache" cache.img backing.img show | grep -q '^backing version 4 offset 79 size 1 mode writeback state clean$' || { echo 'show of the last offset differs'; exit 1; }
 "$bcache" cache.img backing.img format "${ids[@]}" --block 1 --bucket 64
 try_words 'adopt of a pair in use' 4 'superblock cache 18' cache.img backing.img adopt
 try_words 'show to a sink that takes it' 0 "$("$bcache" cache.img backing.img show)" cache.img backing.img show
 try_trace 'a pair with a cache' 5 'unserved' '1 w 0 1 1\n'
+# The first sector of bucket 10 has the table of uuids, and that of bucket 1 the journal's only entry.
+dd if=/dev/zero of=cache.img bs=32K seek=10 count=1 conv=notrunc status=none
+try_trace 'a pair without a table of uuids' 5 'image 11' '1 w 0 1 1\n'
+dd if=/dev/zero of=cache.img bs=32K seek=1 count=1 conv=notrunc status=none
+try_trace 'a pair without a journal' 5 'image 2' '1 w 0 1 1\n'
+try_trace 'such a pair, and a trace that is refused' 3 'trace 1 3' 'w 0 1 1\n'
 change 60 '\x01'
 try_trace 'a pair whose superblock is torn' 4 'superblock backing 2' '1 w 0 1 1\n'
 memory=12000

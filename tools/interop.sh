@@ -103,25 +103,33 @@ adopted() {
     expect 'the state' "$(field backing.img dev.data.cache_state)" 1
     command_is 0 "$(shown 3 "$journal" 1 "$offset" "$version" "$mode" clean)" show
     command_is 4 'superblock cache 18' adopt
-    command_is 5 'image 2' serve
+    command_is 5 unserved serve
     expect 'the backing device but for its superblock, at the end' "$(others)" "$before"
 }
 
-# formatted NAME CACHE_SECTORS BACKING_SECTORS JOURNAL BLOCK BUCKET formats a pair.
+# formatted NAME CACHE_SECTORS BACKING_SECTORS JOURNAL BLOCK BUCKET MODE OFFSET formats a pair.
 formatted() {
     name="made by format, $1"
     new_files "$2" "$3"
-    local before set=0123456789abcdef0123456789abcdef
+    local before set=0123456789abcdef0123456789abcdef mode=$7 offset=$8 version=1 number
+    [ "$offset" = 16 ] || version=4
+    case $mode in
+        writethrough) number=0 ;;
+        writeback) number=1 ;;
+        writearound) number=2 ;;
+        *) number=3 ;;
+    esac
     before=$(others)
-    command_is 0 '' format --set "$set" --cuuid 11111111111111111111111111111111 --buuid 22222222222222222222222222222222 --block "$5" --bucket "$6"
+    command_is 0 '' format --set "$set" --cuuid 11111111111111111111111111111111 --buuid 22222222222222222222222222222222 --block "$5" --bucket "$6" \
+        --mode "$mode" --offset "$offset"
     expect 'the backing device but for its superblock' "$(others)" "$before"
     is_accepted cache.img 3
-    is_accepted backing.img 1
+    is_accepted backing.img "$version"
     expect 'the set' "$(plain "$(field cache.img cset.uuid)") $(plain "$(field backing.img cset.uuid)")" "$set $set"
     expect 'the sizes' "$(field cache.img dev.sectors_per_block) $(field cache.img dev.sectors_per_bucket)" "$5 $6"
-    expect 'the data' "$(field backing.img dev.data.first_sector)" 16
-    expect 'the mode and the state' "$(field backing.img dev.data.cache_mode) $(field backing.img dev.data.cache_state)" '0 1'
-    command_is 0 "$(shown 3 "$4" 1 16 1 writethrough clean)" show
+    expect 'the data' "$(field backing.img dev.data.first_sector)" "$offset"
+    expect 'the mode and the state' "$(field backing.img dev.data.cache_mode) $(field backing.img dev.data.cache_state)" "$number 1"
+    command_is 0 "$(shown 3 "$4" 1 "$offset" "$version" "$mode" clean)" show
 }
 
 adopted 'small'                 8192   4112 8  32k   512 writethrough 16
@@ -129,10 +137,10 @@ adopted 'blocks of 4 KiB'      65536  16384 8  64k   4k  writeback    16   --wri
 adopted 'a data offset'         8192   8192 8  32k   2k  writethrough 2048 --data-offset 2048
 adopted 'large buckets'       524288  16384 8  1024k 512 writeback    64   --writeback --data-offset 64
 adopted 'many buckets'        131072   4112 16 32k   512 writethrough 16
-formatted 'small'               8192   4112 8  1 64
-formatted 'blocks of 4 KiB'    65536  16384 8  8 128
-formatted 'the default bucket' 262144 16384 8  1 1024
-formatted 'many buckets'       131072  4112 16 2 64
+formatted 'small'               8192   4112 8  1 64   writethrough 16
+formatted 'blocks of 4 KiB'    65536  16384 8  8 128  writeback    16
+formatted 'the default bucket' 262144 16384 8  1 1024 writearound  2064
+formatted 'many buckets'       131072  4112 16 2 64   none         17
 
 [ "$differing" = 0 ] || { echo "$differing of $cases tests differ"; exit 1; }
 echo "ok: $cases tests"

@@ -4,6 +4,9 @@ use Rattle.std.proofs.Math.Nat.{add-mul, div-eq_of_lt, div-eq_of_lt-le, mul-le-m
 use Rattle.std.specs.Prelude.{replicate, Bool, true, false, ◌==◌, if◌then◌else◌, Result, Ok, Err, IsErrAnd, IfErr, bit_or, max, min}
 use Rattle.std.proofs.lemmas.Nat.{or_disjoint}
 use Rattle.std.proofs.lemmas.Nat.Bits.{and_pow}
+use Rattle.std.proofs.lemmas.Bool.{eqb-true}
+use Rattle.bc_mode.specs.declared.mode.Mode.{Mode}
+use Rattle.bc_mode.specs.declared.mode.Mode.TheVariants as modes
 use Rattle.bc_disk.specs.Device.{HasRisen}
 use Rattle.bc_disk.specs.Disk.{DiskFacts, IsCounted}
 use Rattle.bc_disk.specs.declared.disk.Device.{Device}
@@ -16,7 +19,7 @@ use Rattle.bc_prio.specs.Sizes.{records_in_set, sets_in_chain}
 use Rattle.bc_super.specs.Division.{IsGeometryOf}
 use Rattle.bc_super.specs.Layout.{IsLaidOut, buckets_of, per_set}
 use Rattle.bc_super.specs.Reading.{ReadsCache, ReadsSuper}
-use Rattle.bc_super.specs.Super.{IsUsable, state_number}
+use Rattle.bc_super.specs.Super.{IsBackingVersion, IsDataOffset, IsMode, IsUsable, mode_number, state_number}
 use Rattle.bc_super.specs.declared.backing.BackingSuper.{BackingSuper}
 use Rattle.bc_super.specs.declared.cache.CacheSuper.{CacheSuper}
 use Rattle.bc_super.specs.declared.error.SuperError.TheVariants as super
@@ -24,7 +27,7 @@ use Rattle.bc_super.specs.declared.geometry.Layout.{Layout}
 use Rattle.bc_super.proofs.Buckets.{quotient, wide}
 use Rattle.bc_pair.specs.Causes.{Adopts, AreKept, FaultRose, IsFormatRefused, IsWritingOf, good}
 use Rattle.bc_pair.specs.Found.{FindsAdopted, FindsNew, IsPair}
-use Rattle.bc_pair.specs.Made.{IsUnused, PairWritten, adopted_backing, adopted_cache, new_backing, new_cache, version_in_use}
+use Rattle.bc_pair.specs.Made.{IsUnused, PairWritten, adopted_backing, adopted_cache, flags_for, new_backing, new_cache, version_for, version_in_use}
 use Rattle.bc_pair.specs.Steps.{HasRoom, NamesBuckets}
 use Rattle.bc_pair.specs.declared.error.PairError.{PairError}
 use Rattle.bc_pair.specs.declared.error.PairError.TheVariants as errors
@@ -41,7 +44,49 @@ with_state flags none = or_disjoint flags 2305843009213693952 (and_pow flags 61 
 pub state_of : (flags : ℕ) → state_number flags ≡ 0 → state_number (flags + 2 ^ 61) ≢ 3
 state_of flags none = λ stale. absurd (omega arith)
 
+pub names_mode : (mode : Mode) → IsMode (mode_number (flags_for mode)) mode
+names_mode modes.Writethrough = inl refl
+names_mode modes.Writeback = refl
+names_mode modes.Writearound = refl
+names_mode modes.None = refl
+
+pub says_clean : (mode : Mode) → state_number (flags_for mode) ≡ 1
+says_clean modes.Writethrough = refl
+says_clean modes.Writeback = refl
+says_clean modes.Writearound = refl
+says_clean modes.None = refl
+
 -- ---- what may be written
+
+abbrev version_when : Bool → ℕ
+version_when b = if b then 1 else 4
+
+is_told : (offset : ℕ) → IsBackingVersion (version_for offset)
+is_told offset = either (offset == 16)
+  where
+    either : (b : Bool) → IsBackingVersion (version_when b)
+    either true = inl refl
+    either false = inr (inl refl)
+
+at_start : (offset : ℕ) → version_for offset ≡ 1 → offset ≡ 16
+at_start offset = either (offset == 16) refl
+  where
+    either : (b : Bool) → b ≡ (offset == 16) → version_when b ≡ 1 → offset ≡ 16
+    either true is one = eqb-true offset 16 (sym is)
+    either false is one = absurd (omega arith)
+
+pub new_backing_usable : (p : NewPair) (sectors : ℕ) → IsDataOffset sectors p.offset → IsUsable sectors (new_backing p)
+new_backing_usable p sectors within = record {
+  version = is_told p.offset;
+  fixed = at_start p.offset;
+  data_offset = within;
+  state = λ stale. absurd (omega (arith, says_clean p.mode));
+}
+
+pub new_superblocks : (p : NewPair) (c : CacheSuper) (b : BackingSuper) (sectors : ℕ) (l : Layout) → c ≡ new_cache p l → b ≡ new_backing p → IsLaidOut sectors l → HasSuperblocks b c
+new_superblocks p c b sectors l is is' laid =
+    subst (λ (b : BackingSuper). HasSuperblocks b c) (sym is') (subst (λ (c : CacheSuper). HasSuperblocks (new_backing p) c) (sym is)
+    (record { initialised = (refl, omega (arith, laid.journal)); same_set = refl; state = inl (says_clean p.mode) }))
 
 module _ (sectors : ℕ) (l : Layout) (laid : IsLaidOut sectors l) where
   pub room_of : l.geometry.bucket * l.geometry.nbuckets ≤ sectors

@@ -48,7 +48,7 @@ IsFormatRefused p cache backing d why =
     (Unless (128 ≤ buckets_of cache p.bucket) ((d ≡ device.Cache) × (why ≡ super.FewBuckets))
     (Unless (p.set_uuid ≢ replicate 16 0) ((d ≡ device.Cache) × (why ≡ super.ZeroUuid))
     (Unless (16 ≤ backing) ((d ≡ device.Backing) × (why ≡ super.DeviceSmall))
-    (Unless (IsDataOffset backing 16) ((d ≡ device.Backing) × (why ≡ super.DataOffset)) ⊥)))))
+    (Unless (IsDataOffset backing p.offset) ((d ≡ device.Backing) × (why ≡ super.DataOffset)) ⊥)))))
 
 -- want of memory is free
 abbrev pub IsFormatCause : NewPair → PairError → ℕ → ℕ → Type 0

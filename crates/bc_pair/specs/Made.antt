@@ -4,6 +4,8 @@ use Rattle.bc_model.specs.Sector.{Image, values_of}
 use Rattle.bc_disk.specs.Disk.{DiskFacts, IfTold, BothTold}
 use Rattle.bc_disk.specs.declared.disk.Device.{Device}
 use Rattle.bc_disk.specs.declared.disk.Device.TheVariants as device
+use Rattle.bc_mode.specs.declared.mode.Mode.{Mode}
+use Rattle.bc_mode.specs.declared.mode.Mode.TheVariants as modes
 use Rattle.bc_super.specs.Super.{state_number}
 use Rattle.bc_super.specs.Writing.{IsBackingStored, IsBackingTorn, IsCacheBytes, AreCounted}
 use Rattle.bc_super.specs.declared.backing.BackingSuper.{BackingSuper}
@@ -35,18 +37,33 @@ new_cache p l = record {
   journal = l.geometry.journal;
 }
 
--- writethrough, and clean
+-- the number by which flags name a mode
+abbrev pub mode_bits : Mode → ℕ
+mode_bits modes.Writethrough = 0
+mode_bits modes.Writeback = 1
+mode_bits modes.Writearound = 2
+mode_bits modes.None = 3
+
+-- of this mode, and clean
+abbrev pub flags_for : Mode → ℕ
+flags_for mode = mode_bits mode + 2 ^ 61
+
+-- By version 1 data begins at sector 16, so another place is told by version 4.
+abbrev pub version_for : ℕ → ℕ
+version_for offset = if offset == 16 then 1 else 4
+
+-- in its mode, clean, and with its data where it is to begin
 abbrev pub new_backing : NewPair → BackingSuper
 new_backing p = record {
-  version = 1;
+  version = version_for p.offset;
   uuid = p.backing_uuid;
   set_uuid = p.set_uuid;
   label = replicate 32 0;
-  flags = 2 ^ 61;
+  flags = flags_for p.mode;
   seq = 0;
   block = p.block;
   last_mount = 0;
-  data_offset = 16;
+  data_offset = p.offset;
 }
 
 -- a pair that another tool formatted and that no cache was set up for

@@ -1,6 +1,7 @@
 //! A new pair.
-ghost use Rattle.std.specs.Prelude.{◌≡◌, ◌≢◌, ◌<◌, IfOk, IfErr, OnOk, Err, replicate};
+ghost use Rattle.std.specs.Prelude.{◌≡◌, ◌≢◌, IfOk, IfErr, OnOk, Err, replicate};
 ghost use Rattle.bc_super.specs.Layout.{IsLaidOut};
+ghost use Rattle.bc_super.specs.Super.{IsDataOffset};
 ghost use Rattle.bc_pair.specs.Causes.{FaultRose, Formats, IsFormatCause, KeepsOthers, UnlessFault};
 ghost use Rattle.bc_pair.specs.Found.{FindsNew};
 ghost use Rattle.bc_pair.specs.Made.{new_backing, new_cache};
@@ -8,7 +9,7 @@ ghost use Rattle.bc_pair.specs.Steps.{RefusesFormat};
 ghost use Rattle.bc_pair.specs.declared.error.PairError.TheVariants as errors;
 
 use crate::error::PairError;
-use crate::flags::{CLEAN, SET_UP};
+use crate::flags::{SET_UP, flags_for};
 pub use crate::pair::NewPair;
 use crate::records::Records;
 use crate::write::write_pair;
@@ -21,8 +22,14 @@ use bc_super::geometry::Layout;
 use bc_super::layout::layout;
 use std::alloc::Global;
 
-/// The sector at which the data of a new backing device begins.
-const DATA_OFFSET: u64 = 16;
+/// The first sector at which the data of a backing device may begin. By version 1 it begins there.
+const DATA_START: u64 = 16;
+
+/// The version of a backing device whose data begins at `DATA_START`.
+const FIXED_VERSION: u64 = 1;
+
+/// The version of a backing device that tells where its data begins.
+const OFFSET_VERSION: u64 = 4;
 
 // Why no pair is made, and nothing was written.
 fn refused(device: Device, why: SuperError) -> Result<Layout, PairError>
@@ -35,7 +42,7 @@ fn refused(device: Device, why: SuperError) -> Result<Layout, PairError>
 fn check(cache: u64, backing: u64, pair: &NewPair) -> Result<Layout, PairError>
     ensures laid_out { IfOk result (λ l. IsLaidOut cache l) }
     ensures sizes { IfOk result (λ l. (l.geometry.block ≡ pair.now.block) × (l.geometry.bucket ≡ pair.now.bucket)) }
-    ensures fits { OnOk result ((pair.now.set_uuid ≢ replicate 16 0) × (16 < backing)) }
+    ensures fits { OnOk result ((pair.now.set_uuid ≢ replicate 16 0) × IsDataOffset backing pair.now.offset) }
     ensures refused { IfErr result (λ e. RefusesFormat pair.now e cache backing) }
 {
     let l = match layout(cache, pair.block, pair.bucket) {
@@ -45,10 +52,10 @@ fn check(cache: u64, backing: u64, pair: &NewPair) -> Result<Layout, PairError>
     if pair.set_uuid == [0; 16] {
         return refused(Device::Cache, SuperError::ZeroUuid);
     }
-    if backing < DATA_OFFSET {
+    if backing < DATA_START {
         return refused(Device::Backing, SuperError::DeviceSmall);
     }
-    if backing == DATA_OFFSET {
+    if pair.offset < DATA_START || backing <= pair.offset {
         return refused(Device::Backing, SuperError::DataOffset);
     }
     Ok(l)
@@ -75,33 +82,38 @@ fn new_cache(pair: &NewPair, l: &Layout) -> CacheSuper
     }
 }
 
-// The superblock of a backing device in mode writethrough.
+// The superblock of a backing device of this mode, whose data begins where it is to.
 fn new_backing(pair: &NewPair) -> BackingSuper
     ensures { result ≡ new_backing pair.now }
 {
     BackingSuper {
-        version: 1,
+        version: if pair.offset == DATA_START {
+            FIXED_VERSION
+        } else {
+            OFFSET_VERSION
+        },
         uuid: pair.backing_uuid,
         set_uuid: pair.set_uuid,
         label: [0; 32],
-        flags: CLEAN,
+        flags: flags_for(pair.mode),
         seq: 0,
         block: pair.block,
         last_mount: 0,
-        data_offset: DATA_OFFSET,
+        data_offset: pair.offset,
     }
 }
 
 /// Makes a pair of these two devices: the cache device is divided as `layout` says and has an empty
-/// index; the backing device keeps its data, which begins at sector 16, in mode writethrough and
-/// state clean. The records are written first: the journal with entry 1, the priority sets, the uuid
-/// table, the root and its leaf; then the superblock of the cache device, and last that of the
-/// backing device.
+/// index; the backing device keeps its data, which begins at the pair's `offset`, and says its mode
+/// and that it is clean. The records are written first: the journal with entry 1, the priority sets,
+/// the uuid table, the root and its leaf; then the superblock of the cache device, and last that of
+/// the backing device, of version 1 where the offset is 16, and else of version 4.
 ///
 /// `Superblock` comes before anything is written, for the first of these that holds: of the cache
 /// device `Block`, `Bucket`, `FewBuckets` (fewer than 128) and `ZeroUuid`; of the backing device
-/// `DeviceSmall` (fewer than 16 sectors) and `DataOffset` (no sector behind those). Nothing is
-/// written either where there is no memory for a bucket. After `Fault` what was written stands.
+/// `DeviceSmall` (fewer than 16 sectors) and `DataOffset` (the offset is below 16, or there is no
+/// sector from it on). Nothing is written either where there is no memory for a bucket. After
+/// `Fault` what was written stands.
 pub fn format<C: Disk, B: Disk>(
     alloc: Global,
     cache: &mut C,

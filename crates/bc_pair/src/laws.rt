@@ -6,12 +6,11 @@ ghost use Rattle.bc_pair.specs.Found.{IsPair, OfEachPair};
 ghost use Rattle.bc_model.specs.Sector.{Image};
 ghost use Rattle.bc_super.specs.Cache.{IsInitialised};
 ghost use Rattle.bc_super.specs.Layout.{IsLaidOut};
-ghost use Rattle.bc_super.specs.Super.{IsMode, IsState, mode_number, state_number};
+ghost use Rattle.bc_super.specs.Super.{IsDataOffset, IsMode, IsState, IsUsable, mode_number, state_number};
 ghost use Rattle.bc_super.specs.declared.backing.BackingSuper.{BackingSuper};
 ghost use Rattle.bc_super.specs.declared.cache.CacheSuper.{CacheSuper};
 ghost use Rattle.bc_super.specs.declared.geometry.Layout.{Layout};
 ghost use Rattle.bc_mode.specs.declared.mode.Mode.{Mode};
-ghost use Rattle.bc_mode.specs.declared.mode.Mode.TheVariants as modes;
 ghost use Rattle.bc_super.specs.declared.state.BackingState.TheVariants as states;
 ghost use Rattle.bc_disk.specs.declared.geometry.Geometry.{Geometry};
 ghost use Rattle.bc_pair.specs.Records.{IsRecordSector};
@@ -20,13 +19,15 @@ ghost use Rattle.bc_pair.specs.declared.pair.NewPair.{NewPair};
 
 use bc_disk::disk::Disk;
 
-/// In a new pair the cache is set up and has a journal, and the backing device of the same set is in
-/// mode writethrough and clean.
+/// In a new pair the cache is set up and has a journal, and the backing device of the same set is
+/// clean, of the mode that it was to have, and has its data where that was to begin.
 pub fn new_pair_is_set_up()
     ensures cache { (p : NewPair) (sectors : ℕ) (l : Layout) → IsLaidOut sectors l → IsInitialised (new_cache p l) }
     ensures one_set { (p : NewPair) (l : Layout) → (new_backing p).set_uuid ≡ (new_cache p l).set_uuid }
-    ensures mode { (p : NewPair) → IsMode (mode_number (new_backing p).flags) modes.Writethrough }
+    ensures mode { (p : NewPair) → IsMode (mode_number (new_backing p).flags) p.mode }
     ensures state { (p : NewPair) → IsState (state_number (new_backing p).flags) states.Clean }
+    ensures data { (p : NewPair) (sectors : ℕ) → IsDataOffset sectors p.offset
+        → IsUsable sectors (new_backing p) × ((new_backing p).data_offset ≡ p.offset) }
 {}
 
 /// A pair that is adopted comes to the same, but keeps its mode.

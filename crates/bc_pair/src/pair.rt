@@ -1,6 +1,8 @@
 //! What a new pair is to be.
 ghost use Rattle.std.specs.Prelude.{◌≡◌, length};
 
+use bc_mode::Mode;
+
 /// What a new pair is to be.
 #[derive(Clone, Copy, Debug, PartialEq, Eq, Drop)]
 pub struct NewPair {
@@ -14,6 +16,10 @@ pub struct NewPair {
     pub block: u16,
     /// The sectors of a bucket, a power of two from 64 to 32,768.
     pub bucket: u16,
+    /// The mode that the backing device names.
+    pub mode: Mode,
+    /// The sector of the backing device at which its data begins, from 16 on.
+    pub offset: u64,
     pub ghost set_whole: { length set_uuid ≡ 16 },
     pub ghost cache_whole: { length cache_uuid ≡ 16 },
     pub ghost backing_whole: { length backing_uuid ≡ 16 },

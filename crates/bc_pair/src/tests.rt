@@ -7,9 +7,11 @@ use crate::format::{NewPair, format};
 use crate::show::show_pair;
 use bc_disk::disk::{Device, Disk};
 use bc_disk::mem_disk::MemDisk;
+use bc_mode::Mode;
 use bc_super::backing::{BackingSuper, read_backing};
 use bc_super::cache::{CacheSuper, read_cache};
 use bc_super::error::SuperError;
+use bc_super::state::BackingState;
 use std::alloc::{AllocError, Global};
 use std::process::Abort;
 use std::test::Fail;
@@ -62,6 +64,8 @@ fn pair_of(set: u8) -> NewPair {
         backing_uuid: [3; 16],
         block: 1,
         bucket: 64,
+        mode: Mode::Writethrough,
+        offset: 16,
     }
 }
 
@@ -184,6 +188,8 @@ fn worked_layout(rt: HostRuntime) -> Result<(), Fail> {
         backing_uuid: [3; 16],
         block: 1,
         bucket: 64,
+        mode: Mode::Writethrough,
+        offset: 16,
     };
     format(rt.alloc(), &mut cache, &mut backing, &pair)?;
     assert!(rt;
@@ -253,17 +259,73 @@ fn adopted_pair(rt: HostRuntime) -> Result<(), Fail> {
     Ok(())
 }
 
+// A pair whose backing device names a mode, and whose data begins at a sector.
+#[test]
+fn modes_and_offsets(rt: HostRuntime) -> Result<(), Fail> {
+    for (mode, number, offset, version, wanted) in [
+        (
+            Mode::Writeback,
+            1,
+            16,
+            1,
+            "version 1 offset 16 size 4096 mode writeback",
+        ),
+        (
+            Mode::Writearound,
+            2,
+            17,
+            4,
+            "version 4 offset 17 size 4095 mode writearound",
+        ),
+        (
+            Mode::None,
+            3,
+            4111,
+            4,
+            "version 4 offset 4111 size 1 mode none",
+        ),
+        (
+            Mode::Writethrough,
+            0,
+            2064,
+            4,
+            "version 4 offset 2064 size 2048 mode writethrough",
+        ),
+    ] {
+        let mut cache = disk(&rt, rt.alloc(), 8192, &[])?;
+        let mut backing = disk(&rt, rt.alloc(), 4112, &[])?;
+        let mut pair = pair_of(1);
+        pair.mode = mode;
+        pair.offset = offset;
+        format(rt.alloc(), &mut cache, &mut backing, &pair)?;
+        let b = read_backing(&mut backing)?;
+        assert_eq!(rt;
+            (b.version, b.flags, b.data_offset),
+            (version, number | (1 << 61), offset)
+        );
+        assert_eq!(rt; (b.mode(), b.state()), (mode, BackingState::Clean));
+        let text = show_pair(rt.alloc(), &mut cache, &mut backing)?;
+        assert!(rt; text.as_str().contains(wanted), "{text}");
+        assert!(rt; keeps_data(&backing));
+    }
+    Ok(())
+}
+
 #[test]
 fn refused_pairs(rt: HostRuntime) -> Result<(), Fail> {
-    for (sectors, others, set, device, why) in [
-        (8191, 15, 0, Device::Cache, SuperError::FewBuckets),
-        (8192, 15, 0, Device::Cache, SuperError::ZeroUuid),
-        (8192, 15, 1, Device::Backing, SuperError::DeviceSmall),
-        (8192, 16, 1, Device::Backing, SuperError::DataOffset),
+    for (sectors, others, offset, set, device, why) in [
+        (8191, 15, 15, 0, Device::Cache, SuperError::FewBuckets),
+        (8192, 15, 15, 0, Device::Cache, SuperError::ZeroUuid),
+        (8192, 15, 15, 1, Device::Backing, SuperError::DeviceSmall),
+        (8192, 16, 16, 1, Device::Backing, SuperError::DataOffset),
+        (8192, 17, 15, 1, Device::Backing, SuperError::DataOffset),
+        (8192, 2048, 2048, 1, Device::Backing, SuperError::DataOffset),
     ] {
         let mut cache = disk(&rt, rt.alloc(), sectors, &[])?;
         let mut backing = disk(&rt, rt.alloc(), others, &[])?;
-        let made = format(rt.alloc(), &mut cache, &mut backing, &pair_of(set));
+        let mut pair = pair_of(set);
+        pair.offset = offset;
+        let made = format(rt.alloc(), &mut cache, &mut backing, &pair);
         assert_eq!(rt; made, Err(PairError::Superblock { device, why }));
         assert_eq!(rt; (cache.calls(), backing.calls()), (0, 0));
     }

@@ -9,6 +9,7 @@ ghost use Rattle.bc_plain_pair.specs.PairBytes.{AreSectors};
 use bc_bytes::{crc64, get_u16, get_u32, put_u32, put_u64};
 use bc_disk::mem_disk::MemDisk;
 use bc_keys::put_words;
+use bc_mode::Mode;
 use bc_pair::error::PairError;
 use bc_pair::format::{NewPair, format};
 use std::alloc::{AllocError, Global};
@@ -64,6 +65,8 @@ pub fn new_pair(alloc: Global) -> Result<(Vec<u8>, Vec<u8>), PairError>
         backing_uuid: [3; 16],
         block: 1,
         bucket: 64,
+        mode: Mode::Writethrough,
+        offset: 16,
     };
     format(alloc, &mut cache, &mut backing, &pair)?;
     let first = bytes_of(alloc, &cache)?;

@@ -8,7 +8,7 @@ use Rattle.clap.specs.Words.{Row, Text, first_of, subcommand_of}
 use Rattle.bc_words.specs.Program.{program}
 use Rattle.bc_words.specs.Reading.{Reads, ReadsValues}
 use Rattle.bc_words.specs.declared.error.WordsError.{WordsError}
-use Rattle.bc_words.specs.Words.{AreOptions, AreParsed, IsFormat, IsInRange, IsModeIfGiven, IsNumberOr, SaysFormat, SaysOptions, SaysValues, Spells, name_of}
+use Rattle.bc_words.specs.Words.{AreOptions, AreParsed, IsFormat, IsInRange, IsModeIfGiven, IsModeOr, IsNumberOr, SaysFormat, SaysOptions, SaysValues, Spells, name_of}
 use Rattle.bc_words.specs.declared.command.Command.{Command}
 use Rattle.bc_words.specs.declared.command.Command.TheVariants.{Format, Adopt, Show, Serve}
 use Rattle.bc_words.specs.declared.command.Options.{Options}
@@ -40,6 +40,10 @@ mode_injective modes.None modes.Writeback same = cc
 mode_injective modes.None modes.Writearound same = cc
 mode_injective modes.None modes.None same = refl
 
+mode_named : (default : Mode) (word : Option Text) (a b : Mode) → IsModeOr default word a → IsModeOr default word b → a ≡ b
+mode_named default None a b is is' = is ∙ sym is'
+mode_named default (Some word) a b is is' = mode_injective a b (sym is ∙ is')
+
 one_mode : (word : Option Text) (a b : Option Mode) → IsModeIfGiven word a → IsModeIfGiven word b → a ≡ b
 one_mode None None None is is' = refl
 one_mode None None (Some b) is is' = absurd is'
@@ -58,9 +62,9 @@ adopt_serve same = apart 97 115 refl refl (ap (λ (t : Text). get_or t 0 0) same
 one_uuid : (found : Option Text) (a b : Text) → found ≡ Some a → found ≡ Some b → a ≡ b
 one_uuid found a b is is' = cc
 
-one_format : (rows : List Row) (s c u s' c' u' : List ℕ) (n k n' k' : ℕ) → IsFormat s c u n k → IsFormat s' c' u' n' k'
-    → SaysFormat rows s c u n k → SaysFormat rows s' c' u' n' k' → Format s c u n k ≡ Format s' c' u' n' k'
-one_format rows s c u s' c' u' n k n' k' p q said said' =
+one_format : (rows : List Row) (s c u s' c' u' : List ℕ) (n k n' k' : ℕ) (m m' : Mode) (o o' : ℕ) → IsFormat s c u n k o → IsFormat s' c' u' n' k' o'
+    → SaysFormat rows s c u n k m o → SaysFormat rows s' c' u' n' k' m' o' → Format s c u n k m o ≡ Format s' c' u' n' k' m' o'
+one_format rows s c u s' c' u' n k n' k' m m' o o' p q said said' =
     let set : s ≡ s' = uuid_injective s s' p.is_set q.is_set (one_uuid _ _ _ said.says_set said'.says_set) in
     let cuuid : c ≡ c' = uuid_injective c c' p.is_cuuid q.is_cuuid (one_uuid _ _ _ said.says_cuuid said'.says_cuuid) in
     let buuid : u ≡ u' = uuid_injective u u' p.is_buuid q.is_buuid (one_uuid _ _ _ said.says_buuid said'.says_buuid) in
@@ -70,6 +74,10 @@ one_format rows s c u s' c' u' n k n' k' p q said said' =
     let high' = q.is_bucket.within.high in
     let block : n ≡ n' = one_number 1 (first_of (codes "block") rows) n n' (omega arith) (omega arith) said.says_block said'.says_block in
     let bucket : k ≡ k' = one_number 1024 (first_of (codes "bucket") rows) k k' (omega arith) (omega arith) said.says_bucket said'.says_bucket in
+    let mode : m ≡ m' = mode_named modes.Writethrough (first_of (codes "mode") rows) m m' said.says_mode said'.says_mode in
+    let far = p.is_offset.high in
+    let far' = q.is_offset.high in
+    let offset : o ≡ o' = one_number 16 (first_of (codes "offset") rows) o o' (omega arith) (omega arith) said.says_offset said'.says_offset in
     cc
 
 same_options : (a b : Options) → a.mode ≡ b.mode → a.cutoff ≡ b.cutoff → a.slots ≡ b.slots → a ≡ b
@@ -90,19 +98,19 @@ one_options rows a b p q said said' =
 
 -- what one row of values says under one name
 pub one_value : (rows : List Row) (a b : Command) → IsInRange a → IsInRange b → name_of a ≡ name_of b → SaysValues rows a → SaysValues rows b → a ≡ b
-one_value rows (Format s c u n k) (Format s' c' u' n' k') p q same said said' = one_format rows s c u s' c' u' n k n' k' p q said said'
-one_value rows (Format s c u n k) Adopt p q same said said' = cc
-one_value rows (Format s c u n k) Show p q same said said' = cc
-one_value rows (Format s c u n k) (Serve o) p q same said said' = cc
-one_value rows Adopt (Format s c u n k) p q same said said' = cc
+one_value rows (Format s c u n k m o) (Format s' c' u' n' k' m' o') p q same said said' = one_format rows s c u s' c' u' n k n' k' m m' o o' p q said said'
+one_value rows (Format s c u n k m o) Adopt p q same said said' = cc
+one_value rows (Format s c u n k m o) Show p q same said said' = cc
+one_value rows (Format s c u n k m o) (Serve given) p q same said said' = cc
+one_value rows Adopt (Format s c u n k m o) p q same said said' = cc
 one_value rows Adopt Adopt p q same said said' = refl
 one_value rows Adopt Show p q same said said' = cc
 one_value rows Adopt (Serve o) p q same said said' = absurd (adopt_serve same)
-one_value rows Show (Format s c u n k) p q same said said' = cc
+one_value rows Show (Format s c u n k m o) p q same said said' = cc
 one_value rows Show Adopt p q same said said' = cc
 one_value rows Show Show p q same said said' = refl
 one_value rows Show (Serve o) p q same said said' = cc
-one_value rows (Serve o) (Format s c u n k) p q same said said' = cc
+one_value rows (Serve given) (Format s c u n k m o) p q same said said' = cc
 one_value rows (Serve o) Adopt p q same said said' = absurd (adopt_serve (sym same))
 one_value rows (Serve o) Show p q same said said' = cc
 one_value rows (Serve o) (Serve o') p q same said said' = ap Serve (one_options rows o o' p q said said')
@@ -128,8 +136,8 @@ read_again words (Ok found) command reads range is = one_command words found com
 read_again words (Err e) command reads range is = tt
 
 -- behind `format` stand the values of no other command
-pub no_format : (rows : List Row) → ((s c u : Text) (n k : ℕ) → IsFormat s c u n k → SaysFormat rows s c u n k → ⊥) → ReadsValues (codes "format") rows None
-no_format rows none (Format s c u n k) range named said = none s c u n k range said
+pub no_format : (rows : List Row) → ((s c u : Text) (n k : ℕ) (m : Mode) (o : ℕ) → IsFormat s c u n k o → SaysFormat rows s c u n k m o → ⊥) → ReadsValues (codes "format") rows None
+no_format rows none (Format s c u n k m o) range named said = none s c u n k m o range said
 no_format rows none Adopt range named said = cc
 no_format rows none Show range named said = cc
 no_format rows none (Serve o) range named said = cc

@@ -10,9 +10,9 @@ abbrev pub required : Text → Rule
 required name = record (optional name) { required = true }
 
 abbrev pub format_app : App
-format_app = with_rule (with_rule (with_rule (with_rule (with_rule (new_app (codes "format"))
+format_app = with_rule (with_rule (with_rule (with_rule (with_rule (with_rule (with_rule (new_app (codes "format"))
     (required (codes "set"))) (required (codes "cuuid"))) (required (codes "buuid")))
-    (optional (codes "block"))) (optional (codes "bucket"))
+    (optional (codes "block"))) (optional (codes "bucket"))) (optional (codes "mode"))) (optional (codes "offset"))
 
 abbrev pub serve_app : App
 serve_app = with_rule (with_rule (with_rule (new_app (codes "serve"))

@@ -9,6 +9,7 @@ use Rattle.bc_words.specs.declared.command.Command.{Command}
 use Rattle.bc_words.specs.declared.command.Command.TheVariants.{Format, Adopt, Show, Serve}
 use Rattle.bc_words.specs.declared.command.Options.{Options}
 use Rattle.bc_mode.specs.declared.mode.Mode.{Mode}
+use Rattle.bc_mode.specs.declared.mode.Mode.TheVariants.{Writethrough}
 use Rattle.bc_mode.specs.Mode.{mode_text}
 
 -- ---- what clap makes of the words
@@ -25,6 +26,10 @@ abbrev pub IsNumberOr : ℕ → Option Text → ℕ → Type 0
 IsNumberOr default None number = number ≡ default
 IsNumberOr default (Some word) number = word ≡ decimal number
 
+abbrev pub IsModeOr : Mode → Option Text → Mode → Type 0
+IsModeOr default None mode = mode ≡ default
+IsModeOr default (Some word) mode = word ≡ mode_text mode
+
 abbrev pub IsModeIfGiven : Option Text → Option Mode → Type 0
 IsModeIfGiven None None = Unit {0}
 IsModeIfGiven None (Some mode) = ⊥
@@ -32,12 +37,14 @@ IsModeIfGiven (Some word) None = ⊥
 IsModeIfGiven (Some word) (Some mode) = word ≡ mode_text mode
 
 -- a uuid is written as two lower-case hexadecimal digits for each byte
-pub record SaysFormat (rows : List Row) (set cuuid buuid : List ℕ) (block bucket : ℕ) : Type 0 where
+pub record SaysFormat (rows : List Row) (set cuuid buuid : List ℕ) (block bucket : ℕ) (mode : Mode) (offset : ℕ) : Type 0 where
   pub says_set : first_of (codes "set") rows ≡ Some (encode_lower set)
   pub says_cuuid : first_of (codes "cuuid") rows ≡ Some (encode_lower cuuid)
   pub says_buuid : first_of (codes "buuid") rows ≡ Some (encode_lower buuid)
   pub says_block : IsNumberOr 1 (first_of (codes "block") rows) block
   pub says_bucket : IsNumberOr 1024 (first_of (codes "bucket") rows) bucket
+  pub says_mode : IsModeOr Writethrough (first_of (codes "mode") rows) mode
+  pub says_offset : IsNumberOr 16 (first_of (codes "offset") rows) offset
 
 pub record SaysOptions (rows : List Row) (options : Options) : Type 0 where
   pub mode : IsModeIfGiven (first_of (codes "mode") rows) options.mode
@@ -45,13 +52,13 @@ pub record SaysOptions (rows : List Row) (options : Options) : Type 0 where
   pub slots : IsNumberOr 1024 (first_of (codes "slots") rows) options.slots
 
 abbrev pub name_of : Command → Text
-name_of (Format set cuuid buuid block bucket) = codes "format"
+name_of (Format set cuuid buuid block bucket mode offset) = codes "format"
 name_of Adopt = codes "adopt"
 name_of Show = codes "show"
 name_of (Serve options) = codes "serve"
 
 abbrev pub SaysValues : List Row → Command → Type 0
-SaysValues rows (Format set cuuid buuid block bucket) = SaysFormat rows set cuuid buuid block bucket
+SaysValues rows (Format set cuuid buuid block bucket mode offset) = SaysFormat rows set cuuid buuid block bucket mode offset
 SaysValues rows Adopt = Unit {0}
 SaysValues rows Show = Unit {0}
 SaysValues rows (Serve options) = SaysOptions rows options
@@ -77,14 +84,16 @@ pub record IsSize (least most size : ℕ) : Type 0 where
   pub power : IsPowerOfTwo size
   pub within : IsWithin least most size
 
--- what `format` may be given: a set whose uuid isn't all zero, and the sizes of a block and a bucket in sectors
-pub record IsFormat (set cuuid buuid : List ℕ) (block bucket : ℕ) : Type 0 where
+-- what `format` may be given: a set whose uuid isn't all zero, the sizes of a block and a bucket in sectors, and the
+-- sector at which the data begins
+pub record IsFormat (set cuuid buuid : List ℕ) (block bucket offset : ℕ) : Type 0 where
   pub is_set : IsUuid set
   pub not_zero : set ≢ replicate 16 0
   pub is_cuuid : IsUuid cuuid
   pub is_buuid : IsUuid buuid
   pub is_block : IsSize 1 8 block
   pub is_bucket : IsSize 64 32768 bucket
+  pub is_offset : IsWithin 16 (2 ^ 40) offset
 
 -- what `serve` may be given
 pub record AreOptions (options : Options) : Type 0 where
@@ -92,7 +101,7 @@ pub record AreOptions (options : Options) : Type 0 where
   pub is_slots : IsWithin 1 1024 options.slots
 
 abbrev pub IsInRange : Command → Type 0
-IsInRange (Format set cuuid buuid block bucket) = IsFormat set cuuid buuid block bucket
+IsInRange (Format set cuuid buuid block bucket mode offset) = IsFormat set cuuid buuid block bucket offset
 IsInRange Adopt = Unit {0}
 IsInRange Show = Unit {0}
 IsInRange (Serve options) = AreOptions options

@@ -16,6 +16,10 @@ pub enum Command {
         block: u16,
         /// Sectors in a bucket: a power of two from 64 to 32,768.
         bucket: u16,
+        /// The mode that the backing device is to name.
+        mode: Mode,
+        /// The sector of the backing device at which its data is to begin: 16 to 2^40.
+        offset: u64,
     },
     /// Take two devices that another tool made ready into use.
     Adopt,

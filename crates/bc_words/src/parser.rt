@@ -35,7 +35,9 @@ fn format_parser<'a>(alloc: Global) -> Result<Command<'a>, AllocError>
         .arg(required(alloc, "cuuid"))?
         .arg(required(alloc, "buuid"))?
         .arg(optional(alloc, "block"))?
-        .arg(optional(alloc, "bucket"))
+        .arg(optional(alloc, "bucket"))?
+        .arg(optional(alloc, "mode"))?
+        .arg(optional(alloc, "offset"))
 }
 
 fn serve_parser<'a>(alloc: Global) -> Result<Command<'a>, AllocError>

@@ -3,7 +3,7 @@ ghost use Rattle.std.specs.Prelude.{◌≡◌, ◌≤◌, ◌<◌, ◌^◌, ℕ,
 ghost use Rattle.std.specs.Fmt.{decimal};
 ghost use Rattle.hex.specs.Hex.{encode_lower};
 ghost use Rattle.clap.specs.Words.{first_of, first_value, found_of, rows_of};
-ghost use Rattle.bc_words.specs.Words.{IsNumberOr, IsModeIfGiven, IsUuid, IsSize, IsWithin, IsInRange, Spells};
+ghost use Rattle.bc_words.specs.Words.{IsNumberOr, IsModeIfGiven, IsModeOr, IsUuid, IsSize, IsWithin, IsInRange, Spells};
 ghost use Rattle.bc_words.specs.Reading.{IsCause, Reads, ReadsOptions, ReadsValues};
 ghost use Rattle.bc_words.specs.declared.command.Command.{Command};
 ghost use Rattle.bc_mode.specs.declared.mode.Mode.{Mode};
@@ -23,6 +23,10 @@ const MOST_BLOCK: u64 = 8;
 const LEAST_BUCKET: u64 = 64;
 // The most sectors of a bucket.
 const MOST_BUCKET: u64 = 32_768;
+// The fewest sectors before the data.
+const LEAST_OFFSET: u64 = 16;
+// The most sectors before the data.
+const MOST_OFFSET: u64 = 1 << 40;
 // The most sectors of a cutoff.
 const MOST_CUTOFF: u64 = 1 << 40;
 // The most slots.
@@ -116,6 +120,18 @@ fn mode_if_given(word: Option<&str>) -> Option<Option<Mode>>
     }
 }
 
+// The mode that a word names, or the default where there is no word.
+fn mode_or(default: Mode, word: Option<&str>) -> Option<Mode>
+    ensures { MatchOption result
+        ((mode : Mode) → IsModeOr default (option_map (λ s. s.now) word.entry) mode → ⊥)
+        (λ mode. IsModeOr default (option_map (λ s. s.now) word.entry) mode) }
+{
+    match word {
+        None => Some(default),
+        Some(word) => mode_of(word),
+    }
+}
+
 // The value of the option of this name.
 fn value_of<'a>(matches: &ArgMatches<'a>, name: &str) -> Option<&'a str>
     ensures { option_map (λ s. s.now) result ≡ first_of name.now (rows_of (found_of matches.now)) }
@@ -135,12 +151,16 @@ fn format_of(matches: &ArgMatches<'_>) -> Option<Command>
     let buuid = uuid_of(value_of(matches, "buuid")?)?;
     let block = size_or(1, value_of(matches, "block"), 1, MOST_BLOCK)?;
     let bucket = size_or(1024, value_of(matches, "bucket"), LEAST_BUCKET, MOST_BUCKET)?;
+    let mode = mode_or(Mode::Writethrough, value_of(matches, "mode"))?;
+    let offset = number_or(16, value_of(matches, "offset"), LEAST_OFFSET, MOST_OFFSET)?;
     Some(Command::Format {
         set,
         cuuid,
         buuid,
         block: block as u16,
         bucket: bucket as u16,
+        mode,
+        offset,
     })
 }
 
@@ -185,12 +205,13 @@ fn command_in(alloc: Global, words: &[String]) -> Result<Command, WordsError>
 /// The command that the words spell: `adopt`, `show`, `format` or `serve`, and behind it options
 /// with a value each, as `--NAME VALUE` or `--NAME=VALUE`, in any order and each once at most.
 ///
-/// `format` has `--set X --cuuid X --buuid X`, and may have `--block N` (1 where it isn't given) and
-/// `--bucket N` (1024). An X is the 32 lower-case hexadecimal digits of a uuid, byte by byte, and
-/// the set's isn't all zero. An N is in decimal digits without a zero in front, and counts sectors:
-/// a block has 1, 2, 4 or 8, and a bucket a power of two from 64 to 32,768. `serve` may have
-/// `--mode M` (writethrough, writeback, writearound or none), `--cutoff N` (8192; 0 to 2^40
-/// sectors) and `--slots N` (1024; 1 to 1,024). Any other words are `Usage`.
+/// `format` has `--set X --cuuid X --buuid X`, and may have `--block N` (1 where it isn't given),
+/// `--bucket N` (1024), `--mode M` (writethrough) and `--offset N` (16). An X is the 32 lower-case
+/// hexadecimal digits of a uuid, byte by byte, and the set's isn't all zero. An N is in decimal
+/// digits without a zero in front, and counts sectors: a block has 1, 2, 4 or 8, a bucket a power of
+/// two from 64 to 32,768, and before the data are 16 to 2^40. An M is writethrough, writeback,
+/// writearound or none. `serve` may have `--mode M`, `--cutoff N` (8192; 0 to 2^40 sectors) and
+/// `--slots N` (1024; 1 to 1,024). Any other words are `Usage`.
 pub fn read_words(alloc: Global, words: &[String]) -> Result<Command, WordsError>
     ensures spelled { IfOk result (λ command. IsInRange command
         × Spells (map string_bytes words.now) command) }

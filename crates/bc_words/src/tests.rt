@@ -63,14 +63,47 @@ fn commands(rt: HostRuntime) -> Result<(), Fail> {
     ] {
         assert_eq!(rt; read(alloc, text)?, Ok(command), "{text}");
     }
-    for (more, block, bucket) in [
-        ("", 1, 1024),
-        (" --block 8", 8, 1024),
-        (" --block=8 --bucket 64", 8, 64),
-        (" --block=1 --bucket=32768", 1, 32_768),
-        (" --block 1", 1, 1024),
-        (" --bucket=64 --block=2", 2, 64),
-        (" --bucket 32768", 1, 32_768),
+    for (more, block, bucket, mode, offset) in [
+        ("", 1, 1024, Mode::Writethrough, 16),
+        (" --block 8", 8, 1024, Mode::Writethrough, 16),
+        (" --block=8 --bucket 64", 8, 64, Mode::Writethrough, 16),
+        (
+            " --block=1 --bucket=32768",
+            1,
+            32_768,
+            Mode::Writethrough,
+            16,
+        ),
+        (" --block 1 --mode writeback", 1, 1024, Mode::Writeback, 16),
+        (" --mode=none --bucket=64 --block=2", 2, 64, Mode::None, 16),
+        (
+            " --bucket 32768 --offset=17",
+            1,
+            32_768,
+            Mode::Writethrough,
+            17,
+        ),
+        (
+            " --offset 16 --mode=writearound",
+            1,
+            1024,
+            Mode::Writearound,
+            16,
+        ),
+        (
+            " --mode writethrough --offset 1099511627776",
+            1,
+            1024,
+            Mode::Writethrough,
+            1 << 40,
+        ),
+        (
+            " --offset=1099511627776 --mode=writeback",
+            1,
+            1024,
+            Mode::Writeback,
+            1 << 40,
+        ),
     ] {
         let command = Command::Format {
             set: [
@@ -82,6 +115,8 @@ fn commands(rt: HostRuntime) -> Result<(), Fail> {
             ],
             block,
             bucket,
+            mode,
+            offset,
         };
         assert_eq!(rt; format(alloc, more)?, Ok(command), "{more}");
     }
@@ -157,8 +192,25 @@ fn refused_words(rt: HostRuntime) -> Result<(), Fail> {
         " --set=000123456789abcdef000000000000ff",
         " --cuuid 00000000000000000000000000000000",
         " --buuid=101112131415161718191a1b1c1d1e1f",
-        " --mode none",
-        " --offset 16",
+        " --mode",
+        " --mode=",
+        " --mode 1",
+        " --mode=fast",
+        " --mode Writeback",
+        " --mode none --mode=none",
+        " --mode=writeback --offset 16 --mode none",
+        " --offset",
+        " --offset=",
+        " --offset 15",
+        " --offset=0",
+        " --offset 1099511627777",
+        " --offset=18446744073709551632",
+        " --offset 016",
+        " --offset=+16",
+        " --offset 16 --offset 16",
+        " --offset=16 --mode none --offset=17",
+        " --cutoff 0",
+        " --slots=1",
         " 1024",
     ] {
         assert_eq!(rt; format(alloc, more)?, Err(WordsError::Usage), "{more}");

@@ -1,9 +1,11 @@
 use Rattle.std.proofs.Common.{ℕ, sym, subst}
 use Rattle.std.specs.Prelude.{Ok, Err}
 use Rattle.bc_super.specs.Cache.{IsUsableCache}
+use Rattle.bc_super.specs.Super.{IsDataOffset, IsUsable}
+use Rattle.bc_super.specs.declared.backing.BackingSuper.{BackingSuper}
 use Rattle.bc_super.specs.Layout.{IsLaidOut}
 use Rattle.bc_super.specs.declared.cache.CacheSuper.{CacheSuper}
-use Rattle.bc_pair.proofs.Makings.{finds_new, formats, has_room, is_divided, names_buckets, new_division, new_usable, writing_failed}
+use Rattle.bc_pair.proofs.Makings.{finds_new, formats, has_room, is_divided, names_buckets, new_backing_usable, new_division, new_superblocks, new_usable, writing_failed}
 use Rattle.bc_pair.proofs.format.format.Goals as goal
 
 pub write_pair-requires-clause-cache : goal.write_pair-requires-clause-cache
@@ -11,6 +13,16 @@ write_pair-requires-clause-cache g c =
     let sectors = (g.C.Disk.facts c.args.cache.now).sectors in
     let laid = subst (λ (n : ℕ). IsLaidOut n c.in_ok-l.l) c.sectors.ensures c.in_ok-l.ensures.laid_out in
     subst (λ (s : CacheSuper). IsUsableCache sectors s) (sym c.new_cache-c.ensures) (new_usable sectors c.in_ok-l.l laid c.args.pair.now c.in_ok-l.ensures.sizes c.in_ok-l.ensures.fits.0)
+
+pub write_pair-requires-clause-backing : goal.write_pair-requires-clause-backing
+write_pair-requires-clause-backing g c =
+    let sectors = (g.B.Disk.facts c.args.backing.now).sectors in
+    let within = subst (λ (n : ℕ). IsDataOffset n c.args.pair.now.offset) c.sectors-2.ensures c.in_ok-l.ensures.fits.1 in
+    subst (λ (s : BackingSuper). IsUsable sectors s) (sym c.new_backing-b.ensures) (new_backing_usable c.args.pair.now sectors within)
+
+pub write_pair-requires-clause-superblocks : goal.write_pair-requires-clause-superblocks
+write_pair-requires-clause-superblocks g c =
+    new_superblocks c.args.pair.now c.new_cache-c.result c.new_backing-b.result c.sectors.result c.in_ok-l.l c.new_cache-c.ensures c.new_backing-b.ensures c.in_ok-l.ensures.laid_out
 
 pub returns-in_err-write_pair-clause-written : goal.returns-in_err-write_pair-clause-written
 returns-in_err-write_pair-clause-written g c =

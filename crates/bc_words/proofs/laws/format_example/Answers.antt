@@ -16,6 +16,7 @@ returns-clause-range c = record {
   is_buuid = record { whole = refl; bytes = are_bytes (replicate 16 255) refl };
   is_block = record { power = (0, refl); within = record { low = omega arith; high = omega arith } };
   is_bucket = record { power = (6, refl); within = record { low = omega arith; high = omega arith } };
+  is_offset = record { low = omega arith; high = omega arith };
 }
 
 abbrev rows_in : Option (Text × List Row) → List Row
@@ -27,5 +28,5 @@ unfolding clap_on_literals hex_on_literals digits
 returns-clause-spelled c = (
   rows_in (subcommand_of program format_words),
   record { faultless = refl; entered = refl },
-  record { says_set = refl; says_cuuid = refl; says_buuid = refl; says_block = refl; says_bucket = refl },
+  record { says_set = refl; says_cuuid = refl; says_buuid = refl; says_block = refl; says_bucket = refl; says_mode = refl; says_offset = refl },
 )

@@ -10,12 +10,16 @@ returns-clause-app c =
     let cuuid = c.in_ok-arg-2.ensures.shape c.required-2.ensures.own ∙ ap₂ with_rule set c.required-2.ensures.rule in
     let buuid = c.in_ok-arg-3.ensures.shape c.required-3.ensures.own ∙ ap₂ with_rule cuuid c.required-3.ensures.rule in
     let block = c.in_ok-arg-4.ensures.shape c.optional.ensures.own ∙ ap₂ with_rule buuid c.optional.ensures.rule in
-    IfOk-weaker c.arg-5.result _ _ (λ m h. h.shape c.optional-2.ensures.own ∙ ap₂ with_rule block c.optional-2.ensures.rule) c.arg-5.ensures
+    let bucket = c.in_ok-arg-5.ensures.shape c.optional-2.ensures.own ∙ ap₂ with_rule block c.optional-2.ensures.rule in
+    let mode = c.in_ok-arg-6.ensures.shape c.optional-3.ensures.own ∙ ap₂ with_rule bucket c.optional-3.ensures.rule in
+    IfOk-weaker c.arg-7.result _ _ (λ m h. h.shape c.optional-4.ensures.own ∙ ap₂ with_rule mode c.optional-4.ensures.rule) c.arg-7.ensures
 
 pub returns-clause-own : goal.returns-clause-own
-returns-clause-own c = IfOk-weaker c.arg-5.result _ _ (λ m h.
+returns-clause-own c = IfOk-weaker c.arg-7.result _ _ (λ m h.
     rw (
       h.globals,
+      c.in_ok-arg-6.ensures.globals,
+      c.in_ok-arg-5.ensures.globals,
       c.in_ok-arg-4.ensures.globals,
       c.in_ok-arg-3.ensures.globals,
       c.in_ok-arg-2.ensures.globals,
@@ -26,4 +30,6 @@ returns-clause-own c = IfOk-weaker c.arg-5.result _ _ (λ m h.
       c.required-3.ensures.own,
       c.optional.ensures.own,
       c.optional-2.ensures.own,
-    ) refl) c.arg-5.ensures
+      c.optional-3.ensures.own,
+      c.optional-4.ensures.own,
+    ) refl) c.arg-7.ensures
