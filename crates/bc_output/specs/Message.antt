@@ -6,7 +6,7 @@ use Rattle.bc_script.specs.Trace.{ended}
 use Rattle.bc_output.specs.declared.message.Origin.{Origin}
 use Rattle.bc_output.specs.declared.message.Origin.TheVariants.{Disk, Source}
 use Rattle.bc_output.specs.declared.message.Message.{Message}
-use Rattle.bc_output.specs.declared.message.Message.TheVariants.{Usage, Trace, Superblock, Unserved, Fault, Memory}
+use Rattle.bc_output.specs.declared.message.Message.TheVariants.{Usage, Trace, Superblock, Image, Unserved, Fault, Memory}
 
 abbrev pub origin_text : Origin → List ℕ
 origin_text (Disk device) = device_text device
@@ -17,6 +17,7 @@ abbrev pub words_of : Message → List ℕ
 words_of Usage = codes "usage"
 words_of (Trace line why) = codes "trace " ++ decimal line ++ codes " " ++ decimal why
 words_of (Superblock device number) = codes "superblock " ++ device_text device ++ codes " " ++ decimal number
+words_of (Image number) = codes "image " ++ decimal number
 words_of Unserved = codes "unserved"
 words_of (Fault origin) = codes "fault " ++ origin_text origin
 words_of Memory = codes "memory"

@@ -24,6 +24,8 @@ pub enum Message {
     Trace { line: u32, why: u8 },
     /// The superblock of this device has the fault with this number.
     Superblock { device: Device, number: u8 },
+    /// What the pair holds behind its superblocks is refused for the reason with this number.
+    Image(u8),
     /// The pair has a cache, which isn't served yet.
     Unserved,
     /// A device or the source failed.
@@ -118,9 +120,19 @@ fn superblock_line(device: Device, number: u8) -> MessageLine
     text
 }
 
+#[tactic(auto, using(crate::proofs::Digits::room))]
+fn image_line(number: u8) -> MessageLine
+    ensures { result ≡ message_text (Message.Image number) }
+{
+    let mut text = MessageLine::new(b"image ");
+    text.push_number(number as u32);
+    text.push(b'\n');
+    text
+}
+
 /// The line of a message: `usage`; `trace`, the line and the reason; `superblock`, `cache` or
-/// `backing` and the fault; `unserved`; `fault` and `cache`, `backing` or `source`; or `memory`. The numbers
-/// are decimal, and there is one space between two words.
+/// `backing` and the fault; `image` and the reason; `unserved`; `fault` and `cache`, `backing` or
+/// `source`; or `memory`. The numbers are decimal, and there is one space between two words.
 pub fn print_message(message: Message) -> MessageLine
     ensures { result ≡ message_text message }
 {
@@ -128,6 +140,7 @@ pub fn print_message(message: Message) -> MessageLine
         Message::Usage => MessageLine::new(b"usage\n"),
         Message::Trace { line, why } => trace_line(line, why),
         Message::Superblock { device, number } => superblock_line(device, number),
+        Message::Image(number) => image_line(number),
         Message::Unserved => MessageLine::new(b"unserved\n"),
         Message::Fault(Origin::Disk(Device::Cache)) => MessageLine::new(b"fault cache\n"),
         Message::Fault(Origin::Disk(Device::Backing)) => MessageLine::new(b"fault backing\n"),

@@ -84,7 +84,7 @@ fn answers_are_put(rt: HostRuntime) -> Result<(), Fail> {
 #[test]
 fn messages_are_printed(rt: HostRuntime) {
     let superblock = |device, number| Message::Superblock { device, number };
-    let cases: [(Message, &[u8]); 9] = [
+    let cases: [(Message, &[u8]); 12] = [
         (Message::Usage, b"usage\n"),
         (Message::Trace { line: 1, why: 2 }, b"trace 1 2\n"),
         (
@@ -99,6 +99,9 @@ fn messages_are_printed(rt: HostRuntime) {
             superblock(Device::Backing, 255),
             b"superblock backing 255\n",
         ),
+        (Message::Image(2), b"image 2\n"),
+        (Message::Image(255), b"image 255\n"),
+        (Message::Unserved, b"unserved\n"),
         (
             Message::Fault(Origin::Disk(Device::Cache)),
             b"fault cache\n",

@@ -13,3 +13,4 @@ pub mod True
 pub mod Surveyed
 pub mod Refuses
 pub mod Once
+pub mod Opens

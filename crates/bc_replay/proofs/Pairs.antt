@@ -72,7 +72,7 @@ module _ (cache backing : DiskFacts) (c b : Image) (tells : cache.holds ≡ Some
   abbrev pair : Pair
   pair = pair_of cache backing c b
 
-  backing_refused : (why : SuperError) → RefusesBacking backing why → IsBackingRefused pair why
+  pub backing_refused : (why : SuperError) → RefusesBacking backing why → IsBackingRefused pair why
   backing_refused why (unless, cause, small) = elim (cases_lt backing.sectors 16) [
     | inl low ↦ inl (low, small low)
     | inr large ↦ inr (large, backing_why backing b why told large unless cause)

@@ -89,6 +89,10 @@ pub record IsOpenable (p : Pair) (v : View) : Type 0 where
   pub spare : HasSpareBuckets v.geometry v.reading
   pub room : HasRoomForEntry v.geometry p.cache v.reading
 
+-- a pair has a view with these parts
+abbrev pub CanBeOpened : Pair → Type 0
+CanBeOpened p = (v : View) × IsView p v × IsOpenable p v
+
 -- the bucket is used for this; None is that it is used for nothing
 abbrev pub IsUsedAs : Geometry → Reading → ℕ → Use → Type 0
 IsUsedAs g r bucket uses.Super = IsUsedFor g r Super bucket

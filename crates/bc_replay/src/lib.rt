@@ -26,7 +26,7 @@ pub use held::Survey;
 pub use index::{Index, read_tree};
 pub use pointers::Limits;
 pub use replay::read_index;
-pub use supers::{Supers, read_supers};
+pub use supers::{Supers, read_supers, refusal};
 pub use uses::{Use, age_of, generation_of, is_live};
 pub use uuids::names_device;
 pub use whole::survey;

@@ -25,8 +25,8 @@ pub struct Supers {
     pub geometry: Geometry,
 }
 
-// Why a pair can't be opened of which this device's superblock can't be read.
-fn refusal(device: Device, why: SuperError) -> OpenError
+/// Why a pair can't be opened of which this device's superblock was refused so, or couldn't be read.
+pub fn refusal(device: Device, why: SuperError) -> OpenError
     ensures { result ≡ refusal device why }
 {
     match why {

@@ -7,6 +7,7 @@ use bc_bytes::{crc64, put_u32, put_u64};
 use bc_disk::disk::Device;
 use bc_disk::mem_disk::MemDisk;
 use bc_keys::put_words;
+use bc_mode::Mode;
 use bc_node::NodeError;
 use bc_pair::error::PairError;
 use bc_pair::format::{NewPair, format};
@@ -58,6 +59,8 @@ fn new_pair(alloc: Global) -> Result<(MemDisk, MemDisk), PairError> {
         backing_uuid: [3; 16],
         block: 1,
         bucket: 64,
+        mode: Mode::Writethrough,
+        offset: 16,
     };
     format(alloc, &mut cache, &mut backing, &pair)?;
     Ok((cache, backing))

@@ -133,3 +133,9 @@ pub fn test_run<R: Abort + Wait>(
     test_end(rt, &ran, out.bytes(), text.as_bytes(), status);
     Ok(ran)
 }
+
+/// A pair that was formatted.
+pub fn formatted<R: Abort + Wait>(rt: &R, alloc: Global) -> Result<Pair, Fail> {
+    let pair = blank(alloc, CACHE_SECTORS, BACKING_SECTORS)?;
+    test_run(rt, alloc, pair, FORMAT, "", 0)
+}

@@ -1,7 +1,9 @@
 //! The rows of the commands that make and show a pair.
 ghost use Rattle.std.specs.Prelude.{◌<◌, ◌≤◌};
 
-use crate::pair::{BACKING_SECTORS, CACHE_SECTORS, FORMAT, Pair, blank, made, run, test_run};
+use crate::pair::{
+    BACKING_SECTORS, CACHE_SECTORS, FORMAT, Pair, blank, formatted, made, run, test_run,
+};
 use crate::serving::{seal, test_calls, test_end};
 use bc_disk::crash::Pick;
 use bc_disk::mem_disk::MemDisk;
@@ -88,6 +90,50 @@ fn a_pair_is_adopted(rt: HostRuntime) -> Result<(), Fail> {
     Ok(())
 }
 
+// What `show` prints of a pair that was formatted so: the same but for this of the backing device.
+fn shown(alloc: Global, backing: &str) -> Result<String, Fail> {
+    Ok(format!(in alloc;
+        "cache version 3 block 1 bucket 64 buckets 128 first 1 journal 8 replacement lru sync 1 discard 0\n\
+         cache uuid ca000000000000000000000000000ca0 set 5e70000000000000000000000000005e\n\
+         backing {backing} state clean\n\
+         backing uuid ba0000000000000000000000000000ba set 5e70000000000000000000000000005e\n"
+    )?)
+}
+
+#[test]
+fn a_pair_has_a_mode_and_an_offset(rt: HostRuntime) -> Result<(), Fail> {
+    let alloc = rt.alloc();
+    let mut ran = blank(alloc, CACHE_SECTORS, BACKING_SECTORS)?;
+    for (more, backing) in [
+        (
+            "--offset 16 --mode=none",
+            "version 1 offset 16 size 4096 mode none",
+        ),
+        (
+            "--mode writeback --offset=4111",
+            "version 4 offset 4111 size 1 mode writeback",
+        ),
+    ] {
+        let words = format!(in alloc; "{FORMAT} {more}")?;
+        ran = test_command(&rt, alloc, ran, words.as_str(), "", 0)?;
+        let text = shown(alloc, backing)?;
+        ran = test_command(&rt, alloc, ran, "show", text.as_str(), 0)?;
+        ran = test_command(&rt, alloc, ran, "serve", "unserved\n", 5)?;
+    }
+    // What is refused leaves the pair as it was.
+    for (more, text, status) in [
+        ("--offset 4112", "superblock backing 14\n", 4),
+        ("--offset 15", "usage\n", 2),
+        ("--mode fast", "usage\n", 2),
+    ] {
+        let words = format!(in alloc; "{FORMAT} {more}")?;
+        ran = test_command(&rt, alloc, ran, words.as_str(), text, status)?;
+    }
+    let text = shown(alloc, "version 4 offset 4111 size 1 mode writeback")?;
+    test_command(&rt, alloc, ran, "show", text.as_str(), 0)?;
+    Ok(())
+}
+
 // Formats devices of so many sectors, of which one is too small. Tests that no call is made.
 fn test_too_small<R: Abort + Wait>(
     rt: &R,
@@ -126,15 +172,6 @@ fn flip<R: Abort>(rt: &R, alloc: Global, device: &MemDisk, place: usize) -> Resu
     }
     assert!(rt; bytes.len() % 512 == 0 && bytes.len() < 20000 * 512);
     Ok(MemDisk::new(alloc, bytes, 0)?)
-}
-
-// A pair that was formatted, before a sink with no room.
-fn formatted<R: Abort + Wait>(rt: &R, alloc: Global) -> Result<Pair, Fail> {
-    let pair = blank(alloc, CACHE_SECTORS, BACKING_SECTORS)?;
-    let mut out = MemSink::new(alloc, 0)?;
-    let ran = run(rt, alloc, FORMAT, pair, &mut out)?;
-    test_end(rt, &ran, out.bytes(), &[], 0);
-    Ok(ran)
 }
 
 // Runs a command over a formatted pair with one bit changed of the cache device's superblock, which is

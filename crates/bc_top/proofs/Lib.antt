@@ -9,3 +9,4 @@ pub mod Settled
 pub mod Pairing
 pub mod Completing
 pub mod Unread
+pub mod Judging

@@ -1,13 +1,10 @@
 -- What the status of a command on a pair tells.
-use Rattle.std.proofs.Common.{◌≡◌, ◌≢◌, ◌⊎◌, inl, inr, ℕ, List, Option, Some, None, refl, sym, ap, ◌∙◌, subst, arith}
-use Rattle.std.specs.Prelude.{Result, Ok, Err, IfErr, OnOk, String}
+use Rattle.std.proofs.Common.{◌≡◌, ◌≢◌, ◌⊎◌, inl, inr, ℕ, Option, Some, None, refl, arith}
+use Rattle.std.specs.Prelude.{Result, Ok, Err, IfErr, String}
 use Rattle.std.specs.declared.alloc.Global.{Global}
 use Rattle.bc_model.specs.Sector.{Image}
 use Rattle.bc_disk.specs.Disk.{BothTold, DiskFacts, IfTold, IsKept}
 use Rattle.bc_disk.specs.Stream.{StreamFacts}
-use Rattle.bc_disk.specs.Device.{HasRisen, next_count}
-use Rattle.bc_output.specs.Put.{IsWriteFault}
-use Rattle.bc_output.specs.declared.put.WriteFault.{WriteFault}
 use Rattle.bc_disk.specs.declared.disk.Device.TheVariants as device
 use Rattle.bc_pair.specs.Causes.{AdoptLeaves, AreKept, FaultRose, KeepsOthers}
 use Rattle.bc_pair.specs.declared.error.PairError.{PairError}

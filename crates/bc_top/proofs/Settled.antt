@@ -7,19 +7,19 @@ use Rattle.bc_disk.specs.Stands.{settled_model}
 use Rattle.bc_disk.specs.Disk.{Allows, DiskFacts, BothTold, IfTold, IsCounted, IsKept, IsSettled, StandsFor}
 use Rattle.bc_disk.specs.declared.disk.Device.TheVariants as device
 use Rattle.bc_disk.specs.declared.disk.Failed.{Failed}
-use Rattle.bc_super.specs.Reading.{IsCacheCause, IsCause, ReadsCache, ReadsSuper, call_of}
+use Rattle.bc_super.specs.Reading.{IsCause, ReadsSuper, call_of}
 use Rattle.bc_super.specs.declared.backing.BackingSuper.{BackingSuper}
-use Rattle.bc_super.specs.declared.cache.CacheSuper.{CacheSuper}
 use Rattle.bc_super.specs.declared.error.SuperError.{SuperError}
 use Rattle.bc_super.specs.declared.error.SuperError.TheVariants as fault
-use Rattle.bc_super.proofs.Told.{cache_cause_after, cause_after, reads_after, reads_cache_after}
+use Rattle.bc_super.proofs.Told.{cause_after, reads_after}
 use Rattle.std.proofs.lemmas.Bool.{cases_lt}
-use Rattle.bc_top.specs.Opened.{IsBackingCause, IsJudged, IsOpenCause, IsOpened, IsPairCause, IsSameDevice, IsToldAs, LeavesLess, SameImage}
+use Rattle.bc_replay.specs.Causes.{RefusesBacking, refusal}
+use Rattle.bc_replay.specs.declared.error.OpenError.{OpenError}
+use Rattle.bc_replay.specs.declared.error.OpenError.TheVariants as errors
+use Rattle.bc_top.specs.Opened.{IsLoneCause, IsOpened, IsOpeningCause, IsSameDevice, LeavesLess, SameImage}
 use Rattle.bc_disk.specs.Stream.{StreamFacts}
 use Rattle.bc_top.specs.Stops.{stop_of}
 use Rattle.bc_top.specs.Top.{IsServeCause, WasRead}
-use Rattle.bc_top.specs.declared.opening.OpenError.{OpenError}
-use Rattle.bc_top.specs.declared.opening.OpenError.TheVariants as errors
 use Rattle.bc_top.specs.declared.stop.Stop.{Stop}
 use Rattle.bc_top.proofs.Raising.{next_rises}
 
@@ -62,22 +62,13 @@ module _ (a b c : DiskFacts) where
       by None (Some held) leaves both = absurd both
       by (Some before) (Some held) leaves both = ((λ s. inl refl), (λ image can s. inl (leaves image ((kept.leaves image).0 can) s ∙ sym (both s))))
 
-  pub judged : (s : BackingSuper) (t : CacheSuper) (error : OpenError) → IsCounted {E = Failed} (Ok tt) a b → IsKept b c → (16 ≤ b.sectors → IsCounted (call_of {T = CacheSuper} (Ok t)) b c) → (b.sectors < 16 → ⊥) → ReadsCache b t → IsJudged error s t → IsPairCause error s a c
-  judged s t error good kept counted large reads is =
-      let count = counted (at_least b.sectors large) in
-      inr (inr (t, reads_cache_after b c kept.sectors kept.holds t reads, is, count.0 ∙ ap (λ n. next_count n) good.0, count.1 ∙ good.1))
-
   -- where a read failed behind a barrier, the count rose
   pub rose : (b.faults ≡ a.faults) → (c.faults ≡ next_count b.faults) → HasRisen a.faults c.faults
   rose quiet next = subst (HasRisen a.faults) (ap (λ n. next_count n) (sym quiet) ∙ sym next) (next_rises a.faults)
 
-  pub backing_told : (e : SuperError) (error : OpenError) → IsToldAs device.Backing e error → IsCause c e → (e ≡ fault.Fault → HasRisen a.faults c.faults) → (e ≢ fault.Fault → c.faults ≡ a.faults) → IsBackingCause error a c
-  backing_told e error (inl is) cause rises still = subst (λ (x : OpenError). IsBackingCause x a c) (sym is.1) (rises is.0)
-  backing_told e error (inr is) cause rises still = subst (λ (x : OpenError). IsBackingCause x a c) (sym is.1) (e, refl, is.0, cause, still is.0)
-
-  pub cache_told : (s : BackingSuper) (e : SuperError) (error : OpenError) → IsToldAs device.Cache e error → IsCacheCause c e → (e ≡ fault.Fault → HasRisen a.faults c.faults) → (e ≢ fault.Fault → c.faults ≡ a.faults) → IsPairCause error s a c
-  cache_told s e error (inl is) cause rises still = inl (is.1, rises is.0)
-  cache_told s e error (inr is) cause rises still = inr (inl (e, is.1, is.0, cause, still is.0))
+  pub lone_told : (e : SuperError) → (e ≡ fault.Fault → HasRisen a.faults c.faults) → (e ≢ fault.Fault → RefusesBacking c e × (c.faults ≡ a.faults)) → IsLoneCause (refusal device.Backing e) a c
+  lone_told fault.Fault rises still = rises refl
+  lone_told e rises still = still (λ is. absurd (cc))
 
   -- what the counts say of a fault that was answered
   pub fault_rises : (T : Type 0) (e : SuperError) → IsCounted {E = Failed} (Ok tt) a b → IsCounted (call_of {T = T} (Err e)) b c → e ≡ fault.Fault → HasRisen a.faults c.faults
@@ -94,15 +85,14 @@ module _ (a b c : DiskFacts) where
   }
 
   -- or it was read and refused
-  pub open_failed : (e : SuperError) (error : OpenError) → IsToldAs device.Backing e error → IsCounted {E = Failed} (Ok tt) a b → IsKept b c → (16 ≤ b.sectors → IsCounted (call_of {T = BackingSuper} (Err e)) b c) → (b.sectors < 16 → c.faults ≡ b.faults) → IsCause b e → IsBackingCause error a c
-  open_failed e error told good kept counted untouched cause = backing_told e error told (cause_after b c kept.sectors kept.holds e cause)
+  pub open_failed : (e : SuperError) → IsCounted {E = Failed} (Ok tt) a b → IsKept b c → (16 ≤ b.sectors → IsCounted (call_of {T = BackingSuper} (Err e)) b c) → (b.sectors < 16 → c.faults ≡ b.faults) → (b.sectors < 16 → e ≡ fault.DeviceSmall) → IsCause b e
+      → IsLoneCause (refusal device.Backing e) a c
+  open_failed e good kept counted untouched small cause = lone_told e
       (λ is. fault_rises BackingSuper e good (counted (subst (λ (x : SuperError). IsCause b x) is cause)) is)
-      (λ other. elim (cases_lt b.sectors 16) [ inl few ↦ untouched few | inr many ↦ quiet_call BackingSuper e b c other (counted many) ] ∙ good.1)
-
-  pub cache_failed : (s : BackingSuper) (e : SuperError) (error : OpenError) → IsToldAs device.Cache e error → IsCounted {E = Failed} (Ok tt) a b → IsKept b c → (16 ≤ b.sectors → IsCounted (call_of {T = CacheSuper} (Err e)) b c) → (b.sectors < 16 → c.faults ≡ b.faults) → IsCacheCause b e → IsPairCause error s a c
-  cache_failed s e error told good kept counted untouched cause = cache_told s e error told (cache_cause_after b c kept.sectors kept.holds e cause)
-      (λ is. fault_rises CacheSuper e good (counted (subst (λ (x : SuperError). IsCacheCause b x) is cause)) is)
-      (λ other. elim (cases_lt b.sectors 16) [ inl few ↦ untouched few | inr many ↦ quiet_call CacheSuper e b c other (counted many) ] ∙ good.1)
+      (λ other. (
+        (other, cause_after b c kept.sectors kept.holds e cause, (λ few. small (subst (λ n. n < 16) kept.sectors few))),
+        elim (cases_lt b.sectors 16) [ inl few ↦ untouched few | inr many ↦ quiet_call BackingSuper e b c other (counted many) ] ∙ good.1,
+      ))
 
 -- after a call that changed nothing
 pub same_kept : (a b : DiskFacts) → IsKept a b → IsSameDevice a b
@@ -129,7 +119,15 @@ same_self d = record { sectors = refl; holds = by d.holds; leaves = less d.holds
     less (Some held) = λ image can. inl can
 
 -- why a pair isn't opened is why its trace isn't served
-pub open_cause : (error : OpenError) (why : Stop) (source left : StreamFacts) (cache cache' backing backing' : DiskFacts) → why ≡ stop_of error → WasRead source left → IsOpenCause error cache cache' backing backing' → IsServeCause why source left cache cache' backing backing'
-open_cause (errors.Fault d) why source left cache cache' backing backing' is read cause = subst (λ (x : Stop). IsServeCause x source left cache cache' backing backing') (sym is) (read, cause)
-open_cause (errors.Superblock d number) why source left cache cache' backing backing' is read cause = subst (λ (x : Stop). IsServeCause x source left cache cache' backing backing') (sym is) (read, cause)
-open_cause errors.Unserved why source left cache cache' backing backing' is read cause = subst (λ (x : Stop). IsServeCause x source left cache cache' backing backing') (sym is) (read, cause)
+module _ (source left : StreamFacts) (cache cache' backing backing' : DiskFacts) (read : WasRead source left) where
+  told_so : (error : OpenError) → IsOpeningCause cache cache' backing backing' (stop_of error) → IsServeCause (stop_of error) source left cache cache' backing backing'
+  told_so errors.Memory cause = tt
+  told_so error cause = (read, cause)
+
+  told_as : (why : Stop) (error : OpenError) → why ≡ stop_of error → IsOpeningCause cache cache' backing backing' why → IsServeCause why source left cache cache' backing backing'
+  told_as why error is cause = subst (λ (x : Stop). IsServeCause x source left cache cache' backing backing') (sym is) (told_so error (subst (IsOpeningCause cache cache' backing backing') is cause))
+
+  pub open_cause : (why : Stop) → IsOpeningCause cache cache' backing backing' why → IsServeCause why source left cache cache' backing backing'
+  open_cause why (inl lone) = told_as why lone.0 lone.1 (inl lone)
+  open_cause why (inr (asks, inl refused)) = told_as why refused.0 refused.1 (inr (asks, inl refused))
+  open_cause why (inr (asks, inr none)) = subst (λ (x : Stop). IsServeCause x source left cache cache' backing backing') (sym none.0) (read, subst (IsOpeningCause cache cache' backing backing') none.0 (inr (asks, inr none)))

@@ -1,22 +1,22 @@
 -- What the opening of a pair leaves of its devices, and why it isn't served.
-use Rattle.std.specs.Prelude.{◌≡◌, ◌≢◌, ◌⊎◌, ℕ, Option, Some, None}
+use Rattle.std.specs.Prelude.{◌≡◌, ◌⊎◌, ℕ, Option, Some, None}
 use Rattle.bc_model.specs.Sector.{Image}
 use Rattle.bc_disk.specs.Device.{HasRisen, next_count}
 use Rattle.bc_disk.specs.Disk.{DiskFacts, BothTold}
-use Rattle.bc_disk.specs.declared.disk.Device.{Device}
 use Rattle.bc_disk.specs.declared.disk.Device.TheVariants as device
-use Rattle.bc_super.specs.Cache.{IsInitialised}
+use Rattle.bc_image.specs.Pair.{Pair}
+use Rattle.bc_replay.specs.Causes.{OfHeld, RefusesBacking}
+use Rattle.bc_replay.specs.Survey.{CanBeOpened, IsFirst}
+use Rattle.bc_replay.specs.declared.error.OpenError.{OpenError}
+use Rattle.bc_replay.specs.declared.error.OpenError.TheVariants as errors
 use Rattle.bc_super.specs.Division.{IsPassThrough}
-use Rattle.bc_super.specs.Super.{Unless, IsMode, IsState, mode_number, state_number, number_of}
-use Rattle.bc_super.specs.Reading.{ReadsSuper, ReadsCache, IsCause, IsCacheCause}
+use Rattle.bc_super.specs.Super.{IsState, state_number}
+use Rattle.bc_super.specs.Reading.{ReadsSuper}
 use Rattle.bc_super.specs.declared.backing.BackingSuper.{BackingSuper}
-use Rattle.bc_super.specs.declared.cache.CacheSuper.{CacheSuper}
-use Rattle.bc_super.specs.declared.error.SuperError.{SuperError}
-use Rattle.bc_super.specs.declared.error.SuperError.TheVariants as fault
-use Rattle.bc_mode.specs.declared.mode.Mode.TheVariants as mode
 use Rattle.bc_super.specs.declared.state.BackingState.TheVariants as state
-use Rattle.bc_top.specs.declared.opening.OpenError.{OpenError}
-use Rattle.bc_top.specs.declared.opening.OpenError.TheVariants as errors
+use Rattle.bc_top.specs.Stops.{stop_of}
+use Rattle.bc_top.specs.declared.stop.Stop.{Stop}
+use Rattle.bc_top.specs.declared.stop.Stop.TheVariants as stop
 
 abbrev pub SameImage : Image → Image → Type 0
 SameImage old new = (s : ℕ) → new s ≡ old s
@@ -51,34 +51,42 @@ pub record IsSameDevice (old new : DiskFacts) : Type 0 where
   pub holds : BothTold SameImage old.holds new.holds
   pub leaves : LeavesLess new.holds old.may_leave new.may_leave
 
+-- what the device has as its superblock asks for a cache
+abbrev pub AsksForCache : DiskFacts → Type 0
+AsksForCache d = (s : BackingSuper) × ReadsSuper d s × (IsPassThrough s → ⊥)
+
 -- ---- why a pair isn't served
 
--- a superblock's fault as the reason why a pair isn't served
-abbrev pub IsToldAs : Device → SuperError → OpenError → Type 0
-IsToldAs d e error = ((e ≡ fault.Fault) × (error ≡ errors.Fault d)) ⊎ ((e ≢ fault.Fault) × (error ≡ errors.Superblock d (number_of e)))
+-- a call of the backing device failed, or its superblock has this fault, the first in order
+abbrev pub IsLoneCause : OpenError → DiskFacts → DiskFacts → Type 0
+IsLoneCause (errors.Fault device.Backing) old new = HasRisen old.faults new.faults
+IsLoneCause (errors.Super device.Backing why) old new = RefusesBacking new why × (new.faults ≡ old.faults)
+IsLoneCause error old new = ⊥
 
--- a call of the backing device failed, or its superblock has this number's fault, the first in order
-abbrev pub IsBackingCause : OpenError → DiskFacts → DiskFacts → Type 0
-IsBackingCause (errors.Fault device.Backing) old new = HasRisen old.faults new.faults
-IsBackingCause (errors.Superblock device.Backing number) old new = (e : SuperError) × (number ≡ number_of e) × (e ≢ fault.Fault) × IsCause new e × (new.faults ≡ old.faults)
-IsBackingCause error old new = ⊥
+module _ (cache cache' backing backing' : DiskFacts) where
+  -- no call of either device failed
+  abbrev pub AreQuiet : Type 0
+  AreQuiet = (cache'.faults ≡ cache.faults) × (backing'.faults ≡ backing.faults)
 
--- what a pair with these superblocks is answered, of which that of the backing device asks for a cache: it has to have a state,
--- the cache has to have been set up, they have to be of one set; journals aren't read yet, so then it is answered that it isn't served
-abbrev pub IsJudged : OpenError → BackingSuper → CacheSuper → Type 0
-IsJudged error s c =
-    Unless ((HasNoState s → ⊥) × IsInitialised c) (error ≡ errors.Superblock device.Cache (number_of fault.NotInitialised))
-    (Unless (s.set_uuid ≡ c.set_uuid) (error ≡ errors.Superblock device.Backing (number_of fault.OtherSet))
-    (error ≡ errors.Unserved))
+  -- why a pair is refused of which the backing device asks for a cache: a call of that device failed; or memory ran out; or the
+  -- refusal is the first of the pair, and no call failed
+  abbrev pub IsPairCause : OpenError → Type 0
+  IsPairCause (errors.Fault device.Cache) = HasRisen cache.faults cache'.faults
+  IsPairCause (errors.Fault device.Backing) = HasRisen backing.faults backing'.faults
+  IsPairCause errors.Memory = Unit {0}
+  IsPairCause error = OfHeld (λ p. IsFirst p error) cache backing × AreQuiet
 
--- The backing device has this superblock, which asks for a cache. A call of the cache device failed; or its superblock has this
--- number's fault, the first in order; or both were read. No call failed in the last two.
-abbrev pub IsPairCause : OpenError → BackingSuper → DiskFacts → DiskFacts → Type 0
-IsPairCause error s old new = ((error ≡ errors.Fault device.Cache) × HasRisen old.faults new.faults)
-    ⊎ ((e : SuperError) × (error ≡ errors.Superblock device.Cache (number_of e)) × (e ≢ fault.Fault) × IsCacheCause new e × (new.faults ≡ old.faults))
-    ⊎ ((c : CacheSuper) × ReadsCache new c × IsJudged error s c × (new.calls ≡ next_count (next_count old.calls)) × (new.faults ≡ old.faults))
+  -- such a pair is refused, or it isn't and its cache isn't served yet
+  abbrev pub IsPairStop : Stop → Type 0
+  IsPairStop why = ((error : OpenError) × (why ≡ stop_of error) × IsPairCause error)
+      ⊎ ((why ≡ stop.Unserved) × OfHeld CanBeOpened cache backing × AreQuiet)
 
--- The first of these: a cause of the backing device, with which the cache device isn't called, or one of the pair.
-abbrev pub IsOpenCause : OpenError → DiskFacts → DiskFacts → DiskFacts → DiskFacts → Type 0
-IsOpenCause error cache cache' backing backing' = (IsBackingCause error backing backing' × (cache'.calls ≡ cache.calls))
-    ⊎ ((s : BackingSuper) × IsOpened s backing backing' × (IsPassThrough s → ⊥) × IsPairCause error s cache cache')
+  -- The first of these: a cause of the backing device, with which the cache device isn't called, or one of a pair.
+  abbrev pub IsOpeningCause : Stop → Type 0
+  IsOpeningCause why = ((error : OpenError) × (why ≡ stop_of error) × IsLoneCause error backing backing' × (cache'.calls ≡ cache.calls))
+      ⊎ (AsksForCache backing × IsPairStop why)
+
+-- what a pair with a cache is answered: its first refusal, or, where it has none, that its cache isn't served yet
+abbrev pub IsAnswerTo : Pair → Stop → Type 0
+IsAnswerTo p why = ((error : OpenError) × IsFirst p error × (why ≡ stop_of error))
+    ⊎ (((error : OpenError) → IsFirst p error → ⊥) × (why ≡ stop.Unserved))

@@ -4,6 +4,9 @@ use Rattle.std.specs.declared.alloc.Global.{Global}
 use Rattle.bc_disk.specs.Device.{HasRisen}
 use Rattle.bc_disk.specs.Disk.{DiskFacts}
 use Rattle.bc_disk.specs.Stream.{StreamFacts}
+use Rattle.bc_image.specs.Pair.{Pair}
+use Rattle.bc_image.specs.Sound.{ServesAlone}
+use Rattle.bc_replay.specs.Causes.{OfHeld}
 use Rattle.bc_script.specs.Trace.{IsCause, IsTrace, IsWhole, SpellAll, lines_of}
 use Rattle.bc_script.specs.declared.line.Line.{Line}
 use Rattle.bc_script.specs.declared.script.TraceError.TheVariants as trace
@@ -17,9 +20,9 @@ use Rattle.bc_words.specs.declared.command.Command.TheVariants as command
 use Rattle.bc_output.specs.Message.{message_text}
 use Rattle.bc_output.specs.declared.message.Message.TheVariants as message
 use Rattle.bc_top.specs.Ended.{IsPutOf}
-use Rattle.bc_top.specs.Opened.{IsOpenCause, IsSameDevice}
+use Rattle.bc_top.specs.Opened.{IsAnswerTo, IsOpeningCause, IsSameDevice}
+use Rattle.bc_top.specs.Stops.{message_of, status_of}
 use Rattle.bc_top.specs.Pairs.{HasAdopted, HasFormatted, HasShown}
-use Rattle.bc_top.specs.declared.opening.OpenError.TheVariants as errors
 use Rattle.bc_top.specs.declared.stop.Stop.{Stop}
 use Rattle.bc_top.specs.declared.stop.Stop.TheVariants as stop
 
@@ -45,8 +48,8 @@ words_stop words.Memory = stop.Memory
 
 -- What a command but `serve` does. The words of `format` are the new pair, field by field.
 abbrev pub Does : {C B : Type 0} → (C → DiskFacts) → (B → DiskFacts) → Command → ℕ → C → C → B → B → StreamFacts → StreamFacts → Type 0
-Does cache_facts backing_facts (command.Format set cuuid buuid block bucket) status cache cache' backing backing' old new = (p : NewPair)
-    × (p.set_uuid ≡ set) × (p.cache_uuid ≡ cuuid) × (p.backing_uuid ≡ buuid) × (p.block ≡ block) × (p.bucket ≡ bucket)
+Does cache_facts backing_facts (command.Format set cuuid buuid block bucket mode offset) status cache cache' backing backing' old new = (p : NewPair)
+    × (p.set_uuid ≡ set) × (p.cache_uuid ≡ cuuid) × (p.backing_uuid ≡ buuid) × (p.block ≡ block) × (p.bucket ≡ bucket) × (p.mode ≡ mode) × (p.offset ≡ offset)
     × HasFormatted cache_facts backing_facts status cache cache' backing backing' old new p
 Does cache_facts backing_facts command.Adopt status cache cache' backing backing' old new = HasAdopted cache_facts backing_facts status cache cache' backing backing' old new
 Does cache_facts backing_facts command.Show status cache cache' backing backing' old new = HasShown cache_facts backing_facts status cache cache' backing backing' old new
@@ -68,16 +71,24 @@ AreUncalled cache cache' backing backing' = (cache'.calls ≡ cache.calls) × (b
 abbrev pub WasRead : StreamFacts → StreamFacts → Type 0
 WasRead source left = (lines : List Line) × IsTrace lines × IsWhole source left lines
 
--- why a trace isn't served: first the trace is read, and then the superblocks; want of memory alone is free
+-- why a trace isn't served: first the trace is read, and then the pair; want of memory alone is free
 abbrev pub IsServeCause : Stop → StreamFacts → StreamFacts → DiskFacts → DiskFacts → DiskFacts → DiskFacts → Type 0
 IsServeCause stop.Usage source left cache cache' backing backing' = ⊥
 IsServeCause (stop.Trace e) source left cache cache' backing backing' = IsCause source left (trace.Script e) × AreUncalled cache cache' backing backing'
 IsServeCause stop.Source source left cache cache' backing backing' = HasRisen source.faults left.faults × AreUncalled cache cache' backing backing'
-IsServeCause (stop.Fault device) source left cache cache' backing backing' = WasRead source left × IsOpenCause (errors.Fault device) cache cache' backing backing'
-IsServeCause (stop.Superblock device number) source left cache cache' backing backing' = WasRead source left × IsOpenCause (errors.Superblock device number) cache cache' backing backing'
-IsServeCause stop.Unserved source left cache cache' backing backing' = WasRead source left × IsOpenCause errors.Unserved cache cache' backing backing'
 IsServeCause stop.Memory source left cache cache' backing backing' = Unit {0}
+IsServeCause why source left cache cache' backing backing' = WasRead source left × IsOpeningCause cache cache' backing backing' why
 
 -- where a call ends so, the count of a device's faults rose
 abbrev pub OneHasRisen : DiskFacts → DiskFacts → DiskFacts → DiskFacts → Type 0
 OneHasRisen cache cache' backing backing' = HasRisen cache.faults cache'.faults ⊎ HasRisen backing.faults backing'.faults
+
+-- So it ended, or there was no memory.
+abbrev pub EndsAnswering : Pair → ℕ → StreamFacts → StreamFacts → Type 0
+EndsAnswering p status old new = (status ≡ 9) ⊎ ((why : Stop) × IsAnswerTo p why × (status ≡ status_of why) × IsPutOf (message_text (message_of why)) old new)
+
+-- Where the source tells a trace and no call of the source or of a device fails, the pair that both devices hold is so answered,
+-- if it isn't served by the backing device alone.
+abbrev pub AnswersPair : StreamFacts → StreamFacts → DiskFacts → DiskFacts → DiskFacts → DiskFacts → ℕ → StreamFacts → StreamFacts → Type 0
+AnswersPair source left cache cache' backing backing' status old new = SpellsTrace source → (HasRisen source.faults left.faults → ⊥) → (OneHasRisen cache cache' backing backing' → ⊥)
+    → OfHeld (λ p. (ServesAlone p → ⊥) → EndsAnswering p status old new) cache backing

@@ -3,6 +3,7 @@
 
 pub mod closing;
 mod ending;
+pub mod laws;
 pub mod opening;
 mod pairs;
 pub mod ran;

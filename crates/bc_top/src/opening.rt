@@ -1,46 +1,24 @@
 //! How a pair is opened.
-ghost use Rattle.std.specs.Prelude.{◌↔◌, IsTrue, IfOk, IfErr};
+ghost use Rattle.std.specs.Prelude.{◌↔◌, IsTrue, IfOk, IfErr, OnOk};
 ghost use Rattle.bc_disk.specs.Disk.{StandsFor};
 ghost use Rattle.bc_disk.specs.Stands.{settled_model};
+ghost use Rattle.bc_replay.specs.Causes.{OfHeld};
+ghost use Rattle.bc_replay.specs.Survey.{CanBeOpened};
 ghost use Rattle.bc_super.specs.Division.{IsPassThrough};
-ghost use Rattle.bc_top.specs.Opened.{IsBackingCause, IsJudged, IsOpened, IsPairCause, IsSameDevice, IsToldAs};
+ghost use Rattle.bc_top.specs.Opened.{AreQuiet, IsLoneCause, IsOpened, IsPairCause, IsSameDevice};
 
 use bc_disk::disk::{Device, Disk};
 use bc_mode::Mode;
+use bc_replay::{OpenError, refusal, survey};
 use bc_super::backing::{BackingSuper, read_backing};
-use bc_super::cache::{CacheSuper, initialised, read_cache};
-use bc_super::error::SuperError;
 use bc_super::state::BackingState;
-
-/// Why a pair isn't served.
-#[derive(Clone, Copy, Debug, PartialEq, Eq, Drop)]
-pub enum OpenError {
-    /// A call of this device failed.
-    Fault(Device),
-    /// The superblock of this device has the fault of this number.
-    Superblock { device: Device, number: u8 },
-    /// The pair has a cache, which isn't served yet.
-    Unserved,
-}
-
-// That a call which read the superblock of this device failed, or found this fault.
-fn refused(device: Device, error: SuperError) -> OpenError
-    ensures { IsToldAs device error result }
-{
-    match error {
-        SuperError::Fault => OpenError::Fault(device),
-        error => OpenError::Superblock {
-            device,
-            number: error.number(),
-        },
-    }
-}
+use std::alloc::Global;
 
 /// Makes what the backing device holds all that a crash may leave, and reads its superblock.
 pub fn open_backing<B: Disk>(backing: &mut B) -> Result<BackingSuper, OpenError>
     ensures ok { IfOk result (λ s. IsOpened s (B.facts backing.old) (B.facts backing.new)) }
     ensures settled { IfOk result (λ _. StandsFor (B.facts backing.new) (settled_model (B.facts backing.new))) }
-    ensures cause { IfErr result (λ error. IsBackingCause error (B.facts backing.old) (B.facts backing.new)) }
+    ensures cause { IfErr result (λ error. IsLoneCause error (B.facts backing.old) (B.facts backing.new)) }
     ensures same { IsSameDevice (B.facts backing.old) (B.facts backing.new) }
 {
     let Ok(()) = backing.barrier() else {
@@ -48,7 +26,7 @@ pub fn open_backing<B: Disk>(backing: &mut B) -> Result<BackingSuper, OpenError>
     };
     match read_backing(backing) {
         Ok(s) => Ok(s),
-        Err(error) => Err(refused(Device::Backing, error)),
+        Err(error) => Err(refusal(Device::Backing, error)),
     }
 }
 
@@ -59,37 +37,28 @@ pub fn is_pass_through(s: &BackingSuper) -> bool
     s.mode() == Mode::None && s.state() == BackingState::None
 }
 
-// What a pair with these superblocks is answered.
-fn judge(s: &BackingSuper, c: &CacheSuper) -> OpenError
-    ensures { IsJudged result s.now c.now }
-{
-    if s.state() == BackingState::None || !initialised(c) {
-        OpenError::Superblock {
-            device: Device::Cache,
-            number: SuperError::NotInitialised.number(),
-        }
-    } else if s.set_uuid != c.set_uuid {
-        OpenError::Superblock {
-            device: Device::Backing,
-            number: SuperError::OtherSet.number(),
-        }
-    } else {
-        OpenError::Unserved
-    }
-}
-
-/// Why a backing device with this superblock, which asks for a cache, isn't served: runs with a cache
-/// don't exist yet. Makes what the cache device holds all that a crash may leave, and reads its
-/// superblock.
-pub fn refuse_cache<C: Disk>(cache: &mut C, s: &BackingSuper) -> OpenError
-    ensures cause { IsPairCause result s.now (C.facts cache.old) (C.facts cache.new) }
-    ensures same { IsSameDevice (C.facts cache.old) (C.facts cache.new) }
+/// Whether a pair of which the backing device asks for a cache can be opened: makes what the cache
+/// device holds all that a crash may leave, and reads all of the pair but its data. No sector is
+/// written.
+///
+/// The error is that a call of a device failed, that memory ran out, or the first refusal of the
+/// pair.
+pub fn test_pair<C: Disk, B: Disk>(
+    alloc: Global,
+    cache: &mut C,
+    backing: &mut B,
+) -> Result<(), OpenError>
+    ensures opened { OnOk result (OfHeld CanBeOpened (C.facts cache.old) (B.facts backing.old)) }
+    ensures quiet { OnOk result (AreQuiet (C.facts cache.old) (C.facts cache.new)
+        (B.facts backing.old) (B.facts backing.new)) }
+    ensures cause { IfErr result (IsPairCause (C.facts cache.old) (C.facts cache.new)
+        (B.facts backing.old) (B.facts backing.new)) }
+    ensures cache_same { IsSameDevice (C.facts cache.old) (C.facts cache.new) }
+    ensures backing_same { IsSameDevice (B.facts backing.old) (B.facts backing.new) }
 {
     let Ok(()) = cache.barrier() else {
-        return OpenError::Fault(Device::Cache);
+        return Err(OpenError::Fault(Device::Cache));
     };
-    match read_cache(cache) {
-        Ok(c) => judge(s, &c),
-        Err(error) => refused(Device::Cache, error),
-    }
+    survey(alloc, cache, backing)?;
+    Ok(())
 }

@@ -14,16 +14,15 @@ ghost use Rattle.bc_super.specs.Super.{data_sectors};
 ghost use Rattle.bc_super.specs.declared.backing.BackingSuper.{BackingSuper};
 ghost use Rattle.bc_top.specs.Ended.{IsEnd, IsDone, AreExpected, IsPutOf, HasStopped};
 ghost use Rattle.bc_super.specs.Division.{IsPassThrough};
-ghost use Rattle.bc_top.specs.Opened.{IsOpenCause, IsOpened, SameImage, AsksForNone};
+ghost use Rattle.bc_top.specs.Opened.{IsOpeningCause, IsOpened, SameImage, AsksForNone};
 ghost use Rattle.bc_top.specs.Run.{HasRun, Survives, IsStable, setup_on};
-ghost use Rattle.bc_top.specs.Stops.{IsRefusal, IsStatus, message_of, status_of, stop_of};
-ghost use Rattle.bc_top.specs.declared.opening.OpenError.{OpenError};
-ghost use Rattle.bc_top.specs.Top.{AreSame, IsServeCause, OneHasRisen, SpellsTrace};
+ghost use Rattle.bc_top.specs.Stops.{IsRefusal, IsStatus, message_of, status_of};
+ghost use Rattle.bc_top.specs.Top.{AnswersPair, AreSame, IsServeCause, OneHasRisen, SpellsTrace};
 ghost use Rattle.bc_top.specs.declared.closing.Closing.{Closing};
 ghost use Rattle.bc_top.specs.declared.stop.Stop.{Stop};
 
 use crate::ending::report;
-use crate::opening::{OpenError, is_pass_through, open_backing, refuse_cache};
+use crate::opening::{is_pass_through, open_backing, test_pair};
 use crate::ran::Ran;
 use crate::running::run_trace;
 use crate::stop::{Stop, tell};
@@ -45,33 +44,27 @@ struct Prepared {
     superblock: BackingSuper,
 }
 
-// Why a call ends whose pair isn't served.
-fn stop_of(error: OpenError) -> Stop
-    ensures { result ≡ stop_of error }
-{
-    match error {
-        OpenError::Fault(device) => Stop::Fault(device),
-        OpenError::Superblock { device, number } => Stop::Superblock { device, number },
-        OpenError::Unserved => Stop::Unserved,
-    }
-}
-
 // Opens the pair for a run over the backing device alone.
-fn open<C: Disk, B: Disk>(cache: &mut C, backing: &mut B) -> Result<BackingSuper, Stop>
+fn open<C: Disk, B: Disk>(
+    alloc: Global,
+    cache: &mut C,
+    backing: &mut B,
+) -> Result<BackingSuper, Stop>
     ensures opened { IfOk result (λ s. IsPassThrough s × IsOpened s (B.facts backing.old) (B.facts backing.new)) }
     ensures cache { IfOk result (λ _. cache.new ≡ cache.old) }
     ensures settled { IfOk result (λ _. StandsFor (B.facts backing.new) (settled_model (B.facts backing.new))) }
-    ensures cause { IfErr result (λ stop. (error : OpenError) × (stop ≡ stop_of error) × IsOpenCause error (C.facts cache.old) (C.facts cache.new) (B.facts backing.old) (B.facts backing.new)) }
+    ensures cause { IfErr result (IsOpeningCause (C.facts cache.old) (C.facts cache.new) (B.facts backing.old) (B.facts backing.new)) }
     ensures same { AreSame (C.facts cache.old) (C.facts cache.new) (B.facts backing.old) (B.facts backing.new) }
 {
-    match open_backing(backing) {
-        Ok(s) if is_pass_through(&s) => Ok(s),
-        Ok(s) => Err(stop_of(refuse_cache(cache, &s))),
-        Err(error) => Err(stop_of(error)),
+    let superblock = open_backing(backing)?;
+    if !is_pass_through(&superblock) {
+        test_pair(alloc, cache, backing)?;
+        return Err(Stop::Unserved);
     }
+    Ok(superblock)
 }
 
-// Reads the whole trace, then the superblocks.
+// Reads the whole trace, then the pair.
 fn prepare<C: Disk, B: Disk, S: Source>(
     alloc: Global,
     trace: &mut S,
@@ -91,7 +84,7 @@ fn prepare<C: Disk, B: Disk, S: Source>(
         Err(TraceError::Fault) => return Err(Stop::Source),
         Err(TraceError::Memory) => return Err(Stop::Memory),
     };
-    match open(cache, backing) {
+    match open(alloc, cache, backing) {
         Ok(superblock) => Ok(Prepared {
             lines: script.into_lines(),
             superblock,
@@ -104,8 +97,8 @@ fn prepare<C: Disk, B: Disk, S: Source>(
 /// cache device isn't touched.
 ///
 /// The whole trace is read first, then the superblock of the backing device and, where it asks for a
-/// cache, that of the cache device; the first of these that is refused ends the call with a message,
-/// and no sector is written. Then each line is served in order, a last barrier is made, and the
+/// cache, all of the pair but its data; the first of these that is refused ends the call with a
+/// message, as does a cache, which isn't served yet, and no sector is written. Then each line is served in order, a last barrier is made, and the
 /// answers are put in order.
 pub fn serve<R: Wait, C: Disk + Drop, B: Disk + Drop, S: Source, K: Sink>(
     rt: &R,
@@ -144,6 +137,10 @@ pub fn serve<R: Wait, C: Disk + Drop, B: Disk + Drop, S: Source, K: Sink>(
         → (HasRisen (B.facts backing).faults (B.facts result.backing).faults → ⊥)
         → (HasStopped (K.facts out.old) (K.facts out.new) → ⊥)
         → (result.status ≡ 0) ⊎ (result.status ≡ 9) }
+
+    // A pair with a cache is answered by its first refusal, and where it has none that it isn't served.
+    ensures judged { AnswersPair (S.facts trace.old) (S.facts trace.new) (C.facts cache) (C.facts result.cache)
+        (B.facts backing) (B.facts result.backing) result.status (K.facts out.old) (K.facts out.new) }
 
     // Over a device that tells what it holds the history is legal, and whatever a crash leaves shows
     // for each sector a value no older than the last acknowledged flush; at status 0, its last write.

@@ -2,12 +2,13 @@
 ghost use Rattle.std.specs.Prelude.{◌≡◌};
 ghost use Rattle.bc_output.specs.Message.{message_text};
 ghost use Rattle.bc_top.specs.Ended.{IsPutOf};
-ghost use Rattle.bc_top.specs.Stops.{message_of, status_of};
+ghost use Rattle.bc_top.specs.Stops.{message_of, status_of, stop_of};
 
 use bc_disk::disk::Device;
 use bc_disk::stream::Sink;
 use bc_output::message::{Message, Origin, print_message};
 use bc_output::put::put_all;
+use bc_replay::OpenError;
 use bc_script::script::ScriptError;
 
 /// Why a call ends before its command is done.
@@ -23,6 +24,8 @@ pub enum Stop {
     Fault(Device),
     /// The superblock of this device has the fault of this number.
     Superblock { device: Device, number: u8 },
+    /// What the pair holds behind its superblocks was refused for the reason of this number.
+    Image(u8),
     /// The pair has a cache, which isn't served yet.
     Unserved,
     /// There was no memory.
@@ -38,7 +41,7 @@ impl Stop {
             Stop::Usage => 2,
             Stop::Trace(_) => 3,
             Stop::Superblock { .. } => 4,
-            Stop::Unserved => 5,
+            Stop::Image(_) | Stop::Unserved => 5,
             Stop::Fault(_) => 6,
             Stop::Source => 7,
             Stop::Memory => 9,
@@ -59,10 +62,27 @@ impl Stop {
                 device: *device,
                 number: *number,
             },
+            Stop::Image(number) => Message::Image(*number),
             Stop::Unserved => Message::Unserved,
             Stop::Fault(device) => Message::Fault(Origin::Disk(*device)),
             Stop::Source => Message::Fault(Origin::Source),
             Stop::Memory => Message::Memory,
+        }
+    }
+}
+
+impl From<OpenError> for Stop {
+    ghost from_gives = { λ error stop. stop ≡ stop_of error };
+
+    fn from(error: OpenError) -> Stop {
+        match error {
+            OpenError::Super { device, why } => Stop::Superblock {
+                device,
+                number: why.number(),
+            },
+            OpenError::Fault(device) => Stop::Fault(device),
+            OpenError::Memory => Stop::Memory,
+            error => Stop::Image(error.number()),
         }
     }
 }

@@ -17,7 +17,7 @@ ghost use Rattle.bc_super.specs.Division.{IsPassThrough};
 ghost use Rattle.bc_top.specs.Opened.{IsOpened, SameImage, AsksForNone};
 ghost use Rattle.bc_top.specs.Run.{HasRun, Survives, IsStable, setup_on};
 ghost use Rattle.bc_top.specs.Stops.{IsRefusal, IsStatus, message_of, status_of};
-ghost use Rattle.bc_top.specs.Top.{AreSame, Does, IsServe, LacksMemory, IsServeCause, OneHasRisen, Says, SpellsTrace, words_stop};
+ghost use Rattle.bc_top.specs.Top.{AnswersPair, AreSame, Does, IsServe, LacksMemory, IsServeCause, OneHasRisen, Says, SpellsTrace, words_stop};
 ghost use Rattle.bc_top.specs.declared.closing.Closing.{Closing};
 ghost use Rattle.bc_top.specs.declared.stop.Stop.{Stop};
 ghost use Rattle.bc_pair.specs.Causes.{KeepsOthers};
@@ -102,6 +102,10 @@ pub fn bcache<R: Wait, C: Disk + Drop, B: Disk + Drop, S: Source, K: Sink>(
         → (HasStopped (K.facts out.old) (K.facts out.new) → ⊥)
         → (result.status ≡ 0) ⊎ (result.status ≡ 9) }
 
+    // A pair with a cache is answered by its first refusal, and where it has none that it isn't served.
+    ensures judged { IsServe words.now → AnswersPair (S.facts trace.old) (S.facts trace.new) (C.facts cache) (C.facts result.cache)
+        (B.facts backing) (B.facts result.backing) result.status (K.facts out.old) (K.facts out.new) }
+
     ensures ends { (IsServe words.now → ⊥)
         → (OneHasRisen (C.facts cache) (C.facts result.cache) (B.facts backing) (B.facts result.backing) → ⊥)
         → (HasStopped (K.facts out.old) (K.facts out.new) → ⊥)
@@ -123,6 +127,8 @@ pub fn bcache<R: Wait, C: Disk + Drop, B: Disk + Drop, S: Source, K: Sink>(
                 buuid,
                 block,
                 bucket,
+                mode,
+                offset,
             },
         ) => {
             let pair = NewPair {
@@ -131,6 +137,8 @@ pub fn bcache<R: Wait, C: Disk + Drop, B: Disk + Drop, S: Source, K: Sink>(
                 backing_uuid: buuid,
                 block,
                 bucket,
+                mode,
+                offset,
             };
             format_pair(alloc, &pair, cache, backing, out)
         }

@@ -1,4 +1,6 @@
-use Rattle.std.proofs.Common.{ap}
+use Rattle.std.proofs.Common.{ap, subst, sym}
+use Rattle.bc_replay.specs.declared.error.OpenError.{OpenError}
+use Rattle.bc_top.specs.Opened.{IsLoneCause}
 use Rattle.bc_top.proofs.Settled.{open_failed, opened, same_settled, stands}
 use Rattle.bc_top.proofs.opening.open_backing.Goals as goal
 
@@ -16,4 +18,10 @@ returns-in-Ok-read_backing-clause-same g c = same_settled (g.B.Disk.facts c.args
 pub returns-in-Err-clause-cause : goal.returns-in-Err-clause-cause
 returns-in-Err-clause-cause g c =
     let r = c.in-Err.ensures in
-    open_failed (g.B.Disk.facts c.args.backing.now) (g.B.Disk.facts c.barrier.new.self) (g.B.Disk.facts c.read_backing.new.disk) c.in-Err.error c.refused.result c.refused.ensures c.in-Ok.ensures.counted r.kept r.counted (λ few. ap (λ d. (g.B.Disk.facts d).faults) (r.untouched few)) r.refused
+    let old = g.B.Disk.facts c.args.backing.now in
+    let new = g.B.Disk.facts c.read_backing.new.disk in
+    subst (λ (x : OpenError). IsLoneCause x old new) (sym c.refusal.ensures)
+    (open_failed old (g.B.Disk.facts c.barrier.new.self) new c.in-Err.error c.in-Ok.ensures.counted r.kept r.counted (λ few. ap (λ d. (g.B.Disk.facts d).faults) (r.untouched few)) (λ few. let is = r.small.1 few in cc) r.refused)
+
+pub returns-in-Err-clause-same : goal.returns-in-Err-clause-same
+returns-in-Err-clause-same g c = same_settled (g.B.Disk.facts c.args.backing.now) (g.B.Disk.facts c.barrier.new.self) (g.B.Disk.facts c.read_backing.new.disk) c.in-Ok.ensures.ok c.in-Err.ensures.kept

@@ -3,5 +3,5 @@ use Rattle.bc_top.proofs.serve.prepare.Goals as goal
 
 pub returns-in-Err-clause-cause : goal.returns-in-Err-clause-cause
 returns-in-Err-clause-cause g c =
-    let why = c.in-Err.ensures.cause in
-    open_cause why.0 c.in-Err.stop (g.S.Source.facts c.args.trace.now) (g.S.Source.facts c.read_trace.new.source) (g.C.Disk.facts c.args.cache.now) (g.C.Disk.facts c.open.new.cache) (g.B.Disk.facts c.args.backing.now) (g.B.Disk.facts c.open.new.backing) why.1 (c.in-Ok.script, c.in-Ok.ensures.trace, c.in-Ok.ensures.whole) why.2
+    open_cause (g.S.Source.facts c.args.trace.now) (g.S.Source.facts c.read_trace.new.source) (g.C.Disk.facts c.args.cache.now) (g.C.Disk.facts c.open.new.cache) (g.B.Disk.facts c.args.backing.now) (g.B.Disk.facts c.open.new.backing)
+    (c.in-Ok.script, c.in-Ok.ensures.trace, c.in-Ok.ensures.whole) c.in-Err.stop c.in-Err.ensures.cause

@@ -14,6 +14,7 @@ use Rattle.bc_top.specs.declared.stop.Stop.TheVariants as stop
 use Rattle.bc_top.proofs.Telling.{told_before, expected, legal_of}
 use Rattle.bc_top.proofs.Statuses.{closed_whole, device_failed, sink_stopped, done, ended_otherwise, only_done}
 use Rattle.bc_top.proofs.Completing.{only_memory}
+use Rattle.bc_top.proofs.Judging.{alone_answers, nine_answers, stopped_answers}
 use Rattle.bc_top.proofs.serve.serve.Goals as goal
 
 pub returns-in-Ok-run_trace-clause-survives : goal.returns-in-Ok-run_trace-clause-survives
@@ -102,3 +103,21 @@ returns-clause-stopped g c = λ none. (
     subst (λ (d : DiskFacts). IsSameDevice (g.B.Disk.facts c.args.backing) d) (sym (ap (λ (b : Backing _). g.B.Disk.facts b.disk) c.in-Err-run_trace.ensures.err)) c.in-Ok.ensures.same.1,
   ),
 )
+
+pub returns-in-Err-clause-judged : goal.returns-in-Err-clause-judged
+returns-in-Err-clause-judged g c =
+    stopped_answers (g.C.Disk.facts c.args.cache) (g.C.Disk.facts c.prepare.new.cache) (g.B.Disk.facts c.args.backing) (g.B.Disk.facts c.prepare.new.backing) c.in-Err.ensures.same (g.S.Source.facts c.args.trace.now) (g.S.Source.facts c.prepare.new.trace) c.in-Err.stop c.in-Err.ensures.cause
+    c.tell.result (g.K.Sink.facts c.args.out.now) (g.K.Sink.facts c.tell.new.out) c.tell.ensures.status c.tell.ensures.put
+
+pub returns-in-Ok-run_trace-clause-judged : goal.returns-in-Ok-run_trace-clause-judged
+returns-in-Ok-run_trace-clause-judged g c =
+    let old = g.B.Disk.facts c.args.backing in
+    let opened = g.B.Disk.facts c.prepare.new.backing in
+    let s = c.in-Ok.prepared.superblock in
+    let is = c.in-Ok.ensures.opened.1 in
+    alone_answers (g.S.Source.facts c.args.trace.now) (g.S.Source.facts c.prepare.new.trace) (g.C.Disk.facts c.args.cache) (g.C.Disk.facts c.prepare.new.cache) old (g.B.Disk.facts c.in-Ok-run_trace.outcome.backing.disk) s (reads_before old opened is.sectors is.holds s is.reads) c.in-Ok.ensures.opened.0
+    c.report.result (g.K.Sink.facts c.args.out.now) (g.K.Sink.facts c.report.new.out)
+
+pub returns-clause-judged : goal.returns-clause-judged
+returns-clause-judged g c =
+    nine_answers (g.S.Source.facts c.args.trace.now) (g.S.Source.facts c.prepare.new.trace) (g.C.Disk.facts c.args.cache) (g.C.Disk.facts c.prepare.new.cache) (g.B.Disk.facts c.args.backing) (g.B.Disk.facts c.in-Err-run_trace.backing.disk) c.tell-in-Err-run_trace.result (g.K.Sink.facts c.args.out.now) (g.K.Sink.facts c.tell-in-Err-run_trace.new.out) c.tell-in-Err-run_trace.ensures.status

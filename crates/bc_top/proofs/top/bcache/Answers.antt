@@ -9,6 +9,7 @@ use Rattle.bc_top.specs.Stops.{message_of, status_of}
 use Rattle.bc_top.specs.Top.{Does}
 use Rattle.bc_top.specs.declared.stop.Stop.{Stop}
 use Rattle.bc_top.specs.declared.stop.Stop.TheVariants as stop
+use Rattle.bc_top.proofs.Judging.{nine_answers}
 use Rattle.bc_top.proofs.Settled.{same_self}
 use Rattle.bc_top.proofs.Unread.{at_error, found_is, lacks}
 use Rattle.bc_top.proofs.Pairing.{adopt_unwritten, keeps_kept, printing_ends, printing_stops, same_both, silent_ends}
@@ -17,10 +18,10 @@ use Rattle.bc_top.proofs.top.bcache.Goals as goal
 pub returns-in-Ok-Format-clause-does : goal.returns-in-Ok-Format-clause-does
 returns-in-Ok-Format-clause-does g c = λ command says.
     let f = c.in-Ok-Format in
-    let is : Format f.set f.cuuid f.buuid f.block f.bucket ≡ command =
+    let is : Format f.set f.cuuid f.buuid f.block f.bucket f.mode f.offset ≡ command =
     sym f.field-0-is ∙ found_is c.read_words.result f.field-0 command f.is (c.read_words.ensures.read command says.0 says.1) in
     inl (subst (λ (x : Command). Does g.C.Disk.facts g.B.Disk.facts x c.format_pair.result.status c.args.cache c.format_pair.result.cache c.args.backing c.format_pair.result.backing (g.K.Sink.facts c.args.out.now) (g.K.Sink.facts c.format_pair.new.out)) is
-    (_, refl, refl, refl, refl, refl, c.format_pair.ensures.formatted))
+    (_, refl, refl, refl, refl, refl, refl, refl, c.format_pair.ensures.formatted))
 
 pub returns-in-Err-clause-does : goal.returns-in-Err-clause-does
 returns-in-Err-clause-does g c = λ command says. inr (lacks _ c.in-Err.error _ command
@@ -40,6 +41,13 @@ returns-in-Err-clause-complete g c = λ serves spells asks quiet still takes.
     (at_error (λ e. IsCause (map string_bytes c.args.words.now) e) c.read_words.result c.in-Err.error c.in-Err.is c.read_words.ensures.refused) serves.1 (c.tell.ensures.status ∙ ap (λ (s : Stop). status_of s) c.stop_of.ensures)
     (subst (λ (s : Stop). IsPutOf (message_text (message_of s)) (g.K.Sink.facts c.args.out.now) (g.K.Sink.facts c.tell.new.out)) c.stop_of.ensures c.tell.ensures.put) in
     inr lacking.status_is
+
+pub returns-in-Err-clause-judged : goal.returns-in-Err-clause-judged
+returns-in-Err-clause-judged g c = λ serves.
+    let lacking = lacks {cache = c.args.cache} {backing = c.args.backing} _ c.in-Err.error _ (Serve serves.0)
+    (at_error (λ e. IsCause (map string_bytes c.args.words.now) e) c.read_words.result c.in-Err.error c.in-Err.is c.read_words.ensures.refused) serves.1 (c.tell.ensures.status ∙ ap (λ (s : Stop). status_of s) c.stop_of.ensures)
+    (subst (λ (s : Stop). IsPutOf (message_text (message_of s)) (g.K.Sink.facts c.args.out.now) (g.K.Sink.facts c.tell.new.out)) c.stop_of.ensures c.tell.ensures.put) in
+    nine_answers (g.S.Source.facts c.args.trace.now) (g.S.Source.facts c.args.trace.now) (g.C.Disk.facts c.args.cache) (g.C.Disk.facts c.args.cache) (g.B.Disk.facts c.args.backing) (g.B.Disk.facts c.args.backing) c.tell.result (g.K.Sink.facts c.args.out.now) (g.K.Sink.facts c.tell.new.out) lacking.status_is
 
 pub returns-in-Ok-Adopt-clause-unwritten : goal.returns-in-Ok-Adopt-clause-unwritten
 returns-in-Ok-Adopt-clause-unwritten g c = λ refused.

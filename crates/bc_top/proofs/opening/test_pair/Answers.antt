@@ -1,0 +1,23 @@
+use Rattle.bc_replay.specs.Survey.{CanBeOpened}
+use Rattle.bc_replay.proofs.Opens.{survey_opens}
+use Rattle.bc_replay.proofs.Pairs.{passed_on}
+use Rattle.bc_top.specs.Opened.{IsPairCause}
+use Rattle.bc_top.proofs.Judging.{held_settled, survey_cause}
+use Rattle.bc_top.proofs.opening.test_pair.Goals as goal
+
+pub returns-clause-opened : goal.returns-clause-opened
+returns-clause-opened g c =
+    let settled = g.C.Disk.facts c.barrier.new.self in
+    let backing = g.B.Disk.facts c.args.backing.now in
+    held_settled (g.C.Disk.facts c.args.cache.now) settled (g.C.Disk.facts c.survey.new.cache) backing (g.B.Disk.facts c.survey.new.backing) c.in-Ok.ensures.ok.sectors c.in-Ok.ensures.ok.holds c.in-Ok.ensures.counted.1 CanBeOpened
+    (survey_opens settled backing _ _ _ _ _ _ _ _ c.in_ok-survey.ensures.found)
+
+pub returns-in_err-survey-clause-cause : goal.returns-in_err-survey-clause-cause
+returns-in_err-survey-clause-cause g c =
+    let cache = g.C.Disk.facts c.args.cache.now in
+    let cache' = g.C.Disk.facts c.survey.new.cache in
+    let backing = g.B.Disk.facts c.args.backing.now in
+    let backing' = g.B.Disk.facts c.survey.new.backing in
+    let e = c.in_err-survey.field-0.0 in
+    passed_on c.from_residual.result e (IsPairCause cache cache' backing backing') c.from_residual.ensures.1
+    (survey_cause cache (g.C.Disk.facts c.barrier.new.self) cache' backing backing' c.in-Ok.ensures.ok.sectors c.in-Ok.ensures.ok.holds c.in-Ok.ensures.counted.1 e c.in_err-survey.ensures.refused c.in_err-survey.ensures.faults)
