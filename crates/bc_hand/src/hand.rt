@@ -9,7 +9,7 @@ use bc_disk::disk::Disk;
 use bc_flight::flight::Flight;
 use bc_machine::machine::{Core, CoreParts, CoreSeat};
 use bc_machine::part::{BACKING, BackingPart, CorePart, FLIGHT};
-use bc_seats::seats as seats;
+use bc_seats::seats;
 use std::sync::Wait;
 
 /// The parts that a seat holds, one of each kind at most. They are taken in this order.

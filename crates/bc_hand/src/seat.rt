@@ -9,7 +9,7 @@ ghost use Rattle.bc_hand.specs.Seats.{core, by, IsCoreSeat, MayDo, Did};
 use bc_disk::disk::{Device, Disk};
 use bc_events::event::{Deed, Event};
 use bc_machine::machine::{Core, CoreParts, CoreSeat};
-use bc_seats::seats as seats;
+use bc_seats::seats;
 use std::sync::Wait;
 
 /// Commits a deed of the seat, which may be done in each state in which that can be.
