@@ -8,7 +8,7 @@ use Rattle.bc_disk.specs.Stream.{StreamFacts}
 use Rattle.bc_top.specs.Stops.{status_of}
 use Rattle.bc_top.specs.Top.{LacksMemory}
 use Rattle.bc_top.specs.declared.stop.Stop.{Stop}
-use Rattle.bc_top.specs.declared.stop.Stop.TheVariants.{Usage, Trace, Source, Fault, Superblock, Unserved, Memory}
+use Rattle.bc_top.specs.declared.stop.Stop.TheVariants.{Usage, Trace, Source, Fault, Superblock, Image, Unserved, Memory}
 
 stops_above_zero : (stop : Stop) → status_of stop ≡ 0 → ⊥
 stops_above_zero Usage zero = omega (arith, zero)
@@ -16,6 +16,7 @@ stops_above_zero (Trace error) zero = omega (arith, zero)
 stops_above_zero Source zero = omega (arith, zero)
 stops_above_zero (Fault device) zero = omega (arith, zero)
 stops_above_zero (Superblock device number) zero = omega (arith, zero)
+stops_above_zero (Image number) zero = omega (arith, zero)
 stops_above_zero Unserved zero = omega (arith, zero)
 stops_above_zero Memory zero = omega (arith, zero)
 

@@ -162,6 +162,7 @@ same_answer p a b (inr x) (inl y) = absurd (x.0 y.0 y.1)
 same_answer p a b (inr x) (inr y) = x.1 ∙ sym y.1
 
 is_told : (e : OpenError) → stop.Unserved ≡ stop_of e → ⊥
+is_told (errors.Super d why) is = absurd (cc)
 is_told e is = absurd (cc)
 
 pub unserved_none : (p : Pair) → IsAnswerTo p stop.Unserved → (e : OpenError) → IsFirst p e → ⊥
