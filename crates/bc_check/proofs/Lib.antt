@@ -2,3 +2,13 @@ pub mod Counting
 pub mod Listed
 pub mod Aged
 pub mod Summed
+pub mod Pairs
+pub mod Runs
+pub mod Alone
+pub mod Differ
+pub mod Others
+pub mod Verdicts
+pub mod Says
+pub mod Checked
+pub mod Anew
+pub mod Through

@@ -1,9 +1,10 @@
-//! A pair by its bytes, and what is said of its buckets.
+//! A pair by its bytes, what is said of its buckets, and whether it is sound.
 
 ghost use Rattle.std.specs.Prelude.{◌≡◌, ◌≤◌, length};
 
-use super::{BucketLine, count_sectors, first_aged, list_buckets};
+use super::{BucketLine, CheckError, Verdict, check_pair, count_sectors, first_aged, list_buckets};
 use bc_bytes::{crc64, put_u32, put_u64};
+use bc_disk::disk::Device;
 use bc_disk::mem_disk::MemDisk;
 use bc_keys::put_words;
 use bc_mode::Mode;
@@ -22,6 +23,21 @@ const CLEAN: u64 = (1 << 63) + (1 << 60) + (4 << 20);
 
 /// The same of a dirty key.
 const DIRTY: u64 = CLEAN + (1 << 36);
+
+/// What is done to a pair that is sound.
+#[derive(Clone, Copy, Debug, Drop)]
+enum Edit {
+    /// Nothing.
+    None,
+    /// Another byte of the backing device, at this place.
+    Flip(usize),
+    /// One more key, of sectors 20 to 23, with this first word and this pointer.
+    Key(u64, u64),
+    /// Its first entry once more, at this sector, with this number.
+    Entry(usize, u64),
+    /// The backing device asks for no cache.
+    Alone,
+}
 
 // A disk of so many zeros, in sectors.
 fn blank(alloc: Global, sectors: usize) -> Result<MemDisk, AllocError>
@@ -54,17 +70,18 @@ fn word(sector: u64, generation: u8) -> u64
     (sector << 8) + u64::from(generation)
 }
 
-// Puts three keys into the leaf: two of sectors 4 to 11, and one of sectors 16 to 19.
-fn put_leaf(bytes: &mut [u8], first: u64, second: u64, third: u64)
-    requires { 4194304 ≤ length bytes.old }
+// Puts keys into the leaf, each by its first word, its end and its pointer.
+fn put_leaf(bytes: &mut [u8], keys: &[[u64; 3]])
+    requires large { 4194304 ≤ length bytes.old }
+    requires few { length keys.now ≤ 3 }
     ensures { length bytes.new ≡ length bytes.old }
 {
     let at = 768 * 512;
-    put_u32(bytes, at + 28, 9);
-    put_words(bytes, at + 32, &[CLEAN, 8, first]);
-    put_words(bytes, at + 56, &[DIRTY, 12, second]);
-    put_words(bytes, at + 80, &[DIRTY, 20, third]);
-    let sum = crc64(768 << 8, &bytes[at + 8..at + 104]);
+    put_u32(bytes, at + 28, 3 * keys.len() as u32);
+    for i in 0..keys.len() {
+        put_words(bytes, at + 32 + 24 * i, &keys[i]);
+    }
+    let sum = crc64(768 << 8, &bytes[at + 8..at + 32 + 24 * keys.len()]);
     put_u64(bytes, at, sum);
 }
 
@@ -79,7 +96,8 @@ fn surveyed(
     let (made, mut backing) = new_pair(alloc)?;
     let mut bytes = Vec::from_slice(alloc, made.bytes())?;
     assert_eq!(rt; bytes.len(), CACHE);
-    put_leaf(&mut bytes, first, second, third);
+    let keys = [[CLEAN, 8, first], [DIRTY, 12, second], [DIRTY, 20, third]];
+    put_leaf(&mut bytes, &keys);
     let mut cache = MemDisk::new(alloc, bytes, 1000)?;
     Ok(survey(alloc, &mut cache, &mut backing))
 }
@@ -132,6 +150,125 @@ fn ages(rt: HostRuntime) -> Result<(), Fail> {
         let (a, b, c) = generations;
         let s = surveyed(&rt, rt.alloc(), word(6400, a), word(6464, b), word(6528, c))??;
         assert_eq!(rt; first_aged(&s), aged, "{generations:?}");
+    }
+    Ok(())
+}
+
+// Puts the first entry once more, at a sector, with a number.
+fn put_entry(bytes: &mut [u8], sector: usize, seq: u64)
+    requires large { 4194304 ≤ length bytes.old }
+    requires sector { sector ≤ 8000 }
+    ensures { length bytes.new ≡ length bytes.old }
+{
+    let at = 512 * sector;
+    for k in 0..240 {
+        bytes[at + k] = bytes[64 * 512 + k];
+    }
+    put_u64(bytes, at + 16, seq);
+    let sum = crc64(u64::MAX, &bytes[at + 8..at + 240]);
+    put_u64(bytes, at, sum);
+}
+
+// Lets the backing device ask for no cache: its mode is none, and it has no state.
+fn put_alone(bytes: &mut [u8])
+    requires { 8192 ≤ length bytes.old }
+    ensures { length bytes.new ≡ length bytes.old }
+{
+    let at = 8 * 512;
+    put_u64(bytes, at + 104, 3);
+    let sum = crc64(u64::MAX, &bytes[at + 8..at + 208]);
+    put_u64(bytes, at, sum);
+}
+
+// A sound pair, after an edit. Of sectors 8 to 15 both devices have the same data, which isn't zero.
+fn edited(rt: &impl Abort, alloc: Global, edit: Edit) -> Result<(MemDisk, MemDisk), PairError> {
+    let (made, old) = new_pair(alloc)?;
+    let mut cache = Vec::from_slice(alloc, made.bytes())?;
+    let mut backing = Vec::from_slice(alloc, old.bytes())?;
+    assert_eq!(rt; (cache.len(), backing.len()), (CACHE, 64 * 512));
+    for k in 0..4096 {
+        cache[6400 * 512 + k] = (k / 16) as u8;
+        backing[24 * 512 + k] = (k / 16) as u8;
+    }
+    let clean = [CLEAN + (4 << 20), 16, word(6400, 0)];
+    put_leaf(&mut cache, &[clean]);
+    match edit {
+        Edit::None => {}
+        Edit::Flip(at) => {
+            if at < backing.len() {
+                backing[at] ^= 1;
+            }
+        }
+        Edit::Key(head, pointer) => put_leaf(&mut cache, &[clean, [head, 24, pointer]]),
+        Edit::Entry(sector, seq) => {
+            if sector <= 8000 {
+                put_entry(&mut cache, sector, seq);
+            }
+        }
+        Edit::Alone => put_alone(&mut backing),
+    }
+    let cache = MemDisk::new(alloc, cache, 1000)?;
+    let backing = MemDisk::new(alloc, backing, 1000)?;
+    Ok((cache, backing))
+}
+
+#[test]
+fn verdicts(rt: HostRuntime) -> Result<(), Fail> {
+    let sound = Verdict::Sound { dirty: 0, clean: 8 };
+    for (edit, verdict) in [
+        (Edit::None, sound),
+        // Another byte of the fourth of these sectors, of the last one, and of one that isn't cached.
+        (Edit::Flip(27 * 512 + 5), Verdict::Agree { sector: 11 }),
+        (Edit::Flip(31 * 512 + 511), Verdict::Agree { sector: 15 }),
+        (Edit::Flip(32 * 512), sound),
+        (
+            Edit::Key(DIRTY, word(6464, 0)),
+            Verdict::Sound { dirty: 4, clean: 8 },
+        ),
+        (Edit::Key(CLEAN, word(6464, 160)), sound),
+        (
+            Edit::Key(CLEAN, word(6464, 159)),
+            Verdict::Age { sector: 20 },
+        ),
+        // A later number behind the entry, an equal one in the next bucket, the next one where the
+        // ring goes on, and one that is no longer needed.
+        (Edit::Entry(72, 5), Verdict::Journal { bucket: 1 }),
+        (Edit::Entry(191, 1), Verdict::Journal { bucket: 2 }),
+        (Edit::Entry(128, 2), sound),
+        (Edit::Entry(130, 0), sound),
+        (Edit::Alone, Verdict::PassThrough),
+    ] {
+        let (mut cache, mut backing) = edited(&rt, rt.alloc(), edit)?;
+        let said = check_pair(rt.alloc(), &mut cache, &mut backing);
+        assert_eq!(rt; said, Ok(verdict), "{edit:?}");
+    }
+    let (mut cache, mut backing) = new_pair(rt.alloc())?;
+    let said = check_pair(rt.alloc(), &mut cache, &mut backing);
+    assert_eq!(rt; said, Ok(Verdict::Sound { dirty: 0, clean: 0 }));
+    let mut other = blank(rt.alloc(), CACHE / 512)?;
+    let said = check_pair(rt.alloc(), &mut other, &mut backing);
+    assert!(rt; matches!(&said, Err(CheckError::Open(OpenError::Super { .. }))));
+    Ok(())
+}
+
+#[test]
+fn faults(rt: HostRuntime) -> Result<(), Fail> {
+    let alloc = rt.alloc();
+    let (mut cache, mut backing) = edited(&rt, alloc, Edit::None)?;
+    let said = check_pair(alloc, &mut cache, &mut backing);
+    assert!(rt; said.is_ok());
+    assert_eq!(rt; (cache.calls(), backing.calls()), (22, 3));
+    for call in 1..=22 {
+        cache.fail(cache.calls().saturating_add(call))?;
+        let said = check_pair(alloc, &mut cache, &mut backing);
+        let fault = CheckError::Fault(Device::Cache);
+        assert_eq!(rt; said, Err(fault), "call {call}");
+    }
+    for call in 1..=3 {
+        backing.fail(backing.calls().saturating_add(call))?;
+        let said = check_pair(alloc, &mut cache, &mut backing);
+        let fault = CheckError::Fault(Device::Backing);
+        assert_eq!(rt; said, Err(fault), "call {call}");
     }
     Ok(())
 }

@@ -1,0 +1,127 @@
+//! Whether a pair is sound.
+ghost use Rattle.std.specs.Prelude.{◌≡◌, ◌≢◌, ◌*◌, ◌≤◌, ◌↔◌, false, IfOk, IfErr, MatchResult, OnOk, IsTrue};
+ghost use Rattle.bc_disk.specs.Disk.{IsKept};
+ghost use Rattle.bc_disk.specs.declared.disk.Device.TheVariants as device;
+ghost use Rattle.bc_image.specs.Pair.{Pair};
+ghost use Rattle.bc_replay.specs.Causes.{OfHeld};
+ghost use Rattle.bc_replay.specs.Survey.{HasSurvey};
+ghost use Rattle.bc_super.specs.Division.{IsPassThrough};
+ghost use Rattle.bc_super.specs.declared.error.SuperError.{SuperError};
+ghost use Rattle.bc_disk.specs.declared.disk.Device.{Device};
+ghost use Rattle.bc_check.specs.declared.verdict.CheckError.{CheckError};
+ghost use Rattle.bc_check.specs.Calls.{BothKept, CountsFault, IsWant, IsWantOf, NoneFailed};
+ghost use Rattle.bc_check.specs.Verdict.{DecidesAlone, IsCheckCause, IsVerdict};
+
+use crate::data::first_apart;
+use crate::strays::first_stray;
+use crate::totals::count_sectors;
+use crate::verdict::{CheckError, Verdict};
+use crate::window::first_aged;
+use bc_disk::disk::{Device, Disk};
+use bc_mode::Mode;
+use bc_replay::{Survey, survey};
+use bc_super::backing::{BackingSuper, read_backing};
+use bc_super::error::SuperError;
+use bc_super::state::BackingState;
+use std::alloc::Global;
+
+/// Whether the backing device of this superblock asks for no cache.
+fn is_pass_through(b: &BackingSuper) -> bool
+    ensures { IsTrue result ↔ IsPassThrough b.now }
+{
+    b.mode() == Mode::None && b.state() == BackingState::None
+}
+
+/// That the backing device doesn't serve alone, since its superblock was refused for this reason; a
+/// fault stays one.
+fn refused(why: SuperError) -> Result<bool, CheckError>
+    ensures { MatchResult result (λ alone. (alone ≡ false) × (why ≢ SuperError.Fault))
+        (λ e. (e ≡ CheckError.Fault Device.Backing) × (why ≡ SuperError.Fault)) }
+{
+    match why {
+        SuperError::Fault => Err(CheckError::Fault(Device::Backing)),
+        _ => Ok(false),
+    }
+}
+
+/// Whether the backing device serves alone. One whose superblock is refused doesn't.
+fn serves_alone<B: Disk>(backing: &mut B) -> Result<bool, CheckError>
+    ensures found { IfOk result (DecidesAlone (B.facts backing.old)) }
+    ensures kept { IsKept (B.facts backing.old) (B.facts backing.new) }
+    ensures want { IfErr result
+        (λ e. IsWantOf device.Backing e (B.facts backing.old).faults (B.facts backing.new).faults) }
+    ensures good { OnOk result ((B.facts backing.new).faults ≡ (B.facts backing.old).faults) }
+{
+    match read_backing(backing) {
+        Ok(b) => Ok(is_pass_through(&b)),
+        Err(why) => refused(why),
+    }
+}
+
+/// What is said of a surveyed pair: its journal, the ages of its pointers and its data are tested,
+/// in this order.
+fn verdict_of<C: Disk, B: Disk>(
+    alloc: Global,
+    cache: &mut C,
+    backing: &mut B,
+    s: &Survey,
+) -> Result<Verdict, CheckError>
+    requires { s.now.supers.geometry.bucket * s.now.supers.geometry.nbuckets
+        ≤ (C.facts cache.old).sectors }
+    ensures found { IfOk result (λ v. OfHeld (λ p. HasSurvey p s.now.supers.backing
+        s.now.supers.cache s.now.supers.geometry s.now.journal s.now.gens s.now.seen.items
+        s.now.index.keys s.now.uses.items → IsVerdict p v) (C.facts cache.old)
+        (B.facts backing.old)) }
+    ensures want { IfErr result IsWant }
+    ensures kept { BothKept (C.facts cache.old) (C.facts cache.new) (B.facts backing.old)
+        (B.facts backing.new) }
+    ensures faults { IfErr result (λ e. CountsFault e (C.facts cache.old) (C.facts cache.new)
+        (B.facts backing.old) (B.facts backing.new)) }
+    ensures good { OnOk result (NoneFailed (C.facts cache.old) (C.facts cache.new)
+        (B.facts backing.old) (B.facts backing.new)) }
+{
+    if let Some(bucket) = first_stray(alloc, cache, &s.supers.geometry, &s.journal)? {
+        return Ok(Verdict::Journal { bucket });
+    }
+    if let Some(sector) = first_aged(s) {
+        return Ok(Verdict::Age { sector });
+    }
+    if let Some(sector) = first_apart(alloc, cache, backing, s)? {
+        return Ok(Verdict::Agree { sector });
+    }
+    let totals = count_sectors(s);
+    Ok(Verdict::Sound {
+        dirty: totals.dirty,
+        clean: totals.clean,
+    })
+}
+
+/// Says whether the pair that two devices hold is sound. Nothing is written.
+///
+/// The superblock of the backing device is read first: where it asks for no cache, the verdict is
+/// `PassThrough`. Then all that `survey` tests is tested, by which the pair is refused as `Open`;
+/// then the journal's entries, the ages of pointers and the data of live clean sectors, each by a
+/// verdict of its own, which is the first that holds. `Fault` and `Memory` come wherever they happen.
+/// Of the data only that of live clean sectors is read, 256 sectors by a call at most. The time is
+/// linear in what is read but for a logarithm.
+pub fn check_pair<C: Disk, B: Disk>(
+    alloc: Global,
+    cache: &mut C,
+    backing: &mut B,
+) -> Result<Verdict, CheckError>
+    ensures found { IfOk result (λ v. OfHeld (λ p. IsVerdict p v) (C.facts cache.old)
+        (B.facts backing.old)) }
+    ensures refused { IfErr result (IsCheckCause (C.facts cache.old) (B.facts backing.old)) }
+    ensures kept { BothKept (C.facts cache.old) (C.facts cache.new) (B.facts backing.old)
+        (B.facts backing.new) }
+    ensures faults { IfErr result (λ e. CountsFault e (C.facts cache.old) (C.facts cache.new)
+        (B.facts backing.old) (B.facts backing.new)) }
+    ensures good { OnOk result (NoneFailed (C.facts cache.old) (C.facts cache.new)
+        (B.facts backing.old) (B.facts backing.new)) }
+{
+    if serves_alone(backing)? {
+        return Ok(Verdict::PassThrough);
+    }
+    let s = survey(alloc, cache, backing)?;
+    verdict_of(alloc, cache, backing, &s)
+}
