@@ -1,0 +1,44 @@
+use Rattle.std.proofs.Common.{◌≡◌, ℕ, ◌+◌, List, Some, refl, sym, ap, ◌∙◌, subst}
+use Rattle.bc_model.specs.Sector.{Value, values_of}
+use Rattle.bc_disk.specs.Disk.{IsWritten, IsFailedWrite}
+use Rattle.bc_disk.specs.declared.disk.Device.TheVariants as device
+use Rattle.bc_events.specs.declared.event.Deed.TheVariants as deed
+use Rattle.bc_events.specs.declared.event.Failure.TheVariants as failure
+use Rattle.bc_deed.proofs.May.{committed_backing, may_write, may_fail_write}
+use Rattle.bc_deed.proofs.Devices.{behind_write, behind_failed_write}
+use Rattle.bc_deed.proofs.backing.write_in.Goals as goal
+
+pub called-requires-clause-may : goal.called-requires-clause-may
+called-requires-clause-may g c = may_write g.C.Disk.facts g.B.Disk.facts c.args.seat.now c.args.first
+    c.args.of c.args.values c.requires.seat c.requires.untold c.requires.line c.requires.some c.requires.may
+
+pub called-requires-in-Err-clause-may : goal.called-requires-in-Err-clause-may
+called-requires-in-Err-clause-may g c = may_fail_write g.C.Disk.facts g.B.Disk.facts c.args.seat.now
+    c.args.first c.args.of c.args.values c.requires.seat c.requires.untold c.requires.line c.requires.some
+    c.requires.may
+
+pub returns-in-Ok-clause-backing : goal.returns-in-Ok-clause-backing
+returns-in-Ok-clause-backing g c = let v = c.args.seat.now in
+    let values : values_of c.deref.result.now ≡ c.args.values =
+    ap (λ (bs : List ℕ). values_of bs) c.deref.ensures.value ∙ c.requires.bytes.0 in
+    committed_backing g.C.Disk.facts g.B.Disk.facts v c.called.new.seat c.args.backing.now _
+    (deed.BackingWrite c.args.first (Some c.args.of) c.args.values) c.requires.holds c.requires.backing
+    c.called.ensures.did
+    (λ x on. behind_write g.C.Disk.facts g.B.Disk.facts c.args.backing.now _ x v.first on refl refl
+    c.args.first (Some c.args.of) c.args.values
+    (subst (λ (vs : List Value). IsWritten (c.args.backing.now.offset + c.args.first) vs
+    (g.B.Disk.facts c.args.backing.now.disk) (g.B.Disk.facts c.write.new.self)) values c.in-Ok.ensures.ok)
+    c.in-Ok.ensures.counted)
+
+pub returns-clause-backing : goal.returns-clause-backing
+returns-clause-backing g c = let v = c.args.seat.now in
+    let values : values_of c.deref.result.now ≡ c.args.values =
+    ap (λ (bs : List ℕ). values_of bs) c.deref.ensures.value ∙ c.requires.bytes.0 in
+    committed_backing g.C.Disk.facts g.B.Disk.facts v c.called-in-Err.new.seat c.args.backing.now _
+    (deed.DeviceFault (failure.BackingWrite c.args.first (Some c.args.of) c.args.values)) c.requires.holds
+    c.requires.backing c.called-in-Err.ensures.did
+    (λ x on. behind_failed_write g.C.Disk.facts g.B.Disk.facts c.args.backing.now _ x v.first on refl refl
+    c.args.first (Some c.args.of) c.args.values
+    (subst (λ (vs : List Value). IsFailedWrite (c.args.backing.now.offset + c.args.first) vs
+    (g.B.Disk.facts c.args.backing.now.disk) (g.B.Disk.facts c.write.new.self)) values c.in-Err.ensures.failed)
+    c.in-Err.ensures.counted)
