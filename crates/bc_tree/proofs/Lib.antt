@@ -10,3 +10,9 @@ pub mod Nexts
 pub mod Trees
 pub mod Same
 pub mod Coming
+pub mod Splices
+pub mod Fits
+pub mod Counts
+pub mod Moves
+pub mod Splits
+pub mod Joins

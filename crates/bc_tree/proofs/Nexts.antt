@@ -31,12 +31,12 @@ pub succeeds : (g : Geometry) (node : Inner) (at gone : ℕ) (come : List Key) (
 succeeds g node at gone come to seq (Set keys) is = record { level = refl; from = refl; end = refl; children_are = is.put }
 succeeds g node at gone come to seq (Move next) is = let m = is.1.2 in record { level = m.level; from = m.from; end = m.end; children_are = m.children_are }
 
-take_all_of : (P : Key → Type 0) (n : ℕ) (xs : List Key) → All P xs → All P (take n xs)
+pub take_all_of : (P : Key → Type 0) (n : ℕ) (xs : List Key) → All P xs → All P (take n xs)
 take_all_of P zero xs all = All-nil P
 take_all_of P (suc n) [] all = All-nil P
 take_all_of P (suc n) (x ∷ xs) all = All-cons P x (take n xs) (All-head P x xs all) (take_all_of P n xs (All-tail P x xs all))
 
-drop_all_of : (P : Key → Type 0) (n : ℕ) (xs : List Key) → All P xs → All P (drop n xs)
+pub drop_all_of : (P : Key → Type 0) (n : ℕ) (xs : List Key) → All P xs → All P (drop n xs)
 drop_all_of P zero xs all = all
 drop_all_of P (suc n) [] all = All-nil P
 drop_all_of P (suc n) (x ∷ xs) all = drop_all_of P n xs (All-tail P x xs all)
@@ -107,13 +107,13 @@ drop_front (suc n) [] ys within = absurd (omega arith)
 drop_front (suc n) (x ∷ xs) ys within = drop_front n xs ys (omega arith)
 
 -- what becomes of the front of a list is what becomes of the list
-after_front : (xs ys come : List Key) (at gone : ℕ) → at + gone ≤ length xs → children_after xs at gone come ++ ys ≡ children_after (xs ++ ys) at gone come
+pub after_front : (xs ys come : List Key) (at gone : ℕ) → at + gone ≤ length xs → children_after xs at gone come ++ ys ≡ children_after (xs ++ ys) at gone come
 after_front xs ys come at gone within =
     append_assoc (take at xs ++ come) (drop (at + gone) xs) ys
     ∙ ap (λ zs. (take at xs ++ come) ++ zs) (sym (drop_front (at + gone) xs ys within))
     ∙ ap (λ zs. (zs ++ come) ++ drop (at + gone) (xs ++ ys)) (sym (take_front at xs ys (omega arith)))
 
-after_behind : (front xs come : List Key) (at gone n : ℕ) → n ≡ length front + at → front ++ children_after xs at gone come ≡ children_after (front ++ xs) n gone come
+pub after_behind : (front xs come : List Key) (at gone n : ℕ) → n ≡ length front + at → front ++ children_after xs at gone come ≡ children_after (front ++ xs) n gone come
 after_behind front xs come at gone n is =
     let e : length front + at + gone ≡ length front + (at + gone) = omega arith in
     sym (append_assoc front (take at xs ++ come) (drop (at + gone) xs))

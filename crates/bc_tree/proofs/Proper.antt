@@ -71,7 +71,7 @@ words_children : (keys cs : List Key) → words (with_children keys cs) ≤ word
 words_children [] cs = omega arith
 words_children (key ∷ keys) cs = omega (arith, words_children keys (with_child key cs), words_child key cs, words_cons key keys)
 
-words_append : (xs ys : List Key) → words (xs ++ ys) ≡ words xs + words ys
+pub words_append : (xs ys : List Key) → words (xs ++ ys) ≡ words xs + words ys
 words_append xs ys = ap length (flat_map-append words_of xs ys) ∙ length-append (words_of_all xs) (words_of_all ys)
 
 -- ---- which fit in the node

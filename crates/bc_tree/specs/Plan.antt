@@ -1,5 +1,5 @@
 -- A change of the tree, as it is planned.
-use Rattle.std.specs.Prelude.{◌≡◌, ℕ, ◌+◌, ◌%◌, ◌^◌, ◌<◌, ◌≤◌, false, List, [], ◌∷◌, Option, Some, None, IfSome, length, drop, slice_get, if◌then◌else◌}
+use Rattle.std.specs.Prelude.{◌≡◌, ◌⊎◌, ℕ, ◌+◌, ◌%◌, ◌^◌, ◌<◌, ◌≤◌, false, List, [], ◌∷◌, ◌++◌, Option, Some, None, IfSome, length, option_to_list, take, drop, slice_get, if◌then◌else◌}
 use Rattle.bc_disk.specs.declared.geometry.Geometry.{Geometry}
 use Rattle.bc_extent.specs.Extents.{IsInOrder, Shows}
 use Rattle.bc_extent.specs.LastKey.{last_key}
@@ -9,17 +9,21 @@ use Rattle.bc_key.specs.Key.{ptr_at}
 use Rattle.bc_key.specs.declared.key.Key.{Key}
 use Rattle.bc_key.specs.declared.ptr.Ptr.{Ptr}
 use Rattle.bc_node.specs.Leaf.{AreLast, AreLastOfAll, IsFull, Leaf}
-use Rattle.bc_spine.specs.Exchange.{IsFor, IsMoved as IsMovedLeaf, coming}
+use Rattle.bc_spine.specs.Exchange.{IsFor, IsMerged, IsMoved as IsMovedLeaf, IsSplit, coming}
 use Rattle.bc_spine.specs.Leaves.{Spans}
 use Rattle.bc_spine.specs.declared.leaf.LeafRange.{LeafRange}
-use Rattle.bc_tree.specs.Change.{IsChangeOf}
-use Rattle.bc_tree.specs.Needs.{has_room, is_low}
+use Rattle.bc_tree.specs.Change.{CanChange, IsChangeOf, set_words}
+use Rattle.bc_tree.specs.Needs.{fits_node, has_room, is_low, words}
 use Rattle.bc_tree.specs.Next.{leaves_next, nodes_next, root_next}
-use Rattle.bc_tree.specs.Parts.{bounded}
-use Rattle.bc_tree.specs.Spine.{IsPlaceAt, IsSpine, Spine, bottom}
+use Rattle.bc_tree.specs.Parts.{IsNearMiddle, bounded}
+use Rattle.bc_tree.specs.Spine.{IsParentAt, IsPlaceAt, IsSpine, NameLeaves, Spine, bottom, children_in}
 use Rattle.bc_tree.specs.declared.change.NodeChange.{NodeChange}
 use Rattle.bc_tree.specs.declared.change.NodeChange.TheVariants.{Move, Set}
+use Rattle.bc_spine.specs.declared.exchange.Exchange.{Exchange}
+use Rattle.bc_tree.specs.declared.install.NewLeaves.{NewLeaves}
 use Rattle.bc_tree.specs.declared.plan.Plan.{Plan}
+use Rattle.bc_tree.specs.declared.plan.PlanError.{PlanError}
+use Rattle.bc_tree.specs.declared.plan.PlanError.TheVariants.{Deep, Large, Memory}
 use Rattle.bc_tree.specs.declared.place.LeafPlace.{LeafPlace}
 
 -- ---- the leaf that comes
@@ -58,11 +62,15 @@ moves spine parent n =
     else if has_room spine.geometry spine.root 3 then 1
     else 2
 
--- the key names the node
-pub record Names (key : Key) (node : Inner) : Type 0 where
-  pub end : key.end ≡ node.end
-  pub ptr : ptr_at key 0 ≡ node.ptr
+-- the key names what ends at a sector and stands at a place
+pub record IsKeyOf (until : ℕ) (place : Ptr) (key : Key) : Type 0 where
+  pub end : key.end ≡ until
+  pub ptr : ptr_at key 0 ≡ place
   pub one : key.count ≡ 1
+
+-- the key names the node
+abbrev pub Names : Key → Inner → Type 0
+Names key node = IsKeyOf node.end node.ptr key
 
 -- what becomes of the root, where the node at a place below it moves: its key there gives way to one that names the new place
 abbrev pub IsTopChange : Geometry → Inner → List Inner → ℕ → NodeChange → List Ptr → ℕ → Option NodeChange → Type 0
@@ -105,22 +113,172 @@ pub record Fits (spine : Spine) (plan : Plan) : Type 0 where
   pub there : slice_get (bottom spine.root spine.below) plan.place ≡ Some node
   pub takes : CanTake node plan.bottom
   pub root_takes : IfSome plan.top (CanTake spine.root)
+  -- where the leaves are the root's children, nothing becomes of it beside this
+  pub alone : length spine.below ≡ 0 → plan.top ≡ None
   pub tree : IsSpine spine.geometry (root_next spine.root spine.below plan.bottom plan.top)
       (nodes_next spine.below plan.place plan.bottom) (leaves_next spine.leaves plan.leaves)
   pub end : (root_next spine.root spine.below plan.bottom plan.top).end ≡ spine.root.end
 
+-- ---- what is planned
+
+-- leaves give way to others by an exchange, and so do as many children of the node above them, from the place of the first on
+pub record CanExchange (spine : Spine) (e : Exchange) (place : LeafPlace) (gone : ℕ) (come : List Key) : Type 0 where
+  pub fits : IsFor spine.leaves e
+  pub spare : length (coming e) ≤ spine.spare + e.gone
+  pub gone_are : e.gone ≡ gone
+  pub before : e.place ≡ length (children_in (take place.node (bottom spine.root spine.below))) + place.child
+  pub names : NameLeaves come (coming e)
+  pub node : Inner
+  pub there : slice_get (bottom spine.root spine.below) place.node ≡ Some node
+  pub can : CanChange spine.geometry node place.child gone come
+
+-- how many nodes move
+abbrev pub moved_count : NodeChange → ℕ
+moved_count (Set keys) = 0
+moved_count (Move next) = 1
+
+abbrev pub top_count : Option NodeChange → ℕ
+top_count None = 0
+top_count (Some change) = moved_count change
+
+-- how many new nodes the plan brings: leaves, and nodes that move
+abbrev pub new_count : Plan → ℕ
+new_count plan = 1 + length (option_to_list plan.second) + (moved_count plan.bottom + top_count plan.top)
+
+-- the plan says what becomes of the nodes above leaves, where so many children give way to others
+pub record IsPlannedAbove (spine : Spine) (place : LeafPlace) (gone : ℕ) (come : List Key) (to : List Ptr) (seq : ℕ) (plan : Plan) : Type 0 where
+  pub place_is : plan.place ≡ place.node
+  pub node : Inner
+  pub there : slice_get (bottom spine.root spine.below) place.node ≡ Some node
+  pub above : IsAbove spine node place.node place.child gone come to seq plan.bottom plan.top
+  pub moved : moved_count plan.bottom + top_count plan.top ≡ moves spine node (set_words gone come)
+
+-- the plan exchanges these leaves, and says what becomes of the nodes above them
+pub record IsPlanOf (spine : Spine) (new : NewLeaves) (place : LeafPlace) (gone : ℕ) (come : List Key) (to : List Ptr) (seq : ℕ) (plan : Plan) : Type 0 where
+  pub leaves_are : plan.leaves ≡ new.leaves
+  pub first_is : plan.first ≡ new.first
+  pub second_is : plan.second ≡ new.second
+  pub above : IsPlannedAbove spine place gone come to seq plan
+
+-- a leaf comes in the place of the one that stands here, and nodes above it move to these places
+pub record IsMovePlan (spine : Spine) (place : LeafPlace) (first : Leaf) (to : List Ptr) (seq : ℕ) (plan : Plan) : Type 0 where
+  pub leaves_are : IsMovedLeaf spine.leaves place.leaf first.ptr plan.leaves
+  pub first_is : plan.first ≡ first
+  pub alone : plan.second ≡ None
+  pub key : Key
+  pub names : IsKeyOf first.end first.ptr key
+  pub above : IsPlannedAbove spine place 1 (key ∷ []) to seq plan
+
 -- a leaf moves to the first of these places, and nodes above it to the others
 pub record IsRewrite (spine : Spine) (leaf : Leaf) (to : List Ptr) (seq : ℕ) (plan : Plan) : Type 0 where
-  pub fits : Fits spine plan
   pub place : LeafPlace
   pub stands : IsPlaceAt spine leaf.from place
   pub ptr : Ptr
   pub first_place : slice_get to 0 ≡ Some ptr
-  pub leaves_are : IsMovedLeaf spine.leaves place.leaf ptr plan.leaves
   pub leaf_comes : IsComing leaf.keys leaf.from leaf.end ptr seq plan.first
-  pub alone : plan.second ≡ None
+  pub leaf_fits : ¬ (IsFull spine.geometry plan.first)
+  pub moves : IsMovePlan spine place plan.first (drop 1 to) ((seq + 1) % 2 ^ 64) plan
 
--- the leaf that would come doesn't fit in a node
-abbrev pub IsTooLarge : Geometry → Leaf → Type 0
-IsTooLarge g leaf =
-    (to : Ptr) × (seq : ℕ) × (other : Leaf) × IsComing leaf.keys leaf.from leaf.end to seq other × IsFull g other
+-- the leaf of the keys that a leaf has between two sectors doesn't fit in a node
+abbrev pub IsTooLarge : Geometry → Leaf → ℕ → ℕ → Type 0
+IsTooLarge g leaf from end =
+    (to : Ptr) × (seq : ℕ) × (other : Leaf) × IsComing leaf.keys from end to seq other × IsFull g other
+
+-- why a leaf isn't moved: the leaf that would come doesn't fit in a node
+abbrev pub IsNotRewritten : Spine → Leaf → PlanError → Type 0
+IsNotRewritten spine leaf Large = IsTooLarge spine.geometry leaf leaf.from leaf.end
+IsNotRewritten spine leaf Deep = ⊥
+IsNotRewritten spine leaf Memory = Unit {0}
+
+-- ---- a leaf is split
+
+-- two leaves come in the place of the one that stands here, and nodes above it move to these places
+pub record IsSplitPlan (spine : Spine) (place : LeafPlace) (low high : Leaf) (to : List Ptr) (seq : ℕ) (plan : Plan) : Type 0 where
+  pub leaves_are : IsSplit spine.leaves place.leaf low.end low.ptr high.ptr plan.leaves
+  pub first_is : plan.first ≡ low
+  pub second_is : plan.second ≡ Some high
+  pub low_key : Key
+  pub low_names : IsKeyOf low.end low.ptr low_key
+  pub high_key : Key
+  pub high_names : IsKeyOf high.end high.ptr high_key
+  pub above : IsPlannedAbove spine place 1 (low_key ∷ high_key ∷ []) to seq plan
+
+-- the leaves of the keys that a leaf has below a sector, and of those that it has from there on
+pub record AreHalves (g : Geometry) (leaf : Leaf) (cut : ℕ) (to : List Ptr) (seq : ℕ) (low high : Leaf) : Type 0 where
+  pub low_ptr : Ptr
+  pub high_ptr : Ptr
+  pub places : (slice_get to 0 ≡ Some low_ptr) × (slice_get to 1 ≡ Some high_ptr)
+  pub low_comes : IsComing leaf.keys leaf.from cut low_ptr seq low
+  pub high_comes : IsComing leaf.keys cut leaf.end high_ptr ((seq + 1) % 2 ^ 64) high
+  pub low_fits : ¬ (IsFull g low)
+  pub high_fits : ¬ (IsFull g high)
+
+-- two leaves with the keys of one come in its place, at the first two of these places, and nodes above it move to the others
+pub record IsLeafSplit (spine : Spine) (leaf : Leaf) (to : List Ptr) (seq : ℕ) (plan : Plan) : Type 0 where
+  pub place : LeafPlace
+  pub stands : IsPlaceAt spine leaf.from place
+  pub cut : ℕ
+  pub within : (leaf.from < cut) × (cut < leaf.end) × (cut % 256 ≡ 0)
+  pub middle : IsNearMiddle leaf.from leaf.keys cut
+  pub high : Leaf
+  pub halves : AreHalves spine.geometry leaf cut to seq plan.first high
+  pub moves : IsSplitPlan spine place plan.first high (drop 2 to) ((seq + 2) % 2 ^ 64) plan
+
+-- the leaf of the keys on one side of a sector doesn't fit in a node
+abbrev pub IsHalfTooLarge : Geometry → Leaf → ℕ → Type 0
+IsHalfTooLarge g leaf cut = IsTooLarge g leaf leaf.from cut ⊎ IsTooLarge g leaf cut leaf.end
+
+-- why the two aren't made
+abbrev pub IsNoHalf : Geometry → Leaf → ℕ → PlanError → Type 0
+IsNoHalf g leaf cut Large = IsHalfTooLarge g leaf cut
+IsNoHalf g leaf cut Deep = ⊥
+IsNoHalf g leaf cut Memory = Unit {0}
+
+-- why a leaf isn't split: one of the two doesn't fit in a node, or the node above has no room for one child more
+abbrev pub IsNotSplit : Spine → Leaf → PlanError → Type 0
+IsNotSplit spine leaf Large = (cut : ℕ) × IsNearMiddle leaf.from leaf.keys cut × IsHalfTooLarge spine.geometry leaf cut
+IsNotSplit spine leaf Deep =
+    (parent : Inner) × IsParentAt spine leaf.from parent × (fits_node spine.geometry (words parent.children + 3) ≡ false)
+IsNotSplit spine leaf Memory = Unit {0}
+
+-- ---- two leaves become one
+
+-- the node above a leaf has the next leaf too, which ends at a sector
+pub record HasNextLeaf (spine : Spine) (place : LeafPlace) (until : ℕ) : Type 0 where
+  pub node : Inner
+  pub above : slice_get (bottom spine.root spine.below) place.node ≡ Some node
+  pub key : Key
+  pub child : slice_get node.children (place.child + 1) ≡ Some key
+  pub leaf : LeafRange
+  pub there : slice_get spine.leaves (place.leaf + 1) ≡ Some leaf
+  pub ends : leaf.end ≡ key.end
+  pub end : leaf.end ≡ until
+
+-- a leaf comes in the place of the one that stands here and of the next, and nodes above them move to these places
+pub record IsMergePlan (spine : Spine) (place : LeafPlace) (first : Leaf) (to : List Ptr) (seq : ℕ) (plan : Plan) : Type 0 where
+  pub leaves_are : IsMerged spine.leaves place.leaf first.ptr plan.leaves
+  pub first_is : plan.first ≡ first
+  pub alone : plan.second ≡ None
+  pub key : Key
+  pub names : IsKeyOf first.end first.ptr key
+  pub above : IsPlannedAbove spine place 2 (key ∷ []) to seq plan
+
+-- the leaf of the keys of two neighbours
+abbrev pub IsJoined : Leaf → Leaf → Ptr → ℕ → Leaf → Type 0
+IsJoined left right to seq leaf = IsLeafWith left.from right.end to seq (left.keys ++ right.keys) leaf
+
+-- a leaf with the keys of two neighbours comes in their place, at the first of these places, and nodes above them move to the others
+pub record IsLeafMerge (spine : Spine) (left right : Leaf) (to : List Ptr) (seq : ℕ) (plan : Plan) : Type 0 where
+  pub place : LeafPlace
+  pub stands : IsPlaceAt spine left.from place
+  pub ptr : Ptr
+  pub first_place : slice_get to 0 ≡ Some ptr
+  pub leaf_comes : IsJoined left right ptr seq plan.first
+  pub leaf_fits : ¬ (IsFull spine.geometry plan.first)
+  pub moves : IsMergePlan spine place plan.first (drop 1 to) ((seq + 1) % 2 ^ 64) plan
+
+-- why two leaves don't become one: the one doesn't fit in a node, or they have two parents
+abbrev pub IsNotMerged : Spine → Leaf → Leaf → PlanError → Type 0
+IsNotMerged spine left right Large = (to : Ptr) × (seq : ℕ) × (leaf : Leaf) × IsJoined left right to seq leaf × IsFull spine.geometry leaf
+IsNotMerged spine left right Deep = (parent : Inner) × IsParentAt spine left.from parent × (parent.end ≤ right.from)
+IsNotMerged spine left right Memory = Unit {0}

@@ -22,6 +22,16 @@ pub record Spine : Type 0 where
   -- how many more leaves have room
   pub spare : ℕ
 
+-- the ends rise from a sector on, by multiples of 256
+abbrev pub Rise : ℕ → List Key → Type 0
+Rise from [] = Unit {0}
+Rise from (key ∷ keys) = (from < key.end) × (key.end % 256 ≡ 0) × Rise key.end keys
+
+-- the last of these ends; a sector where there is none
+abbrev pub last_end : ℕ → List Key → ℕ
+last_end from [] = from
+last_end from (key ∷ keys) = last_end key.end keys
+
 -- the nodes whose children are leaves
 abbrev pub bottom : Inner → List Inner → List Inner
 bottom root [] = root ∷ []
@@ -105,21 +115,14 @@ pub record IsPlaceAt (spine : Spine) (sector : ℕ) (place : LeafPlace) : Type 0
   pub spans : Spans place.range sector
   pub ends : place.range.end ≡ key.end
   pub stands : place.range.ptr ≡ ptr_at key 0
+  -- it begins where the child before it ends
+  pub begins : place.range.from ≡ last_end parent.from (take place.child parent.children)
+  pub multiples : (place.range.from % 256 ≡ 0) × (place.range.end % 256 ≡ 0)
   -- before it are the children of the nodes before its parent, and those before its key
   pub before : place.leaf
       ≡ length (children_in (take place.node (bottom spine.root spine.below))) + place.child
 
 -- ---- while the leaves are counted
-
--- the ends rise from a sector on, by multiples of 256
-abbrev pub Rise : ℕ → List Key → Type 0
-Rise from [] = Unit {0}
-Rise from (key ∷ keys) = (from < key.end) × (key.end % 256 ≡ 0) × Rise key.end keys
-
--- the last of these ends; a sector where there is none
-abbrev pub last_end : ℕ → List Key → ℕ
-last_end from [] = from
-last_end from (key ∷ keys) = last_end key.end keys
 
 -- the first node begins at a sector, and each other one where the one before ends
 abbrev pub AreInRow : ℕ → List Inner → Type 0

@@ -2,12 +2,12 @@
 ghost use Rattle.std.specs.Prelude.{◌≡◌, ◌+◌, ◌<◌, ◌≤◌, ◌∷◌, [], false, Some, length, slice_get, IfOk, OnOk};
 ghost use Rattle.bc_inner.specs.Inner.{Inner};
 ghost use Rattle.bc_key.specs.declared.key.Key.{Key};
-ghost use Rattle.bc_spine.specs.Exchange.{IsFor, IsMoved as IsMovedLeaf};
+ghost use Rattle.bc_spine.specs.Exchange.{CanCut, IsFor, IsMerged, IsMoved as IsMovedLeaf, IsSplit};
 ghost use Rattle.bc_tree.specs.Change.{CanChange, IsChangeOf, set_words};
 ghost use Rattle.bc_tree.specs.Needs.{has_room};
 ghost use Rattle.bc_tree.specs.Next.{node_next};
 ghost use Rattle.bc_tree.specs.Plan.{HasRoomAt, HavePlaces, IsAbove, IsTopChange, Names, moves};
-ghost use Rattle.bc_tree.specs.Same.{IsSameTree};
+ghost use Rattle.bc_tree.specs.Same.{IsSameButSpare, IsSameTree};
 ghost use Rattle.bc_tree.specs.Spine.{bottom};
 
 use crate::change::{NodeChange, change_node};
@@ -137,10 +137,37 @@ impl Spine {
     /// Plans that the leaf at a place moves.
     pub(crate) fn move_leaf(&mut self, place: usize, to: Ptr) -> Result<Exchange, AllocError>
         requires { place < length self.old.leaves }
-        ensures tree { IsSameTree self.old self.new }
+        ensures only { IsSameButSpare self.old self.new }
         ensures moved { IfOk result (IsMovedLeaf self.new.leaves place to) }
         ensures fits { IfOk result (IsFor self.new.leaves) }
     {
         self.leaves.plan_rewrite(place, to)
+    }
+
+    /// Plans that the leaf at a place is cut in two at a sector.
+    pub(crate) fn split_leaf(
+        &mut self,
+        place: usize,
+        cut: u64,
+        low: Ptr,
+        high: Ptr,
+    ) -> Result<Exchange, AllocError>
+        requires { CanCut self.old.leaves place cut }
+        ensures only { IsSameButSpare self.old self.new }
+        ensures split { IfOk result (IsSplit self.new.leaves place cut low high) }
+        ensures fits { IfOk result (IsFor self.new.leaves) }
+        ensures room { OnOk result (2 ≤ self.new.spare) }
+    {
+        self.leaves.plan_split(place, cut, low, high)
+    }
+
+    /// Plans that the leaf at a place and the next become one.
+    pub(crate) fn merge_leaf(&mut self, place: usize, to: Ptr) -> Result<Exchange, AllocError>
+        requires { place + 1 < length self.old.leaves }
+        ensures only { IsSameButSpare self.old self.new }
+        ensures merged { IfOk result (IsMerged self.new.leaves place to) }
+        ensures fits { IfOk result (IsFor self.new.leaves) }
+    {
+        self.leaves.plan_merge(place, to)
     }
 }

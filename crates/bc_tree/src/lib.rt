@@ -19,11 +19,15 @@ mod change;
 mod children;
 mod install;
 pub mod laws;
+mod merge;
 mod needs;
 mod parts;
 mod place;
 mod plan;
+mod rewrite;
+mod siblings;
 mod spine;
+mod split;
 #[cfg(test)]
 mod tests;
 

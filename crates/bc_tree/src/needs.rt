@@ -18,7 +18,7 @@ pub struct Needs {
 }
 
 /// Whether the children of a node, and `more` words more, fit in one set.
-fn fits_node(g: &Geometry, node: &Inner, more: usize) -> bool
+pub(crate) fn fits_node(g: &Geometry, node: &Inner, more: usize) -> bool
     requires proper { IsProper g.now node.now }
     requires few { more ≤ 8 }
     ensures { result ≡ fits_node g.now (words node.now.children + more) }
@@ -47,7 +47,7 @@ fn takes_set(g: &Geometry, node: &Inner, set: usize, more: usize) -> bool
 }
 
 /// Whether the keys of two leaves together take at most half a node.
-fn can_merge(g: &Geometry, left: &Leaf, right: &Leaf) -> bool
+pub(crate) fn can_merge(g: &Geometry, left: &Leaf, right: &Leaf) -> bool
     ensures { result ≡ can_merge g.now left.now right.now }
 {
     let half = 256 * usize::from(g.node_sectors);

@@ -38,6 +38,8 @@ pub struct Plan {
 pub enum PlanError {
     /// A leaf that would come doesn't fit in a node.
     Large,
+    /// A node above leaves would have to give way to two, or two of them to one.
+    Deep,
     /// Memory ran out.
     Memory,
 }
@@ -51,7 +53,7 @@ impl From<AllocError> for PlanError {
 }
 
 /// A leaf of these keys, none of which is in a set yet.
-fn leaf_with(
+pub(crate) fn leaf_with(
     alloc: Global,
     from: u64,
     end: u64,

@@ -1,10 +1,10 @@
-use Rattle.std.proofs.Common.{◌≡◌, ◌<◌, ◌≤◌, subst, arith}
+use Rattle.std.proofs.Common.{◌≡◌, ◌<◌, ◌≤◌, refl, subst, arith}
 use Rattle.bc_inner.specs.Inner.{Inner}
 use Rattle.bc_key.specs.declared.key.Key.{Key}
 use Rattle.bc_spine.specs.Leaves.{Spans}
 use Rattle.bc_spine.specs.declared.leaf.LeafRange.{LeafRange}
-use Rattle.bc_tree.specs.Spine.{bottom}
-use Rattle.bc_tree.proofs.Places.{bottom_covers, bottom_row, place_is, some_there}
+use Rattle.bc_tree.specs.Spine.{AreInRow, bottom}
+use Rattle.bc_tree.proofs.Places.{begins_cut, bottom_covers, bottom_row, place_begins, place_is, some_there}
 use Rattle.bc_tree.proofs.spine.Spine.place.Goals as goal
 
 pub returns : goal.returns
@@ -35,6 +35,8 @@ returns c =
     let are = place_is s.root.from s.root.end sector nodes s.leaves n i r node key range (bottom_row s.root s.below spine.inner.root_of) (bottom_covers s.root s.below spine.cover.0 spine.cover.1)
     c.leaf-range.ensures.all.row spine.names there begins child.1 c.place_of-child.ensures.below high at spans
     in
+    let row = subst (λ n. AreInRow n nodes) spine.inner.begins (bottom_row s.root s.below spine.inner.root_of) in
+    let all = c.leaf-range.ensures.all in
     record {
       parent = node;
       node = there;
@@ -46,5 +48,7 @@ returns c =
       spans = spans;
       ends = are.1;
       stands = are.2;
+      begins = place_begins s.root.end nodes s.leaves n i r node key range row (bottom_covers s.root s.below spine.cover.0 spine.cover.1) all.row spine.names there child.1 at are.0;
+      multiples = begins_cut 0 s.root.end s.leaves r range refl all.row all.cuts at;
       before = are.0;
     }
