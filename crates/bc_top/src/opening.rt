@@ -51,6 +51,8 @@ pub fn test_pair<C: Disk, B: Disk>(
     ensures opened { OnOk result (OfHeld CanBeOpened (C.facts cache.old) (B.facts backing.old)) }
     ensures quiet { OnOk result (AreQuiet (C.facts cache.old) (C.facts cache.new)
         (B.facts backing.old) (B.facts backing.new)) }
+    ensures settled { OnOk result
+        (StandsFor (C.facts cache.new) (settled_model (C.facts cache.new))) }
     ensures cause { IfErr result (IsPairCause (C.facts cache.old) (C.facts cache.new)
         (B.facts backing.old) (B.facts backing.new)) }
     ensures cache_same { IsSameDevice (C.facts cache.old) (C.facts cache.new) }

@@ -3,6 +3,7 @@ use Rattle.bc_replay.proofs.Opens.{survey_opens}
 use Rattle.bc_replay.proofs.Pairs.{passed_on}
 use Rattle.bc_top.specs.Opened.{IsPairCause}
 use Rattle.bc_top.proofs.Judging.{held_settled, survey_cause}
+use Rattle.bc_top.proofs.Settled.{stands}
 use Rattle.bc_top.proofs.opening.test_pair.Goals as goal
 
 pub returns-clause-opened : goal.returns-clause-opened
@@ -21,3 +22,6 @@ returns-in_err-survey-clause-cause g c =
     let e = c.in_err-survey.field-0.0 in
     passed_on c.from_residual.result e (IsPairCause cache cache' backing backing') c.from_residual.ensures.1
     (survey_cause cache (g.C.Disk.facts c.barrier.new.self) cache' backing backing' c.in-Ok.ensures.ok.sectors c.in-Ok.ensures.ok.holds c.in-Ok.ensures.counted.1 e c.in_err-survey.ensures.refused c.in_err-survey.ensures.faults)
+
+pub returns-clause-settled : goal.returns-clause-settled
+returns-clause-settled g c = stands (g.C.Disk.facts c.args.cache.now) (g.C.Disk.facts c.barrier.new.self) (g.C.Disk.facts c.survey.new.cache) c.in-Ok.ensures.ok c.in_ok-survey.ensures.cache_kept
