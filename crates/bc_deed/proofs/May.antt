@@ -1,6 +1,6 @@
 -- When the core allows a deed: from what the seat noted, and what its parts stand for.
 use Rattle.std.proofs.Common.{◌≡◌, ◌⊎◌, inl, inr, ℕ, ◌+◌, ◌<◌, ◌≤◌, Bool, true, false, List, [], ◌∷◌, length, Option, Some, None, refl, sym, ap, ◌∙◌, subst, arith}
-use Rattle.std.specs.Prelude.{◌&&◌, ◌||◌, ◌==◌, fold, Result, Ok, Err, IfErr}
+use Rattle.std.specs.Prelude.{◌&&◌, ◌||◌, ◌==◌, fold, Result, Ok, Err, IfOk, IfErr}
 use Rattle.std.proofs.lemmas.Bool.{lt-ltb}
 use Rattle.bc_model.specs.Sector.{Value, Gives, at_run}
 use Rattle.bc_model.proofs.Runs.{at_range}
@@ -45,6 +45,11 @@ use Rattle.bc_deed.specs.Asked.{HasFailed, HasFailedOr, IsLast, IsWithin, MayWri
 use Rattle.bc_disk.specs.Disk.{IsRead}
 use Rattle.bc_deed.proofs.Devices.{may_have_read}
 
+pub map_if_ok : {A E : Type 0} {P Q : A → Type 0} (r : Result A E) → ((a : A) → P a → Q a) → IfOk r P
+    → IfOk r Q
+map_if_ok (Ok a) f h = f a h
+map_if_ok (Err e) f h = tt
+
 pub map_if_err : {A E : Type 0} {P Q : E → Type 0} (r : Result A E) → ((e : E) → P e → Q e) → IfErr r P
     → IfErr r Q
 map_if_err (Ok a) f h = tt
@@ -52,7 +57,7 @@ map_if_err (Err e) f h = f e h
 
 -- ---- deeds that are one act of the data
 
-can_alone : (x : World) (i : ℕ) (d : Deed) (act : flow.Act) → i < 320
+pub can_alone : (x : World) (i : ℕ) (d : Deed) (act : flow.Act) → i < 320
     → acts_of x.opening.machine x.now.machine i d ≡ Some (Alone act ∷ []) → is_quiet act ≡ true
     → (is_told x ≡ true → flow_ask.IsEnabled x.opening.machine.flow (data_of x) i act)
     → (is_told x ≡ true → IsFit x.opening x.now i d) → IsOf x.opening i (line_of d) → IsEnabled x (by i d)
@@ -87,13 +92,13 @@ module _ {C B : Type 0} (cache_facts : C → DiskFacts) (backing_facts : B → D
   opening_after [] x = refl
   opening_after (e ∷ es) x = opening_after es (after x e)
 
-  opening_at : (v : View cache_facts backing_facts) (d : Deed) (x : World)
+  pub opening_at : (v : View cache_facts backing_facts) (d : Deed) (x : World)
       → AtDeed cache_facts backing_facts v d x
       → x.opening ≡ (opening cache_facts backing_facts v.run.start).opening
   opening_at v d x at = at.opening
       ∙ opening_after v.seen (opening cache_facts backing_facts v.run.start)
 
-  plain_at : (v : View cache_facts backing_facts) (d : Deed) (x : World)
+  pub plain_at : (v : View cache_facts backing_facts) (d : Deed) (x : World)
       → AtDeed cache_facts backing_facts v d x → x.opening.machine.flow.plain ≡ true
   plain_at v d x at = ap (λ (o : Opening). o.machine.flow.plain) (opening_at v d x at)
 
@@ -102,7 +107,7 @@ module _ {C B : Type 0} (cache_facts : C → DiskFacts) (backing_facts : B → D
       → x.opening.worker v.first ≡ of.worker
   line_at v d x of at is = ap (λ (o : Opening). o.worker v.first) (opening_at v d x at) ∙ is
 
-  low : (v : View cache_facts backing_facts) → IsCoreSeat cache_facts backing_facts v → v.first < 320
+  pub low : (v : View cache_facts backing_facts) → IsCoreSeat cache_facts backing_facts v → v.first < 320
   low v seat = let live = seat.seat.live in let most = seat.numbers in omega arith
 
   -- ---- what seats say

@@ -1,10 +1,16 @@
 -- What steps ask of their seat, and why they refuse.
-use Rattle.std.specs.Prelude.{◌≡◌, ℕ, ◌+◌, ◌*◌, ◌/◌, ◌^◌, ◌<◌, ◌≤◌, List, true, false, Option, None, Some}
+use Rattle.std.specs.Prelude.{◌≡◌, ℕ, Bool, ◌+◌, ◌*◌, ◌/◌, ◌^◌, ◌<◌, ◌≤◌, List, true, false, Option, None, Some}
 use Rattle.bc_events.specs.Columns.{halt_of}
 use Rattle.bc_events.specs.declared.event.Event.{Event}
 use Rattle.bc_machine.specs.Frame.{Range}
 use Rattle.bc_machine.specs.Note.{LastWrite, Note}
-use Rattle.bc_machine.specs.World.{data_among}
+use Rattle.bc_flight.specs.Claims.{is_exclusive, conflicts}
+use Rattle.bc_flight.specs.Flight.{claim_at}
+use Rattle.bc_flight.specs.declared.claim.Claim.{Claim as FlightClaim}
+use Rattle.bc_flight.specs.declared.claim.Share.{Share}
+use Rattle.bc_events.specs.declared.event.Deed.TheVariants as deed
+use Rattle.bc_hand.specs.Seats.{world}
+use Rattle.bc_machine.specs.World.{World, data_of, claim_in, data_among}
 use Rattle.bc_machine.specs.declared.part.CorePart.{CorePart}
 use Rattle.bc_disk.specs.Disk.{DiskFacts}
 use Rattle.bc_disk.specs.declared.disk.Device.TheVariants.{Backing}
@@ -35,6 +41,17 @@ pub record MayWrite (o : Note) (first count : ℕ) : Type 0 where
   pub exclusive : o.range.exclusive ≡ true
   pub first_write : o.wrote ≡ false
   pub covered : IsWithin o.range first count
+
+-- the claim is this seat's, of this range
+pub record IsClaim (c : FlightClaim) (seat : ℕ) (r : Range) : Type 0 where
+  pub its_seat : c.seat ≡ seat
+  pub some : 1 ≤ c.count
+  pub range : r ≡ record { first = c.first; count = c.count; exclusive = is_exclusive c.share }
+
+-- a seat's claim stands that conflicts with it
+abbrev pub IsTaken : FlightClaim → World → Type 0
+IsTaken c x = (n : ℕ) × (other : FlightClaim) × (claim_in n ((data_of x).seats n).claim ≡ Some other)
+    × (conflicts c other ≡ true)
 
 -- this device had halted the run
 abbrev pub IsHalted : StepError → List Event → Type 0
@@ -71,3 +88,10 @@ module _ {C B : Type 0} (cache_facts : C → DiskFacts) (backing_facts : B → D
   HasFailedOr (error.Halted device) failed v w =
       (halt_of w.seen ≡ Some device) × Did cache_facts backing_facts None v w
   HasFailedOr error.Memory failed v w = Did cache_facts backing_facts None v w
+
+  -- what a step that was to claim a range did: it did, or such a claim stands that conflicts
+  abbrev pub HasClaimed : Bool → ℕ → ℕ → Share → View cache_facts backing_facts
+      → View cache_facts backing_facts → Type 0
+  HasClaimed true first count how v w = Did cache_facts backing_facts (Some (deed.Claim first count how)) v w
+  HasClaimed false first count how v w = Did cache_facts backing_facts None v w
+      × IsTaken (claim_at v.first first count how) (world cache_facts backing_facts w)

@@ -9,4 +9,5 @@
 #![tactic(auto)]
 
 pub mod backing;
+pub mod claims;
 pub mod said;

@@ -145,11 +145,11 @@ module _ {C B : Type 0} (cache_facts : C → DiskFacts) (backing_facts : B → D
   m = core cache_facts backing_facts
 
   -- what others leave of what a seat knows of itself
-  record Knew (v : View) (x : World) : Type 0 where
-    note : IsFirmer (note cache_facts backing_facts v) (note_of x v.first)
-    late : (data_of x).late v.first ≡ (data_of (world cache_facts backing_facts v)).late v.first
-    line : x.now.line v.first ≡ (world cache_facts backing_facts v).now.line v.first
-    opening : x.opening ≡ (world cache_facts backing_facts v).opening
+  pub record Knew (v : View) (x : World) : Type 0 where
+    pub note : IsFirmer (note cache_facts backing_facts v) (note_of x v.first)
+    pub late : (data_of x).late v.first ≡ (data_of (world cache_facts backing_facts v)).late v.first
+    pub line : x.now.line v.first ≡ (world cache_facts backing_facts v).now.line v.first
+    pub opening : x.opening ≡ (world cache_facts backing_facts v).opening
 
   knew_same : (v : View) → Knew v (world cache_facts backing_facts v)
   knew_same v = record {
@@ -167,7 +167,7 @@ module _ {C B : Type 0} (cache_facts : C → DiskFacts) (backing_facts : B → D
     opening = h.opening;
   }
 
-  knew : (v : View) (x : World) → v.first < v.end → Since m v x → Knew v x
+  pub knew : (v : View) (x : World) → v.first < v.end → Since m v x → Knew v x
   knew v x live since = still m v x (Knew v)
       (λ y e may other h. knew_event v y e (other.0 v.first (omega arith) live) h) since (knew_same v)
 

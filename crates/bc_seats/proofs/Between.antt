@@ -59,7 +59,7 @@ module _ {Z P E B T : Type 0} (m : Ghosts Z P E B T) where
   }
 
   -- who gave parts back has seen the same
-  seen_alike : (w x : SeatView P E T) → Same m w x → x.seen ≡ w.seen → state_seen m x ≡ state_seen m w
+  pub seen_alike : (w x : SeatView P E T) → Same m w x → x.seen ≡ w.seen → state_seen m x ≡ state_seen m w
   seen_alike w x same seen = ap (λ (r : Run P). state_after m r.start x.seen) same.run
       ∙ ap (λ l. state_after m w.run.start l) seen
 

@@ -1,0 +1,340 @@
+-- Claims, as their part has them and as the core has them.
+use Rattle.std.proofs.Common.{◌≡◌, ◌≢◌, ◌⊎◌, inl, inr, ℕ, ◌+◌, ◌<◌, ◌≤◌, Bool, true, false, List, [], ◌∷◌, ◌++◌, Option, Some, None, refl, sym, ap, ◌∙◌, subst, arith}
+use Rattle.std.specs.Prelude.{◌==◌, ◌&&◌, ◌||◌, nat_lt, if◌then◌else◌}
+use Rattle.std.proofs.lemmas.Bool.{lt-ltb}
+use Rattle.bc_disk.specs.Disk.{DiskFacts}
+use Rattle.bc_flight.specs.Claims.{is_exclusive as alone, overlaps, conflicts, conflicts_any}
+use Rattle.bc_flight.specs.Flight.{InFlight, claim_at, claim_of, without}
+use Rattle.bc_flight.specs.declared.claim.Claim.{Claim as FlightClaim}
+use Rattle.bc_flight.specs.declared.claim.Share.{Share}
+use Rattle.bc_flight.specs.declared.claim.Share.TheVariants.{Shared, Exclusive}
+use Rattle.bc_parts.specs.Seat.{Holds}
+use Rattle.bc_books.specs.Index.{Index}
+use Rattle.bc_data.specs.Seats.{Claim, Covers, Apart, new_claim}
+use Rattle.bc_data.specs.Data as flow
+use Rattle.bc_known.specs.Acts.{Alone}
+use Rattle.bc_known.specs.Acts as known
+use Rattle.bc_events.specs.Acts.{is_exclusive, claimed}
+use Rattle.bc_events.specs.Run.{Opening, CanDo}
+use Rattle.bc_events.specs.declared.event.Deed.{Deed}
+use Rattle.bc_events.specs.declared.event.Deed.TheVariants as deed
+use Rattle.bc_machine.specs.declared.part.CorePart.{CorePart}
+use Rattle.bc_machine.specs.declared.part.CorePart.TheVariants as part
+use Rattle.bc_machine.specs.World.{World, after, data_of, is_told, opening, claim_in, share_of, IsFlight}
+use Rattle.bc_machine.specs.Frame.{Range, range_of, by_test, frames}
+use Rattle.bc_machine.specs.Note.{note_of, note_after, IsFirmer}
+use Rattle.bc_machine.proofs.Noting.{note_event, other_event}
+use Rattle.bc_seats.proofs.Knowing.{held}
+use Rattle.bc_hand.specs.Seats.{by, world, note, IsCoreSeat, AtDeed, MayDo, Did}
+use Rattle.bc_hand.proofs.Knowing.{View, m, knew}
+use Rattle.bc_seats.specs.Seats.{Waited}
+use Rattle.bc_seats.proofs.Between.{seen_alike}
+use Rattle.bc_hand.specs.declared.error.StepError.{StepError}
+use Rattle.bc_hand.proofs.Between.{did_between}
+use Rattle.bc_deed.specs.Asked.{HasClaimed, IsHalted, IsTaken, size_of}
+use Rattle.bc_deed.proofs.May.{low, opening_at, plain_at, can_alone}
+
+-- ---- lists of claims
+
+not_or : (a b : Bool) → (a || b) ≡ false → (a ≡ false) × (b ≡ false)
+not_or false b is = (refl, is)
+not_or true b is = absurd (cc)
+
+same_claim : (a b : FlightClaim) → Some a ≡ Some b → a ≡ b
+same_claim a b is = cc
+
+none_conflicts : (c : FlightClaim) (cs : List FlightClaim) (n : ℕ) (o : FlightClaim)
+    → claim_of n cs ≡ Some o → conflicts_any c cs ≡ false → conflicts c o ≡ false
+none_conflicts c [] n o is off = absurd (cc)
+none_conflicts c (x ∷ xs) n o is off =
+    let both = not_or (conflicts c x) (conflicts_any c xs) off in
+    by_test x.seat n (λ b. (if b then Some x else claim_of n xs) ≡ Some o → conflicts c o ≡ false)
+    (λ same at. subst (λ y. conflicts c y ≡ false) (same_claim x o at) both.0)
+    (λ other at. none_conflicts c xs n o at both.1) is
+
+push_old : (n : ℕ) (cs : List FlightClaim) (c : FlightClaim) → c.seat ≢ n
+    → claim_of n (cs ++ c ∷ []) ≡ claim_of n cs
+push_old n [] c ne = by_test c.seat n (λ b. (if b then Some c else None) ≡ None)
+    (λ is. absurd (ne is)) (λ no. refl)
+push_old n (x ∷ xs) c ne = by_test x.seat n
+    (λ b. (if b then Some x else claim_of n (xs ++ c ∷ [])) ≡ (if b then Some x else claim_of n xs))
+    (λ is. refl) (λ no. push_old n xs c ne)
+
+push_new : (n : ℕ) (cs : List FlightClaim) (c : FlightClaim) → c.seat ≡ n → claim_of n cs ≡ None
+    → claim_of n (cs ++ c ∷ []) ≡ Some c
+push_new n [] c is none = by_test c.seat n (λ b. (if b then Some c else None) ≡ Some c)
+    (λ same. refl) (λ no. absurd (no is))
+push_new n (x ∷ xs) c is none = by_test x.seat n
+    (λ b. (if b then Some x else claim_of n xs) ≡ None
+    → (if b then Some x else claim_of n (xs ++ c ∷ [])) ≡ Some c)
+    (λ same at. absurd (cc)) (λ no at. push_new n xs c is at) none
+
+gone_own : (n : ℕ) (cs : List FlightClaim) → claim_of n (without n cs) ≡ None
+gone_own n [] = refl
+gone_own n (x ∷ xs) = by_test x.seat n
+    (λ b. claim_of n (if b then without n xs else x ∷ without n xs) ≡ None)
+    (λ is. gone_own n xs)
+    (λ no. by_test x.seat n (λ b. (if b then Some x else claim_of n (without n xs)) ≡ None)
+    (λ is. absurd (no is)) (λ other. gone_own n xs))
+
+gone_other : (n i : ℕ) (cs : List FlightClaim) → i ≢ n → claim_of n (without i cs) ≡ claim_of n cs
+gone_other n i [] ne = refl
+gone_other n i (x ∷ xs) ne = by_test x.seat i
+    (λ b. claim_of n (if b then without i xs else x ∷ without i xs) ≡ claim_of n (x ∷ xs))
+    (λ is. gone_other n i xs ne
+    ∙ sym (by_test x.seat n (λ b. (if b then Some x else claim_of n xs) ≡ claim_of n xs)
+    (λ same. absurd (ne (sym is ∙ same))) (λ no. refl)))
+    (λ no. by_test x.seat n (λ b. (if b then Some x else claim_of n (without i xs))
+    ≡ (if b then Some x else claim_of n xs)) (λ same. refl) (λ other. gone_other n i xs ne))
+
+-- ---- what may be claimed
+
+share_back : (how : Share) → share_of (is_exclusive how) ≡ how
+share_back Shared = refl
+share_back Exclusive = refl
+
+same_alone : (how : Share) → alone how ≡ is_exclusive how
+same_alone Shared = refl
+same_alone Exclusive = refl
+
+alone_back : (b : Bool) → alone (share_of b) ≡ b
+alone_back true = refl
+alone_back false = refl
+
+apart_by : (i first count k : ℕ) (how : Share) (c : Claim)
+    → conflicts (claim_at i first count how) (claim_at k c.first c.count (share_of c.exclusive)) ≡ false
+    → Apart (new_claim first count (is_exclusive how)) c
+apart_by i first count k how c off = go (nat_lt first (c.first + c.count)) (nat_lt c.first (first + count)) refl refl off
+  where
+    shares : (alone how || alone (share_of c.exclusive)) ≡ false → Apart (new_claim first count (is_exclusive how)) c
+    shares is = let both = not_or (alone how) (alone (share_of c.exclusive)) is in
+        inl (sym (same_alone how) ∙ both.0, sym (alone_back c.exclusive) ∙ both.1)
+
+    go : (p q : Bool) → nat_lt first (c.first + c.count) ≡ p → nat_lt c.first (first + count) ≡ q
+        → ((p && q) && (alone how || alone (share_of c.exclusive))) ≡ false
+        → Apart (new_claim first count (is_exclusive how)) c
+    go true true ps qs is = shares is
+    go false q ps qs is = inr (λ s a b. let a0 = a.0 in let b1 = b.1 in
+        let yes_ = lt-ltb first (c.first + c.count) (omega arith) in absurd (cc (ps, yes_)))
+    go true false ps qs is = inr (λ s a b. let a1 = a.1 in let b0 = b.0 in
+        let yes_ = lt-ltb c.first (first + count) (omega arith) in absurd (cc (qs, yes_)))
+
+apart_of : (f : InFlight) (x : World) (i first count k : ℕ) (how : Share) → IsFlight f x
+    → conflicts_any (claim_at i first count how) f.claims ≡ false
+    → Apart (new_claim first count (is_exclusive how)) ((data_of x).seats k).claim
+apart_of f x i first count k how on off = let c = ((data_of x).seats k).claim in
+    by_test c.count 0 (λ b. claim_of k f.claims
+    ≡ (if b then None else Some (claim_at k c.first c.count (share_of c.exclusive)))
+    → Apart (new_claim first count (is_exclusive how)) c)
+    (λ is at. inr (λ s a b. let b0 = b.0 in let b1 = b.1 in absurd (omega arith)))
+    (λ no at. apart_by i first count k how c (none_conflicts (claim_at i first count how) f.claims k
+    (claim_at k c.first c.count (share_of c.exclusive)) at off))
+    (on.claims k)
+
+module _ {C B : Type 0} (cache_facts : C → DiskFacts) (backing_facts : B → DiskFacts) where
+  held_flight : (v : View cache_facts backing_facts) (f : InFlight) (x : World) (d : Deed)
+      → Holds v.parts 1 → IsFlight f (world cache_facts backing_facts v)
+      → AtDeed cache_facts backing_facts v d x → IsFlight f x
+  held_flight v f x d holds on at = (at.stand 1 (part.Flight f) holds (refl, on)).1
+
+  pub may_claim : (v : View cache_facts backing_facts) (f : InFlight) (first count : ℕ) (how : Share)
+      → IsCoreSeat cache_facts backing_facts v → Holds v.parts 1
+      → IsFlight f (world cache_facts backing_facts v) → (note cache_facts backing_facts v).range.count ≡ 0
+      → 1 ≤ count → first + count ≤ size_of cache_facts backing_facts v.run.start
+      → conflicts_any (claim_at v.first first count how) f.claims ≡ false
+      → MayDo cache_facts backing_facts v (deed.Claim first count how)
+  may_claim v f first count how seat holds on none some inside off = λ x at.
+      let d : Deed = deed.Claim first count how in
+      let is = opening_at cache_facts backing_facts v d x at in
+      let plain = plain_at cache_facts backing_facts v d x at in
+      let ex = is_exclusive how in
+      let w = x.opening.machine in record {
+        seat = lt-ltb v.first 320 (low cache_facts backing_facts v seat);
+        allowed = λ told. subst (λ b. CanDo x.opening x.now (by v.first d)
+            (claimed b ((data_of x).books.index.leaf first) first count ex)) (sym plain) (record {
+              seat = lt-ltb v.first 320 (low cache_facts backing_facts v seat);
+              course = (
+                record {
+                  data_allows = (
+                    record {
+                      heard = at.running refl;
+                      steps = tt;
+                      can = record {
+                        none = ap (λ r. r.count) at.note.range ∙ none;
+                        inside = subst (λ (o : Opening). first + count ≤ o.machine.flow.books.size) (sym is) inside;
+                        apart = λ k ne. apart_of f x v.first first count k how (held_flight v f x d holds on at) off;
+                      };
+                    },
+                    tt,
+                  );
+                  asks = refl;
+                },
+                (
+                  record {
+                    data_allows = (
+                      record {
+                        heard = at.running refl;
+                        steps = tt;
+                        can = λ s covers. let bare = (at.bare told plain).index in
+                            ap (λ (i : Index). i.leaf s) bare
+                            ∙ ap (λ (o : Opening). o.machine.flow.books.leaf s) is
+                            ∙ sym (ap (λ (o : Opening). o.machine.flow.books.leaf first) is)
+                            ∙ sym (ap (λ (i : Index). i.leaf first) bare);
+                      },
+                      tt,
+                    );
+                    asks = refl;
+                  },
+                  tt,
+                ),
+              );
+              fit = some;
+              its_line = tt;
+              plain = λ _. (tt, (tt, tt));
+            });
+      }
+
+  pub may_release : (v : View cache_facts backing_facts) → IsCoreSeat cache_facts backing_facts v
+      → MayDo cache_facts backing_facts v deed.Release
+  may_release v seat = λ x at. can_alone x v.first deed.Release flow.Release (low cache_facts backing_facts v seat)
+      refl refl (λ told. record { heard = tt; steps = tt; can = tt }) (λ told. tt) tt
+
+-- ---- behind a claim, and its release
+
+abbrev in_range : ℕ → Range → Option FlightClaim
+in_range n r = if r.count == 0 then None else Some (claim_at n r.first r.count (share_of r.exclusive))
+
+none_in : (n : ℕ) (r : Range) → r.count ≡ 0 → in_range n r ≡ None
+none_in n r is = by_test r.count 0 (λ b. (if b then None else Some (claim_at n r.first r.count (share_of r.exclusive))) ≡ None)
+    (λ same. refl) (λ no. absurd (no is))
+
+some_in : (n first count : ℕ) (how : Share) → 1 ≤ count
+    → in_range n (record { first = first; count = count; exclusive = is_exclusive how })
+    ≡ Some (claim_at n first count how)
+some_in n first count how some = by_test count 0
+    (λ b. (if b then None else Some (claim_at n first count (share_of (is_exclusive how)))) ≡ Some (claim_at n first count how))
+    (λ is. absurd (omega arith)) (λ no. ap (λ h. Some (claim_at n first count h)) (share_back how))
+
+-- of other seats
+others_stay : (x : World) (d : Deed) (i n : ℕ) → i ≢ n
+    → claim_in n ((data_of (after x (by i d))).seats n).claim ≡ claim_in n ((data_of x).seats n).claim
+others_stay x d i n ne = ap (in_range n) (other_event x (by i d) n ne).0.range
+
+own_is : (x : World) (d : Deed) (i : ℕ) → claim_in i ((data_of (after x (by i d))).seats i).claim
+    ≡ in_range i (note_after x.opening.machine.flow.plain (note_of x i) d).range
+own_is x d i = ap (λ o. in_range i o.range) (note_event x (by i d))
+
+pub flight_claimed : (f g : InFlight) (x : World) (i first count : ℕ) (how : Share) → IsFlight f x
+    → g.seats ≡ f.seats → g.claims ≡ f.claims ++ claim_at i first count how ∷ []
+    → (note_of x i).range.count ≡ 0 → 1 ≤ count
+    → IsFlight g (after x (by i (deed.Claim first count how)))
+flight_claimed f g x i first count how on seats claims none some = record {
+  seats = seats ∙ on.seats;
+  claims = λ n. ap (claim_of n) claims ∙ by_test i n
+      (λ b. claim_of n (f.claims ++ claim_at i first count how ∷ [])
+      ≡ claim_in n ((data_of (after x (by i (deed.Claim first count how)))).seats n).claim)
+      (λ is. subst (λ k. claim_of k (f.claims ++ claim_at i first count how ∷ [])
+      ≡ claim_in k ((data_of (after x (by i (deed.Claim first count how)))).seats k).claim) is
+      (push_new i f.claims (claim_at i first count how) refl
+      (on.claims i ∙ none_in i (note_of x i).range none)
+      ∙ sym (own_is x (deed.Claim first count how) i ∙ some_in i first count how some)))
+      (λ ne. push_old n f.claims (claim_at i first count how) ne ∙ on.claims n
+      ∙ sym (others_stay x (deed.Claim first count how) i n ne));
+}
+
+pub flight_released : (f g : InFlight) (x : World) (i : ℕ) → IsFlight f x → g.seats ≡ f.seats
+    → g.claims ≡ without i f.claims → IsFlight g (after x (by i deed.Release))
+flight_released f g x i on seats claims = record {
+  seats = seats ∙ on.seats;
+  claims = λ n. ap (claim_of n) claims ∙ by_test i n
+      (λ b. claim_of n (without i f.claims)
+      ≡ claim_in n ((data_of (after x (by i deed.Release))).seats n).claim)
+      (λ is. subst (λ k. claim_of k (without i f.claims)
+      ≡ claim_in k ((data_of (after x (by i deed.Release))).seats k).claim) is
+      (gone_own i f.claims ∙ sym (own_is x deed.Release i)))
+      (λ ne. gone_other n i f.claims ne ∙ on.claims n ∙ sym (others_stay x deed.Release i n ne));
+}
+
+module _ {C B : Type 0} (cache_facts : C → DiskFacts) (backing_facts : B → DiskFacts) where
+  pub committed_flight : (v w : View cache_facts backing_facts) (f g : InFlight) (d : Deed)
+      → Holds v.parts 1 → IsFlight f (world cache_facts backing_facts v)
+      → Did cache_facts backing_facts (Some d) v w
+      → ((x : World) → IsFlight f x → IsFirmer (note cache_facts backing_facts v) (note_of x v.first)
+      → IsFlight g (after x (by v.first d)))
+      → IsCoreSeat cache_facts backing_facts v
+      → IsFlight g (world cache_facts backing_facts w)
+  committed_flight v w f g d holds on did step seat = subst (IsFlight g) (sym did.is.state)
+      (step did.is.before (held (m cache_facts backing_facts)
+      (λ n p y e may same stands. frames cache_facts backing_facts n p y e same stands) v did.is.before 1
+      (part.Flight f) did.is.since holds (refl, on)).1
+      (knew cache_facts backing_facts v did.is.before seat.seat.live did.is.since).note)
+
+  -- a claim that was noted in the part and is let go again
+  pub flight_back : (f g : InFlight) (x : World) (i first count : ℕ) (how : Share) → IsFlight f x
+      → g.seats ≡ f.seats → g.claims ≡ without i (f.claims ++ claim_at i first count how ∷ [])
+      → claim_of i f.claims ≡ None → IsFlight g x
+  flight_back f g x i first count how on seats claims none = record {
+    seats = seats ∙ on.seats;
+    claims = λ n. ap (claim_of n) claims ∙ by_test i n
+        (λ b. claim_of n (without i (f.claims ++ claim_at i first count how ∷ []))
+        ≡ claim_in n ((data_of x).seats n).claim)
+        (λ is. subst (λ k. claim_of k (without i (f.claims ++ claim_at i first count how ∷ []))
+        ≡ claim_in k ((data_of x).seats k).claim) is
+        (gone_own i (f.claims ++ claim_at i first count how ∷ []) ∙ sym none ∙ on.claims i))
+        (λ ne. gone_other n i (f.claims ++ claim_at i first count how ∷ []) ne
+        ∙ push_old n f.claims (claim_at i first count how) ne ∙ on.claims n);
+  }
+
+  -- a seat that noted no claim has none in the part
+  pub no_claim : (v : View cache_facts backing_facts) (f : InFlight) (i : ℕ) → i ≡ v.first
+      → IsFlight f (world cache_facts backing_facts v)
+      → (note cache_facts backing_facts v).range.count ≡ 0 → claim_of i f.claims ≡ None
+  no_claim v f i is on none = ap (λ n. claim_of n f.claims) is ∙ on.claims v.first
+      ∙ none_in v.first (note cache_facts backing_facts v).range none
+
+  pub claim_stands : (f g : InFlight) (i first count : ℕ) (how : Share) (c : FlightClaim)
+      → c ≡ claim_at i first count how → g.claims ≡ f.claims ++ claim_at i first count how ∷ []
+      → claim_of i f.claims ≡ None → claim_of c.seat g.claims ≡ Some c
+  claim_stands f g i first count how c is claims none =
+      subst (λ (y : FlightClaim). claim_of y.seat g.claims ≡ Some y) (sym is)
+      (ap (claim_of i) claims ∙ push_new i f.claims (claim_at i first count how) refl none)
+
+  pub waited_flight : (v w : View cache_facts backing_facts) (f : InFlight) → Holds v.parts 1
+      → IsFlight f (world cache_facts backing_facts v) → Did cache_facts backing_facts None v w
+      → IsFlight f (world cache_facts backing_facts w)
+  waited_flight v w f holds on did = (held (m cache_facts backing_facts)
+      (λ n p y e may same stands. frames cache_facts backing_facts n p y e same stands) v
+      (world cache_facts backing_facts w) 1 (part.Flight f) did.is.since holds (refl, on)).1
+
+  pub not_taken : (b : Bool) → (b ≡ true → ⊥) → b ≡ false
+  not_taken false h = refl
+  not_taken true h = absurd (h refl)
+
+  -- ---- between borrowing the part and returning it
+
+  pub claimed_between : (done : Bool) (first count : ℕ) (how : Share)
+      (u v w x : View cache_facts backing_facts) → ((k : ℕ) → Holds u.parts k → Holds v.parts k)
+      → Waited (m cache_facts backing_facts) u v
+      → HasClaimed cache_facts backing_facts done first count how v w
+      → Waited (m cache_facts backing_facts) w x → x.seen ≡ w.seen → x.told ≡ w.told
+      → IsCoreSeat cache_facts backing_facts x
+      → HasClaimed cache_facts backing_facts done first count how u x
+  claimed_between true first count how u v w x still before h last seen told seat =
+      did_between cache_facts backing_facts (Some (deed.Claim first count how)) u v w x still before h last seen told seat
+  claimed_between false first count how u v w x still before h last seen told seat = (
+    did_between cache_facts backing_facts None u v w x still before h.0 last seen told seat,
+    subst (IsTaken (claim_at u.first first count how))
+        (sym (seen_alike (m cache_facts backing_facts) w x last.same seen))
+        (subst (λ n. IsTaken (claim_at n first count how) (world cache_facts backing_facts w)) before.same.first h.1),
+  )
+
+  pub halted_between : (error : StepError) (u v w x : View cache_facts backing_facts)
+      → ((k : ℕ) → Holds u.parts k → Holds v.parts k) → Waited (m cache_facts backing_facts) u v
+      → IsHalted error w.seen × Did cache_facts backing_facts None v w
+      → Waited (m cache_facts backing_facts) w x → x.seen ≡ w.seen → x.told ≡ w.told
+      → IsCoreSeat cache_facts backing_facts x
+      → IsHalted error x.seen × Did cache_facts backing_facts None u x
+  halted_between error u v w x still before h last seen told seat = (
+    subst (IsHalted error) (sym seen) h.0,
+    did_between cache_facts backing_facts None u v w x still before h.1 last seen told seat,
+  )
