@@ -1,5 +1,5 @@
 -- From what the calls of a check say of the devices in between to what it says of them as they were.
-use Rattle.std.proofs.Common.{◌≡◌, Bool, true, false, Option, Some, None, refl, subst}
+use Rattle.std.proofs.Common.{◌≡◌, Bool, true, false, List, [], Option, Some, None, refl, subst}
 use Rattle.std.specs.Bool.{MatchBool}
 use Rattle.bc_disk.specs.Disk.{DiskFacts, IfTold}
 use Rattle.bc_image.specs.Pair.{Pair}
@@ -11,9 +11,10 @@ use Rattle.bc_replay.specs.Survey.{IsFirst, IsSurveyCause}
 use Rattle.bc_replay.specs.declared.error.OpenError.{OpenError}
 use Rattle.bc_replay.specs.declared.error.OpenError.TheVariants as errors
 use Rattle.bc_check.specs.Calls.{BothKept, check_of}
-use Rattle.bc_check.specs.Verdict.{DecidesAlone, IsCheckCause, IsRefusal, IsVerdict}
-use Rattle.bc_check.specs.declared.verdict.Verdict.{Verdict}
-use Rattle.bc_check.proofs.Pairs.{held_back, held_two}
+use Rattle.bc_check.specs.Verdict.{DecidesAlone, IsCheckCause, IsRefusal, IsVerdict, ListsIf}
+use Rattle.bc_check.specs.declared.lines.BucketLine.{BucketLine}
+use Rattle.bc_check.specs.declared.verdict.Verdict.TheVariants as verdicts
+use Rattle.bc_check.proofs.Pairs.{held_back, held_map, held_two}
 
 module _ (cache backing : DiskFacts) where
   -- the pair that is held serves alone, or it doesn't
@@ -42,7 +43,21 @@ module _ (cache backing : DiskFacts) where
     )
 
     module _ (last left : DiskFacts) (then : BothKept cache last backing left) (P : Pair → Type 0) (survey : OfHeld P cache' backing') where
-      pub verdict_so : (verdict : Verdict) → OfHeld (λ p. P p → IsVerdict p verdict) last left → OfHeld (λ p. IsVerdict p verdict) cache backing
-      verdict_so verdict says =
-          held_two P (λ p. P p → IsVerdict p verdict) (λ p. IsVerdict p verdict) cache backing (λ p has so. so has) (held_back P cache cache' backing backing' kept survey)
-          (held_back (λ p. P p → IsVerdict p verdict) cache last backing left then says)
+      pub verdict_so : (Q : Pair → Type 0) → OfHeld (λ p. P p → Q p) last left → OfHeld Q cache backing
+      verdict_so Q says = held_two P (λ p. P p → Q p) Q cache backing (λ p has so. so has) (held_back P cache cache' backing backing' kept survey) (held_back (λ p. P p → Q p) cache last backing left then says)
+
+-- ---- the lines of buckets
+
+none_listed : (list : Bool) (p : Pair) (lines : List BucketLine) → lines ≡ [] → ListsIf list p verdicts.PassThrough lines
+none_listed true p lines none = none
+none_listed false p lines none = none
+
+pub through_so : (cache backing : DiskFacts) (list : Bool) (lines : List BucketLine) → lines ≡ [] → OfHeld ServesAlone cache backing → OfHeld (λ p. IsVerdict p verdicts.PassThrough × ListsIf list p verdicts.PassThrough lines) cache backing
+through_so cache backing list lines none held =
+    held_map ServesAlone (λ p. IsVerdict p verdicts.PassThrough × ListsIf list p verdicts.PassThrough lines) cache backing (λ p x y alone. (alone, none_listed list p lines none)) held
+
+pub with_lines : (P Q L : Pair → Type 0) (cache backing : DiskFacts) → ((p : Pair) → P p → L p) → OfHeld (λ p. P p → Q p) cache backing → OfHeld (λ p. P p → Q p × L p) cache backing
+with_lines P Q L cache backing lines held = held_map (λ p. P p → Q p) (λ p. P p → Q p × L p) cache backing (λ p x y so has. (so has, lines p has)) held
+
+pub verdict_alone : (Q L : Pair → Type 0) (cache backing : DiskFacts) → OfHeld (λ p. Q p × L p) cache backing → OfHeld Q cache backing
+verdict_alone Q L cache backing held = held_map (λ p. Q p × L p) Q cache backing (λ p x y so. so.0) held

@@ -10,5 +10,6 @@ pub mod Others
 pub mod Verdicts
 pub mod Says
 pub mod Checked
+pub mod Texts
 pub mod Anew
 pub mod Through

@@ -1,5 +1,5 @@
 -- The verdict of a pair of which all was read.
-use Rattle.std.proofs.Common.{ℕ, ◌*◌, ◌≤◌, List, Option, Some, None, sym, subst}
+use Rattle.std.proofs.Common.{◌≡◌, ℕ, ◌*◌, ◌≤◌, List, Option, Some, None, sym, subst, Bool, true}
 use Rattle.bc_disk.specs.Disk.{DiskFacts, IfTold}
 use Rattle.bc_disk.specs.Gens.{Gens}
 use Rattle.bc_disk.specs.declared.geometry.Geometry.{Geometry}
@@ -15,11 +15,12 @@ use Rattle.bc_super.specs.declared.cache.CacheSuper.{CacheSuper}
 use Rattle.bc_walk.specs.declared.visit.Visit.{Visit}
 use Rattle.bc_check.specs.Apart.{TellsRows}
 use Rattle.bc_check.specs.Calls.{BothKept}
-use Rattle.bc_check.specs.Counts.{IsCount}
+use Rattle.bc_check.specs.Counts.{AreLines, IsCount}
 use Rattle.bc_check.specs.Strays.{TellsStray}
 use Rattle.bc_check.specs.Totals.{IsDirtyAt, IsCleanAt}
-use Rattle.bc_check.specs.Verdict.{IsVerdictOf, IsOpened, IsVerdict}
+use Rattle.bc_check.specs.Verdict.{IsVerdictOf, IsOpened, IsVerdict, ListsIf}
 use Rattle.bc_check.specs.Window.{IsLeastAged}
+use Rattle.bc_check.specs.declared.lines.BucketLine.{BucketLine}
 use Rattle.bc_check.specs.declared.verdict.Verdict.{Verdict}
 use Rattle.bc_check.specs.declared.verdict.Verdict.TheVariants as verdicts
 use Rattle.bc_check.proofs.Differ.{apart_told}
@@ -32,6 +33,12 @@ module _ (b : BackingSuper) (c : CacheSuper) (g : Geometry) (j : Journal) (gens 
 
   opened : (p : Pair) (h : Has p) (verdict : Verdict) → IsVerdictOf p h.view verdict → IsOpened p verdict
   opened p h verdict says = record { view = h.view; is_view = h.is_view; openable = h.openable; says = says }
+
+  -- the lines of a sound pair's buckets
+  pub listed : (list : Bool) (verdict : Verdict) (dirty clean : ℕ) → list ≡ true → verdict ≡ verdicts.Sound dirty clean → (p : Pair) (h : Has p) (lines : List BucketLine) → AreLines g h.view.reading lines → ListsIf list p verdict lines
+  listed list verdict dirty clean asked is p h lines given =
+      subst (λ (l : Bool). ListsIf l p verdict lines) (sym asked)
+      (subst (λ (v : Verdict). ListsIf true p v lines) (sym is) (h.view, h.is_view, subst (λ (k : Geometry). AreLines k h.view.reading lines) (sym h.geometry) given))
 
   abbrev NoneAgedBy : Type 0
   NoneAgedBy = (p : Pair) (h : Has p) → IsWithinWindow g h.view.reading

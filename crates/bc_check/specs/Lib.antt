@@ -6,3 +6,4 @@ pub mod Apart
 pub mod Strays
 pub mod Verdict
 pub mod Through
+pub mod Text

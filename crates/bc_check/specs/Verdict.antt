@@ -1,7 +1,7 @@
 -- What is said of a pair. Each verdict says that the parts before it hold.
 use Rattle.std.specs.Prelude.{◌≡◌, ℕ, ◌<◌}
 use Rattle.std.specs.Bool.{MatchBool}
-use Rattle.std.specs.Prelude.{Bool}
+use Rattle.std.specs.Prelude.{Bool, true, List, []}
 use Rattle.bc_disk.specs.Disk.{DiskFacts, IfTold}
 use Rattle.bc_image.specs.Pair.{Pair}
 use Rattle.bc_image.specs.Reading.{View, IsView}
@@ -11,10 +11,11 @@ use Rattle.bc_replay.specs.Survey.{IsFirst, IsOpenable}
 use Rattle.bc_replay.specs.declared.error.OpenError.{OpenError}
 use Rattle.bc_replay.specs.declared.error.OpenError.TheVariants as errors
 use Rattle.bc_check.specs.Apart.{Disagrees}
-use Rattle.bc_check.specs.Counts.{IsCount}
+use Rattle.bc_check.specs.Counts.{AreLines, IsCount}
 use Rattle.bc_check.specs.Strays.{IsStrayIn}
 use Rattle.bc_check.specs.Totals.{IsDirtyAt, IsCleanAt}
 use Rattle.bc_check.specs.Window.{IsLeastAged}
+use Rattle.bc_check.specs.declared.lines.BucketLine.{BucketLine}
 use Rattle.bc_check.specs.declared.verdict.CheckError.{CheckError}
 use Rattle.bc_check.specs.declared.verdict.CheckError.TheVariants as checks
 use Rattle.bc_check.specs.declared.verdict.Verdict.{Verdict}
@@ -56,6 +57,11 @@ pub record IsOpened (p : Pair) (verdict : Verdict) : Type 0 where
 abbrev pub IsVerdict : Pair → Verdict → Type 0
 IsVerdict p verdicts.PassThrough = ServesAlone p
 IsVerdict p verdict = IsOpened p verdict
+
+-- the lines of the pair's buckets, where it is sound and they are asked for, and else none
+abbrev pub ListsIf : Bool → Pair → Verdict → List BucketLine → Type 0
+ListsIf true p (verdicts.Sound dirty clean) lines = (v : View) × IsView p v × AreLines v.geometry v.reading lines
+ListsIf list p verdict lines = lines ≡ []
 
 -- a pair that needs its cache device is refused for this reason, the first
 abbrev pub IsRefusal : Pair → OpenError → Type 0

@@ -1,7 +1,7 @@
 //! Where the two devices have different data.
 //!
-//! A live clean sector is one that the cache device may lose, or overwrite, since the backing device
-//! has the same. If it hasn't, what a user reads depends on which of them is asked.
+//! A live clean sector is one that the cache device may lose, or overwrite, since the backing
+//! device has the same. If it hasn't, what a user reads depends on which of them is asked.
 ghost use Rattle.std.specs.Prelude.{◌≡◌, ◌*◌, ◌/◌, ◌+◌, ◌<◌, ◌≤◌, length, IfOk, IfErr, IfSome, OnOk};
 ghost use Rattle.bc_disk.specs.Disk.{IsOnDisk};
 ghost use Rattle.bc_replay.specs.Causes.{OfHeld};
@@ -29,7 +29,8 @@ fn first_other(one: &[u8], other: &[u8]) -> Option<u64>
 }
 
 /// The first sector of a piece that the devices have different, counted from its first one. It
-/// begins at these sectors of the cache device and the backing device, and is as long as the buffers.
+/// begins at these sectors of the cache device and of the backing device, and the buffers say its
+/// length.
 fn piece_apart<C: Disk, B: Disk>(
     cache: &mut C,
     backing: &mut B,

@@ -23,8 +23,8 @@ fn row_fits(row: &Key, offset: u64, cache_sectors: u64, backing_sectors: u64) ->
         && row.end <= backing_sectors.saturating_sub(offset)
 }
 
-/// The first sector of a row that the devices have different, where the row is live and clean. A row
-/// that doesn't fit on the devices has its first one so.
+/// The first sector of a row that the devices have different, where the row is live and clean. A
+/// row that doesn't fit on the devices has its first one so.
 fn row_apart<C: Disk, B: Disk>(
     cache: &mut C,
     backing: &mut B,

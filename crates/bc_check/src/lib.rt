@@ -16,12 +16,14 @@ mod pair;
 mod read;
 mod rows;
 mod strays;
+mod text;
 mod totals;
 mod verdict;
 mod window;
 
 pub use lines::{BucketLine, list_buckets};
-pub use pair::check_pair;
+pub use pair::{Report, check_pair, examine};
+pub use text::{Told, report_text, tell_pair};
 pub use totals::{Totals, count_sectors};
 pub use verdict::{CheckError, Verdict};
 pub use window::first_aged;

@@ -10,9 +10,10 @@ ghost use Rattle.bc_super.specs.declared.error.SuperError.{SuperError};
 ghost use Rattle.bc_disk.specs.declared.disk.Device.{Device};
 ghost use Rattle.bc_check.specs.declared.verdict.CheckError.{CheckError};
 ghost use Rattle.bc_check.specs.Calls.{BothKept, CountsFault, IsWant, IsWantOf, NoneFailed};
-ghost use Rattle.bc_check.specs.Verdict.{DecidesAlone, IsCheckCause, IsVerdict};
+ghost use Rattle.bc_check.specs.Verdict.{DecidesAlone, IsCheckCause, IsVerdict, ListsIf};
 
 use crate::data::first_apart;
+use crate::lines::{BucketLine, list_buckets};
 use crate::strays::first_stray;
 use crate::totals::count_sectors;
 use crate::verdict::{CheckError, Verdict};
@@ -23,7 +24,7 @@ use bc_replay::{Survey, survey};
 use bc_super::backing::{BackingSuper, read_backing};
 use bc_super::error::SuperError;
 use bc_super::state::BackingState;
-use std::alloc::Global;
+use std::alloc::{AllocError, Global};
 
 /// Whether the backing device of this superblock asks for no cache.
 fn is_pass_through(b: &BackingSuper) -> bool
@@ -96,14 +97,71 @@ fn verdict_of<C: Disk, B: Disk>(
     })
 }
 
-/// Says whether the pair that two devices hold is sound. Nothing is written.
+/// The lines of the buckets of a surveyed pair that is sound, where they are asked for.
+fn lines_if(
+    alloc: Global,
+    s: &Survey,
+    list: bool,
+    verdict: Verdict,
+) -> Result<Vec<BucketLine>, AllocError>
+    ensures { IfOk result (λ v. (p : Pair) → HasSurvey p s.now.supers.backing s.now.supers.cache
+        s.now.supers.geometry s.now.journal s.now.gens s.now.seen.items s.now.index.keys
+        s.now.uses.items → ListsIf list p verdict v.items) }
+{
+    match verdict {
+        Verdict::Sound { .. } if list => list_buckets(alloc, s),
+        _ => Ok(Vec::new(alloc)),
+    }
+}
+
+/// What is said of a pair, and of its buckets.
+#[derive(Drop)]
+pub struct Report {
+    /// Whether it is sound.
+    pub verdict: Verdict,
+    /// A line for each bucket that has a use, in their order, where the pair is sound and its
+    /// buckets were asked for; else none.
+    pub lines: Vec<BucketLine>,
+}
+
+/// Says whether the pair that two devices hold is sound, and what its buckets hold, if that is
+/// asked for and it is. Nothing is written.
 ///
 /// The superblock of the backing device is read first: where it asks for no cache, the verdict is
-/// `PassThrough`. Then all that `survey` tests is tested, by which the pair is refused as `Open`;
-/// then the journal's entries, the ages of pointers and the data of live clean sectors, each by a
-/// verdict of its own, which is the first that holds. `Fault` and `Memory` come wherever they happen.
-/// Of the data only that of live clean sectors is read, 256 sectors by a call at most. The time is
-/// linear in what is read but for a logarithm.
+/// `PassThrough`, and there are no lines. Then all that `survey` tests is tested, by which the pair
+/// is refused as `Open`; then the journal's entries, the ages of pointers and the data of live clean
+/// sectors, each by a verdict of its own, which is the first that holds. `Fault` and `Memory` come
+/// wherever they happen. Of the data only that of live clean sectors is read, 256 sectors by a call
+/// at most. The time is linear in what is read but for a logarithm.
+pub fn examine<C: Disk, B: Disk>(
+    alloc: Global,
+    cache: &mut C,
+    backing: &mut B,
+    list: bool,
+) -> Result<Report, CheckError>
+    ensures found { IfOk result (λ r. OfHeld (λ p. IsVerdict p r.verdict
+        × ListsIf list p r.verdict r.lines.items) (C.facts cache.old) (B.facts backing.old)) }
+    ensures refused { IfErr result (IsCheckCause (C.facts cache.old) (B.facts backing.old)) }
+    ensures kept { BothKept (C.facts cache.old) (C.facts cache.new) (B.facts backing.old)
+        (B.facts backing.new) }
+    ensures faults { IfErr result (λ e. CountsFault e (C.facts cache.old) (C.facts cache.new)
+        (B.facts backing.old) (B.facts backing.new)) }
+    ensures good { OnOk result (NoneFailed (C.facts cache.old) (C.facts cache.new)
+        (B.facts backing.old) (B.facts backing.new)) }
+{
+    if serves_alone(backing)? {
+        return Ok(Report {
+            verdict: Verdict::PassThrough,
+            lines: Vec::new(alloc),
+        });
+    }
+    let s = survey(alloc, cache, backing)?;
+    let verdict = verdict_of(alloc, cache, backing, &s)?;
+    let lines = lines_if(alloc, &s, list, verdict)?;
+    Ok(Report { verdict, lines })
+}
+
+/// Says whether the pair that two devices hold is sound, as `examine` does. Nothing is written.
 pub fn check_pair<C: Disk, B: Disk>(
     alloc: Global,
     cache: &mut C,
@@ -119,9 +177,6 @@ pub fn check_pair<C: Disk, B: Disk>(
     ensures good { OnOk result (NoneFailed (C.facts cache.old) (C.facts cache.new)
         (B.facts backing.old) (B.facts backing.new)) }
 {
-    if serves_alone(backing)? {
-        return Ok(Verdict::PassThrough);
-    }
-    let s = survey(alloc, cache, backing)?;
-    verdict_of(alloc, cache, backing, &s)
+    let report = examine(alloc, cache, backing, false)?;
+    Ok(report.verdict)
 }

@@ -1,8 +1,8 @@
 //! Whole entries in the journal's buckets that could be taken for live or coming ones.
 //!
-//! The ring goes on behind the newest entry, and what a reader finds behind that one it takes by its
-//! number alone. So an entry that stands there whole, with the number of one that is to come, would
-//! be read as soon as the ring reaches it, though nobody put it there.
+//! The ring goes on behind the newest entry, and what a reader finds behind that one it takes by
+//! its number alone. So an entry that stands there whole, with the number of one that is to come,
+//! would be read as soon as the ring reaches it, though nobody put it there.
 ghost use Rattle.std.specs.Prelude.{◌≡◌, ℕ, ◌+◌, ◌*◌, ◌<◌, ◌≤◌, ◌^◌, ◌≢◌, length, IfOk, IfErr, OnOk, MatchOption};
 ghost use Rattle.std.specs.Bool.{MatchBool};
 ghost use Rattle.bc_disk.specs.Disk.{IsKept, IfTold};

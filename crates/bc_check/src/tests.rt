@@ -180,7 +180,7 @@ fn put_alone(bytes: &mut [u8])
     put_u64(bytes, at, sum);
 }
 
-// A sound pair, after an edit. Of sectors 8 to 15 both devices have the same data, which isn't zero.
+// A sound pair, after an edit. Of sectors 8 to 15 both devices have the same data, no zeros.
 fn edited(rt: &impl Abort, alloc: Global, edit: Edit) -> Result<(MemDisk, MemDisk), PairError> {
     let (made, old) = new_pair(alloc)?;
     let mut cache = Vec::from_slice(alloc, made.bytes())?;
@@ -217,7 +217,7 @@ fn verdicts(rt: HostRuntime) -> Result<(), Fail> {
     let sound = Verdict::Sound { dirty: 0, clean: 8 };
     for (edit, verdict) in [
         (Edit::None, sound),
-        // Another byte of the fourth of these sectors, of the last one, and of one that isn't cached.
+        // Another byte of the fourth of these sectors, of the last one, and of an uncached one.
         (Edit::Flip(27 * 512 + 5), Verdict::Agree { sector: 11 }),
         (Edit::Flip(31 * 512 + 511), Verdict::Agree { sector: 15 }),
         (Edit::Flip(32 * 512), sound),

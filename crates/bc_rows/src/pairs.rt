@@ -1,4 +1,4 @@
-//! The rows of the commands that make and show a pair.
+//! The rows of the commands that make, show and check a pair.
 ghost use Rattle.std.specs.Prelude.{◌<◌, ◌≤◌};
 
 use crate::pair::{
@@ -21,7 +21,24 @@ backing version 1 offset 16 size 4096 mode writethrough state clean
 backing uuid ba0000000000000000000000000000ba set 5e70000000000000000000000000005e
 ";
 
-/// What it prints of the pair that make-bcache wrote, before and after it is adopted.
+/// What `check --list` prints of it.
+const LISTED: &str = "bucket 0 super gen 0 live 0 dirty 0
+bucket 1 journal gen 0 live 0 dirty 0
+bucket 2 journal gen 0 live 0 dirty 0
+bucket 3 journal gen 0 live 0 dirty 0
+bucket 4 journal gen 0 live 0 dirty 0
+bucket 5 journal gen 0 live 0 dirty 0
+bucket 6 journal gen 0 live 0 dirty 0
+bucket 7 journal gen 0 live 0 dirty 0
+bucket 8 journal gen 0 live 0 dirty 0
+bucket 9 priority gen 0 live 0 dirty 0
+bucket 10 uuid gen 0 live 0 dirty 0
+bucket 11 node gen 0 live 0 dirty 0
+bucket 12 node gen 0 live 0 dirty 0
+check sound dirty 0 clean 0
+";
+
+/// What `show` prints of the pair that make-bcache wrote, before and after it is adopted.
 const SHOWN_MADE: &str =
     "cache version 0 block 1 bucket 64 buckets 128 first 1 journal 0 replacement lru sync 0 discard 0
 cache uuid a1f4208954bb49b9bd5b8765e1fb7fb5 set a99a46baf47a42e192749f9deb920ff0
@@ -70,6 +87,7 @@ fn a_pair_is_formatted(rt: HostRuntime) -> Result<(), Fail> {
     let ran = test_command(&rt, alloc, ran, "adopt", no_backing, 4)?;
     let ran = test_command(&rt, alloc, ran, FORMAT, "", 0)?;
     let ran = test_command(&rt, alloc, ran, "show", SHOWN, 0)?;
+    let ran = test_command(&rt, alloc, ran, "check --list", LISTED, 0)?;
     let ran = test_command(&rt, alloc, ran, "adopt", "superblock cache 18\n", 4)?;
     let ran = test_command(&rt, alloc, ran, "serve", "unserved\n", 5)?;
     let ran = test_command(&rt, alloc, ran, FORMAT, "", 0)?;
@@ -83,7 +101,9 @@ fn a_pair_is_adopted(rt: HostRuntime) -> Result<(), Fail> {
     let ran = made(alloc, BACKING_SECTORS)?;
     let ran = test_command(&rt, alloc, ran, "show", SHOWN_MADE, 0)?;
     let ran = test_command(&rt, alloc, ran, "serve", "superblock cache 15\n", 4)?;
+    let ran = test_command(&rt, alloc, ran, "check", "superblock cache 15\n", 4)?;
     let ran = test_command(&rt, alloc, ran, "adopt", "", 0)?;
+    let ran = test_command(&rt, alloc, ran, "check", "check sound dirty 0 clean 0\n", 0)?;
     let ran = test_command(&rt, alloc, ran, "show", SHOWN_ADOPTED, 0)?;
     let ran = test_command(&rt, alloc, ran, "adopt", "superblock cache 18\n", 4)?;
     test_command(&rt, alloc, ran, "serve", "unserved\n", 5)?;

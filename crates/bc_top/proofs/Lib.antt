@@ -7,6 +7,7 @@ pub mod Raising
 pub mod Statuses
 pub mod Settled
 pub mod Pairing
+pub mod Checking
 pub mod Completing
 pub mod Unread
 pub mod Judging

@@ -1,5 +1,5 @@
 -- What the commands that make and show a pair leave.
-use Rattle.std.specs.Prelude.{◌≡◌, ◌⊎◌, ℕ, Result, Ok, Err, OnOk, IfOk, IfErr, String, string_bytes}
+use Rattle.std.specs.Prelude.{◌≡◌, ◌⊎◌, ℕ, Bool, Result, Ok, Err, OnOk, IfOk, IfErr, String, string_bytes}
 use Rattle.std.specs.declared.alloc.Global.{Global}
 use Rattle.bc_disk.specs.Disk.{DiskFacts, IsCounted}
 use Rattle.bc_disk.specs.Stream.{StreamFacts}
@@ -11,13 +11,19 @@ use Rattle.bc_pair.specs.Found.{FindsAdopted, FindsNew}
 use Rattle.bc_pair.specs.declared.error.PairError.{PairError}
 use Rattle.bc_pair.specs.declared.error.PairError.TheVariants as errors
 use Rattle.bc_pair.specs.declared.pair.NewPair.{NewPair}
+use Rattle.bc_check.specs.Calls.{BothKept, CountsFault, NoneFailed}
+use Rattle.bc_check.specs.Text.{IsTold}
+use Rattle.bc_check.specs.Verdict.{IsCheckCause}
+use Rattle.bc_check.specs.declared.text.Told.{Told}
+use Rattle.bc_check.specs.declared.verdict.CheckError.{CheckError}
+use Rattle.bc_replay.specs.Causes.{OfHeld}
 use Rattle.bc_super.specs.Reading.{ReadsCache, ReadsSuper}
 use Rattle.bc_super.specs.Show.{IsShown}
 use Rattle.bc_super.specs.Super.{data_sectors, number_of}
 use Rattle.bc_super.specs.declared.backing.BackingSuper.{BackingSuper}
 use Rattle.bc_super.specs.declared.cache.CacheSuper.{CacheSuper}
 use Rattle.bc_top.specs.Ended.{IsPutOf}
-use Rattle.bc_top.specs.Stops.{message_of, status_of}
+use Rattle.bc_top.specs.Stops.{check_stop, message_of, status_of, verdict_status}
 use Rattle.bc_top.specs.declared.stop.Stop.{Stop}
 use Rattle.bc_top.specs.declared.stop.Stop.TheVariants as stop
 
@@ -43,6 +49,12 @@ abbrev pub EndsPrinting : Result (String Global) PairError → ℕ → StreamFac
 EndsPrinting (Ok text) status old new = ((status ≡ 0) × Takes (string_bytes text) old new)
     ⊎ ((status ≡ 8) × ((cause : WriteFault) × IsWriteFault cause (string_bytes text) old new))
 EndsPrinting (Err e) status old new = IsStopped e status old new
+
+-- a command that tells a verdict: its status where the sink took the text whole, and 8 where a put of it failed or took nothing
+abbrev pub EndsChecking : Result Told CheckError → ℕ → StreamFacts → StreamFacts → Type 0
+EndsChecking (Ok told) status old new = ((status ≡ verdict_status told.verdict) × Takes (string_bytes told.text) old new)
+    ⊎ ((status ≡ 8) × ((cause : WriteFault) × IsWriteFault cause (string_bytes told.text) old new))
+EndsChecking (Err e) status old new = (status ≡ status_of (check_stop e)) × IsPutOf (message_text (message_of (check_stop e))) old new
 
 -- ---- the commands
 
@@ -81,3 +93,14 @@ module _ {C B : Type 0} (cache_facts : C → DiskFacts) (backing_facts : B → D
     pub kept : AreKept (cache_facts cache) (cache_facts cache') (backing_facts backing) (backing_facts backing')
     pub faults : IfErr answer (λ e. FaultRose e (cache_facts cache) (cache_facts cache') (backing_facts backing) (backing_facts backing'))
     pub ends : EndsPrinting answer status old new
+
+  -- nothing was written, and the pair's verdict was told, and what its buckets hold, where that is asked for and it is sound; or it was
+  -- refused or a device failed
+  pub record HasChecked (list : Bool) : Type 0 where
+    pub answer : Result Told CheckError
+    pub told : IfOk answer (λ r. OfHeld (λ p. IsTold list p r.verdict (string_bytes r.text)) (cache_facts cache) (backing_facts backing))
+    pub cause : IfErr answer (IsCheckCause (cache_facts cache) (backing_facts backing))
+    pub kept : BothKept (cache_facts cache) (cache_facts cache') (backing_facts backing) (backing_facts backing')
+    pub faults : IfErr answer (λ e. CountsFault e (cache_facts cache) (cache_facts cache') (backing_facts backing) (backing_facts backing'))
+    pub good : OnOk answer (NoneFailed (cache_facts cache) (cache_facts cache') (backing_facts backing) (backing_facts backing'))
+    pub ends : EndsChecking answer status old new

@@ -8,6 +8,10 @@ use Rattle.bc_replay.specs.Numbers.{number_of as open_number}
 use Rattle.bc_replay.specs.declared.error.OpenError.{OpenError}
 use Rattle.bc_replay.specs.declared.error.OpenError.TheVariants as errors
 use Rattle.bc_super.specs.Super.{number_of as super_number}
+use Rattle.bc_check.specs.declared.verdict.CheckError.{CheckError}
+use Rattle.bc_check.specs.declared.verdict.CheckError.TheVariants as checks
+use Rattle.bc_check.specs.declared.verdict.Verdict.{Verdict}
+use Rattle.bc_check.specs.declared.verdict.Verdict.TheVariants as verdicts
 use Rattle.bc_top.specs.declared.stop.Stop.{Stop}
 use Rattle.bc_top.specs.declared.stop.Stop.TheVariants as stop
 
@@ -46,3 +50,17 @@ stop_of (errors.Super device why) = stop.Superblock device (super_number why)
 stop_of (errors.Fault device) = stop.Fault device
 stop_of errors.Memory = stop.Memory
 stop_of error = stop.Image (open_number error)
+
+-- why a call ends whose pair gets no verdict
+abbrev pub check_stop : CheckError → Stop
+check_stop (checks.Open why) = stop_of why
+check_stop (checks.Fault device) = stop.Fault device
+check_stop checks.Memory = stop.Memory
+
+-- the status of a verdict: 0 where the pair is sound
+abbrev pub verdict_status : Verdict → ℕ
+verdict_status verdicts.PassThrough = 0
+verdict_status (verdicts.Sound dirty clean) = 0
+verdict_status (verdicts.Journal bucket) = 5
+verdict_status (verdicts.Age sector) = 5
+verdict_status (verdicts.Agree sector) = 5

@@ -1,5 +1,5 @@
 -- The words of a command, and why a trace isn't served.
-use Rattle.std.specs.Prelude.{◌≡◌, ◌⊎◌, ℕ, List, Some, map, string_bytes, String}
+use Rattle.std.specs.Prelude.{◌≡◌, ◌⊎◌, ℕ, Bool, List, Some, map, string_bytes, String}
 use Rattle.std.specs.declared.alloc.Global.{Global}
 use Rattle.bc_disk.specs.Device.{HasRisen}
 use Rattle.bc_disk.specs.Disk.{DiskFacts}
@@ -22,7 +22,7 @@ use Rattle.bc_output.specs.declared.message.Message.TheVariants as message
 use Rattle.bc_top.specs.Ended.{IsPutOf}
 use Rattle.bc_top.specs.Opened.{IsAnswerTo, IsOpeningCause, IsSameDevice}
 use Rattle.bc_top.specs.Stops.{message_of, status_of}
-use Rattle.bc_top.specs.Pairs.{HasAdopted, HasFormatted, HasShown}
+use Rattle.bc_top.specs.Pairs.{HasAdopted, HasChecked, HasFormatted, HasShown}
 use Rattle.bc_top.specs.declared.stop.Stop.{Stop}
 use Rattle.bc_top.specs.declared.stop.Stop.TheVariants as stop
 
@@ -33,6 +33,10 @@ Says words command = IsInRange command × Spells (map string_bytes words) comman
 -- the words say that a trace is to be served. A run over the backing device alone has no use for the options.
 abbrev pub IsServe : List (String Global) → Type 0
 IsServe words = (options : Options) × Says words (command.Serve options)
+
+-- the words ask whether a pair is sound
+abbrev pub IsCheck : List (String Global) → Type 0
+IsCheck words = (list : Bool) × Says words (command.Check list)
 
 -- there was no memory to read the words: this is told, and nothing is done
 pub record LacksMemory {C B : Type 0} (status : ℕ) (cache cache' : C) (backing backing' : B) (old new : StreamFacts) : Type 0 where
@@ -53,6 +57,7 @@ Does cache_facts backing_facts (command.Format set cuuid buuid block bucket mode
     × HasFormatted cache_facts backing_facts status cache cache' backing backing' old new p
 Does cache_facts backing_facts command.Adopt status cache cache' backing backing' old new = HasAdopted cache_facts backing_facts status cache cache' backing backing' old new
 Does cache_facts backing_facts command.Show status cache cache' backing backing' old new = HasShown cache_facts backing_facts status cache cache' backing backing' old new
+Does cache_facts backing_facts (command.Check list) status cache cache' backing backing' old new = HasChecked cache_facts backing_facts status cache cache' backing backing' old new list
 Does cache_facts backing_facts (command.Serve options) status cache cache' backing backing' old new = Unit {0}
 
 -- the source tells a text that spells a trace

@@ -1,9 +1,11 @@
-//! The commands that make and show a pair.
+//! The commands that make, show and check a pair.
 ghost use Rattle.std.specs.Prelude.{◌≡◌, IsNone, string_bytes};
-ghost use Rattle.bc_top.specs.Pairs.{EndsPrinting, EndsSilently, HasAdopted, HasFormatted, HasShown, stop_of};
+ghost use Rattle.bc_top.specs.Stops.{verdict_status};
+ghost use Rattle.bc_top.specs.Pairs.{EndsChecking, EndsPrinting, EndsSilently, HasAdopted, HasChecked, HasFormatted, HasShown, stop_of};
 
 use crate::ran::Ran;
 use crate::stop::{Stop, tell};
+use bc_check::{CheckError, Told, Verdict, tell_pair};
 use bc_disk::disk::Disk;
 use bc_disk::stream::Sink;
 use bc_output::put::put_all;
@@ -48,6 +50,29 @@ fn end_printing<K: Sink>(answer: &Result<String, PairError>, out: &mut K) -> u8
             Err(_) => 8,
         },
         Err(error) => tell(&stop_of(*error), out),
+    }
+}
+
+// The status of a verdict.
+fn status_of(verdict: Verdict) -> u8
+    ensures { result ≡ verdict_status verdict }
+{
+    match verdict {
+        Verdict::PassThrough | Verdict::Sound { .. } => 0,
+        Verdict::Journal { .. } | Verdict::Age { .. } | Verdict::Agree { .. } => 5,
+    }
+}
+
+// Prints a verdict, which has its own status.
+fn end_checking<K: Sink>(answer: &Result<Told, CheckError>, out: &mut K) -> u8
+    ensures { EndsChecking answer.now result (K.facts out.old) (K.facts out.new) }
+{
+    match answer {
+        Ok(told) => match put_all(out, told.text.as_bytes()) {
+            Ok(()) => status_of(told.verdict),
+            Err(_cut) => 8,
+        },
+        Err(error) => tell(&Stop::from(*error), out),
     }
 }
 
@@ -106,6 +131,27 @@ pub fn print_pair<C: Disk, B: Disk, K: Sink>(
     let answer = show_pair(alloc, &mut cache, &mut backing);
     Ran {
         status: end_printing(&answer, out),
+        cache,
+        backing,
+        pass: None,
+    }
+}
+
+/// Prints whether a pair is sound, and of a sound one what its buckets hold, if that is asked for.
+pub fn print_check<C: Disk, B: Disk, K: Sink>(
+    alloc: Global,
+    list: bool,
+    cache: C,
+    backing: B,
+    out: &mut K,
+) -> Ran<C, B>
+    ensures checked { HasChecked C.facts B.facts result.status cache result.cache backing result.backing (K.facts out.old) (K.facts out.new) list }
+    ensures none { IsNone result.pass }
+{
+    let (mut cache, mut backing) = (cache, backing);
+    let answer = tell_pair(alloc, &mut cache, &mut backing, list);
+    Ran {
+        status: end_checking(&answer, out),
         cache,
         backing,
         pass: None,

@@ -2,8 +2,9 @@
 ghost use Rattle.std.specs.Prelude.{◌≡◌};
 ghost use Rattle.bc_output.specs.Message.{message_text};
 ghost use Rattle.bc_top.specs.Ended.{IsPutOf};
-ghost use Rattle.bc_top.specs.Stops.{message_of, status_of, stop_of};
+ghost use Rattle.bc_top.specs.Stops.{check_stop, message_of, status_of, stop_of};
 
+use bc_check::CheckError;
 use bc_disk::disk::Device;
 use bc_disk::stream::Sink;
 use bc_output::message::{Message, Origin, print_message};
@@ -83,6 +84,18 @@ impl From<OpenError> for Stop {
             OpenError::Fault(device) => Stop::Fault(device),
             OpenError::Memory => Stop::Memory,
             error => Stop::Image(error.number()),
+        }
+    }
+}
+
+impl From<CheckError> for Stop {
+    ghost from_gives = { λ error stop. stop ≡ check_stop error };
+
+    fn from(error: CheckError) -> Stop {
+        match error {
+            CheckError::Open(why) => Stop::from(why),
+            CheckError::Fault(device) => Stop::Fault(device),
+            CheckError::Memory => Stop::Memory,
         }
     }
 }

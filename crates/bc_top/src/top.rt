@@ -17,13 +17,13 @@ ghost use Rattle.bc_super.specs.Division.{IsPassThrough};
 ghost use Rattle.bc_top.specs.Opened.{IsOpened, SameImage, AsksForNone};
 ghost use Rattle.bc_top.specs.Run.{HasRun, Survives, IsStable, setup_on};
 ghost use Rattle.bc_top.specs.Stops.{IsRefusal, IsStatus, message_of, status_of};
-ghost use Rattle.bc_top.specs.Top.{AnswersPair, AreSame, Does, IsServe, LacksMemory, IsServeCause, OneHasRisen, Says, SpellsTrace, words_stop};
+ghost use Rattle.bc_top.specs.Top.{AnswersPair, AreSame, Does, IsCheck, IsServe, LacksMemory, IsServeCause, OneHasRisen, Says, SpellsTrace, words_stop};
 ghost use Rattle.bc_top.specs.declared.closing.Closing.{Closing};
 ghost use Rattle.bc_top.specs.declared.stop.Stop.{Stop};
 ghost use Rattle.bc_pair.specs.Causes.{KeepsOthers};
 ghost use Rattle.bc_words.specs.declared.command.Command.{Command};
 
-use crate::pairs::{adopt_pair, format_pair, print_pair};
+use crate::pairs::{adopt_pair, format_pair, print_check, print_pair};
 use crate::ran::Ran;
 use crate::serve::serve;
 use crate::stop::{Stop, tell};
@@ -47,7 +47,7 @@ fn stop_of(error: WordsError) -> Stop
 /// Runs a command over a cache device and a backing device. The words are those behind the two
 /// devices, as `read_words` reads them: `serve` serves a trace and prints its answers; `format` makes
 /// a new pair, and `adopt` takes one into use that another tool formatted; `show` prints what the
-/// superblocks say. Both devices come back.
+/// superblocks say, and `check` whether a pair is sound. Both devices come back.
 pub fn bcache<R: Wait, C: Disk + Drop, B: Disk + Drop, S: Source, K: Sink>(
     rt: &R,
     alloc: Global,
@@ -109,7 +109,8 @@ pub fn bcache<R: Wait, C: Disk + Drop, B: Disk + Drop, S: Source, K: Sink>(
     ensures ends { (IsServe words.now → ⊥)
         → (OneHasRisen (C.facts cache) (C.facts result.cache) (B.facts backing) (B.facts result.backing) → ⊥)
         → (HasStopped (K.facts out.old) (K.facts out.new) → ⊥)
-        → (result.status ≡ 0) ⊎ (result.status ≡ 2) ⊎ (result.status ≡ 4) ⊎ (result.status ≡ 9) }
+        → ((result.status ≡ 0) ⊎ (result.status ≡ 2) ⊎ (result.status ≡ 4) ⊎ (result.status ≡ 9))
+        ⊎ ((result.status ≡ 5) × IsCheck words.now) }
 
     // Over a device that tells what it holds the history is legal, and whatever a crash leaves shows
     // for each sector a value no older than the last acknowledged flush; at status 0, its last write.
@@ -144,6 +145,7 @@ pub fn bcache<R: Wait, C: Disk + Drop, B: Disk + Drop, S: Source, K: Sink>(
         }
         Ok(Command::Adopt) => adopt_pair(alloc, cache, backing, out),
         Ok(Command::Show) => print_pair(alloc, cache, backing, out),
+        Ok(Command::Check(list)) => print_check(alloc, list, cache, backing, out),
         Err(error) => Ran {
             status: tell(&stop_of(error), out),
             cache,

@@ -1,6 +1,5 @@
 -- The commands that words spell.
-use Rattle.std.proofs.Common.{◌≡◌, ◌≢◌, ◌∙◌, ℕ, ◌<◌, ◌^◌, List, [], ◌∷◌, get_or, refl, sym, ap, ap₂, subst, arith, codes, Option, Some, None}
-use Rattle.std.specs.Fmt.{decimal}
+use Rattle.std.proofs.Common.{◌≡◌, ◌∙◌, ℕ, ◌<◌, ◌^◌, List, get_or, refl, sym, ap, ap₂, subst, arith, codes, Bool, true, false, Option, Some, None}
 use Rattle.std.proofs.lemmas.Fmt.{decimal_injective}
 use Rattle.std.specs.Prelude.{Result, Ok, Err, IfOk}
 use Rattle.std.proofs.lemmas.Option.{same_Some}
@@ -8,9 +7,9 @@ use Rattle.clap.specs.Words.{Row, Text, first_of, subcommand_of}
 use Rattle.bc_words.specs.Program.{program}
 use Rattle.bc_words.specs.Reading.{Reads, ReadsValues}
 use Rattle.bc_words.specs.declared.error.WordsError.{WordsError}
-use Rattle.bc_words.specs.Words.{AreOptions, AreParsed, IsFormat, IsInRange, IsModeIfGiven, IsModeOr, IsNumberOr, SaysFormat, SaysOptions, SaysValues, Spells, name_of}
+use Rattle.bc_words.specs.Words.{AreOptions, IsFormat, IsInRange, IsModeIfGiven, IsModeOr, IsFlag, IsNumberOr, SaysFormat, SaysOptions, SaysValues, Spells, name_of}
 use Rattle.bc_words.specs.declared.command.Command.{Command}
-use Rattle.bc_words.specs.declared.command.Command.TheVariants.{Format, Adopt, Show, Serve}
+use Rattle.bc_words.specs.declared.command.Command.TheVariants.{Format, Adopt, Show, Check, Serve}
 use Rattle.bc_words.specs.declared.command.Options.{Options}
 use Rattle.bc_mode.specs.declared.mode.Mode.{Mode}
 use Rattle.bc_mode.specs.declared.mode.Mode.TheVariants as modes
@@ -55,9 +54,22 @@ one_mode (Some word) (Some a) (Some b) is is' = ap Some (mode_injective a b (sym
 apart : (a b : ℕ) → a ≡ 97 → b ≡ 115 → a ≡ b → ⊥
 apart a b is_a is_b same = omega arith
 
--- the two names of five letters
+-- the names of five letters
 adopt_serve : codes "adopt" ≡ codes "serve" → ⊥
 adopt_serve same = apart 97 115 refl refl (ap (λ (t : Text). get_or t 0 0) same)
+
+adopt_check : codes "adopt" ≡ codes "check" → ⊥
+adopt_check same = (let first : 97 ≡ 99 = ap (λ (t : Text). get_or t 0 0) same in absurd (omega (arith, first)))
+
+check_serve : codes "check" ≡ codes "serve" → ⊥
+check_serve same = (let first : 99 ≡ 115 = ap (λ (t : Text). get_or t 0 0) same in absurd (omega (arith, first)))
+
+one_flag : (word : Option Text) (a b : Bool) → IsFlag word a → IsFlag word b → a ≡ b
+one_flag None a b is is' = is ∙ sym is'
+one_flag (Some word) true true is is' = refl
+one_flag (Some word) true false is is' = absurd (let other = is'.1 (is.0 refl) in cc)
+one_flag (Some word) false true is is' = absurd (let other = is.1 (is'.0 refl) in cc)
+one_flag (Some word) false false is is' = refl
 
 one_uuid : (found : Option Text) (a b : Text) → found ≡ Some a → found ≡ Some b → a ≡ b
 one_uuid found a b is is' = cc
@@ -101,18 +113,27 @@ pub one_value : (rows : List Row) (a b : Command) → IsInRange a → IsInRange 
 one_value rows (Format s c u n k m o) (Format s' c' u' n' k' m' o') p q same said said' = one_format rows s c u s' c' u' n k n' k' m m' o o' p q said said'
 one_value rows (Format s c u n k m o) Adopt p q same said said' = cc
 one_value rows (Format s c u n k m o) Show p q same said said' = cc
+one_value rows (Format s c u n k m o) (Check l) p q same said said' = cc
 one_value rows (Format s c u n k m o) (Serve given) p q same said said' = cc
 one_value rows Adopt (Format s c u n k m o) p q same said said' = cc
 one_value rows Adopt Adopt p q same said said' = refl
 one_value rows Adopt Show p q same said said' = cc
+one_value rows Adopt (Check l) p q same said said' = absurd (adopt_check same)
 one_value rows Adopt (Serve o) p q same said said' = absurd (adopt_serve same)
 one_value rows Show (Format s c u n k m o) p q same said said' = cc
 one_value rows Show Adopt p q same said said' = cc
 one_value rows Show Show p q same said said' = refl
+one_value rows Show (Check l) p q same said said' = cc
 one_value rows Show (Serve o) p q same said said' = cc
+one_value rows (Check l) (Format s c u n k m o) p q same said said' = cc
+one_value rows (Check l) Adopt p q same said said' = absurd (adopt_check (sym same))
+one_value rows (Check l) Show p q same said said' = cc
+one_value rows (Check l) (Check m) p q same said said' = ap Check (one_flag (first_of (codes "list") rows) l m said said')
+one_value rows (Check l) (Serve o) p q same said said' = absurd (check_serve same)
 one_value rows (Serve given) (Format s c u n k m o) p q same said said' = cc
 one_value rows (Serve o) Adopt p q same said said' = absurd (adopt_serve (sym same))
 one_value rows (Serve o) Show p q same said said' = cc
+one_value rows (Serve o) (Check l) p q same said said' = absurd (check_serve (sym same))
 one_value rows (Serve o) (Serve o') p q same said said' = ap Serve (one_options rows o o' p q said said')
 
 -- one command at most is entered
@@ -140,4 +161,5 @@ pub no_format : (rows : List Row) → ((s c u : Text) (n k : ℕ) (m : Mode) (o 
 no_format rows none (Format s c u n k m o) range named said = none s c u n k m o range said
 no_format rows none Adopt range named said = cc
 no_format rows none Show range named said = cc
+no_format rows none (Check l) range named said = cc
 no_format rows none (Serve o) range named said = cc

@@ -1,5 +1,5 @@
 -- Lines that spell a command: options stand in any order, and a value behind a space or behind `=`.
-use Rattle.std.specs.Prelude.{ℕ, List, [], ◌∷◌, Some, None, codes, replicate, ◌++◌}
+use Rattle.std.specs.Prelude.{ℕ, List, [], ◌∷◌, Some, codes, replicate, ◌++◌}
 use Rattle.bc_words.specs.declared.command.Command.{Command}
 use Rattle.bc_words.specs.declared.command.Command.TheVariants.{Format, Serve}
 use Rattle.bc_mode.specs.declared.mode.Mode.TheVariants.{Writeback}
@@ -17,3 +17,6 @@ serve_command = Serve (record { mode = Some Writeback; cutoff = 0; slots = 1024 
 
 abbrev pub serve_words : List (List ℕ)
 serve_words = codes "serve" ∷ codes "--cutoff=0" ∷ codes "--mode" ∷ codes "writeback" ∷ []
+
+abbrev pub check_words : List (List ℕ)
+check_words = codes "check" ∷ codes "--list" ∷ []

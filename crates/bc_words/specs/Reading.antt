@@ -1,12 +1,12 @@
 -- What is read from words: the command that they spell; nothing only where they spell none, or where memory ran out.
 use Rattle.std.specs.Prelude.{◌≡◌, List, [], Option, Some, None, Result, Ok, Err}
-use Rattle.clap.specs.Words.{Row, Text, fault_of, subcommand_of}
+use Rattle.clap.specs.Words.{Row, Text, fault_of}
 use Rattle.bc_words.specs.declared.command.Command.{Command}
 use Rattle.bc_words.specs.declared.command.Options.{Options}
 use Rattle.bc_words.specs.declared.error.WordsError.{WordsError}
 use Rattle.bc_words.specs.declared.error.WordsError.TheVariants.{Usage, Memory}
 use Rattle.bc_words.specs.Program.{program}
-use Rattle.bc_words.specs.Words.{AreOptions, AreParsed, IsInRange, SaysOptions, SaysValues, Spells, name_of}
+use Rattle.bc_words.specs.Words.{AreOptions, IsInRange, SaysOptions, SaysValues, Spells, name_of}
 
 -- no command in range is spelled so
 abbrev pub SpellsNone : List Text → Type 0

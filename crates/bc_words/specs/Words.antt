@@ -1,12 +1,12 @@
 -- The words of a command line, each as the list of its bytes, and the command that they spell.
-use Rattle.std.specs.Prelude.{◌≡◌, ◌≢◌, ℕ, ◌≤◌, ◌^◌, List, [], ◌∷◌, Option, Some, None, codes, replicate, length}
+use Rattle.std.specs.Prelude.{◌≡◌, ◌↔◌, Bool, false, IsTrue, ◌≢◌, ℕ, ◌≤◌, ◌^◌, List, [], Option, Some, None, codes, replicate, length}
 use Rattle.std.specs.Int.{IsPowerOfTwo}
 use Rattle.std.specs.Fmt.{decimal}
 use Rattle.hex.specs.Hex.{encode_lower, IsBytes}
 use Rattle.clap.specs.Words.{Row, Text, fault_of, first_of, subcommand_of}
 use Rattle.bc_words.specs.Program.{program}
 use Rattle.bc_words.specs.declared.command.Command.{Command}
-use Rattle.bc_words.specs.declared.command.Command.TheVariants.{Format, Adopt, Show, Serve}
+use Rattle.bc_words.specs.declared.command.Command.TheVariants.{Format, Adopt, Show, Check, Serve}
 use Rattle.bc_words.specs.declared.command.Options.{Options}
 use Rattle.bc_mode.specs.declared.mode.Mode.{Mode}
 use Rattle.bc_mode.specs.declared.mode.Mode.TheVariants.{Writethrough}
@@ -51,16 +51,23 @@ pub record SaysOptions (rows : List Row) (options : Options) : Type 0 where
   pub cutoff : IsNumberOr 8192 (first_of (codes "cutoff") rows) options.cutoff
   pub slots : IsNumberOr 1024 (first_of (codes "slots") rows) options.slots
 
+-- a flag is given where clap has it as true
+abbrev pub IsFlag : Option Text → Bool → Type 0
+IsFlag None given = given ≡ false
+IsFlag (Some word) given = IsTrue given ↔ (word ≡ codes "true")
+
 abbrev pub name_of : Command → Text
 name_of (Format set cuuid buuid block bucket mode offset) = codes "format"
 name_of Adopt = codes "adopt"
 name_of Show = codes "show"
+name_of (Check list) = codes "check"
 name_of (Serve options) = codes "serve"
 
 abbrev pub SaysValues : List Row → Command → Type 0
 SaysValues rows (Format set cuuid buuid block bucket mode offset) = SaysFormat rows set cuuid buuid block bucket mode offset
 SaysValues rows Adopt = Unit {0}
 SaysValues rows Show = Unit {0}
+SaysValues rows (Check list) = IsFlag (first_of (codes "list") rows) list
 SaysValues rows (Serve options) = SaysOptions rows options
 
 -- the words spell the command
@@ -104,4 +111,5 @@ abbrev pub IsInRange : Command → Type 0
 IsInRange (Format set cuuid buuid block bucket mode offset) = IsFormat set cuuid buuid block bucket offset
 IsInRange Adopt = Unit {0}
 IsInRange Show = Unit {0}
+IsInRange (Check list) = Unit {0}
 IsInRange (Serve options) = AreOptions options

@@ -25,6 +25,8 @@ pub enum Command {
     Adopt,
     /// Print what the superblocks say.
     Show,
+    /// Say whether a pair is sound, and of a sound one what its buckets hold, if this is asked.
+    Check(bool),
     /// Serve the requests of a trace.
     Serve(Options),
 }

@@ -1,7 +1,7 @@
 //! What the definitions come to: each law is the contract of a function.
-ghost use Rattle.std.specs.Prelude.{◌≡◌, ℕ, List};
+ghost use Rattle.std.specs.Prelude.{◌≡◌, ℕ, true, List};
 ghost use Rattle.bc_words.specs.Words.{IsInRange, Spells};
-ghost use Rattle.bc_words.specs.Example.{format_words, format_command, serve_words, serve_command};
+ghost use Rattle.bc_words.specs.Example.{check_words, format_words, format_command, serve_words, serve_command};
 ghost use Rattle.bc_words.specs.declared.command.Command.{Command};
 
 /// Words spell one command at most.
@@ -20,4 +20,9 @@ pub fn format_example()
 pub fn serve_example()
     ensures range { IsInRange serve_command }
     ensures spelled { Spells serve_words serve_command }
+{}
+
+/// The same of a command with a flag.
+pub fn check_example()
+    ensures { Spells check_words (Command.Check true) }
 {}

@@ -2,12 +2,12 @@
 ghost use Rattle.std.specs.Prelude.{◌≡◌, [], ℕ, false, map, string_bytes, IfOk, IfErr};
 ghost use Rattle.clap.specs.Words.{app_of, rule_of, fault_of, subcommand_of, subcommand_rows_of};
 ghost use Rattle.clap.specs.declared.builder.command.Command.TheViews.{out-Command};
-ghost use Rattle.bc_words.specs.Program.{optional, required, format_app, serve_app, program};
+ghost use Rattle.bc_words.specs.Program.{optional, required, flag, check_app, format_app, serve_app, program};
 ghost use Rattle.bc_words.specs.Reading.{IsParseCause};
 
 use crate::error::WordsError;
 use clap::error::ErrorKind;
-use clap::{Arg, ArgMatches, Command};
+use clap::{Arg, ArgAction, ArgMatches, Command};
 use std::alloc::{AllocError, Global};
 
 // An option of this name with a value.
@@ -24,6 +24,14 @@ fn required<'a>(alloc: Global, name: &'a str) -> Arg<'a>
     ensures own { result.global ≡ false }
 {
     optional(alloc, name).required(true)
+}
+
+// An option of this name without a value.
+fn flag<'a>(alloc: Global, name: &'a str) -> Arg<'a>
+    ensures rule { rule_of result ≡ flag name.entry.now }
+    ensures own { result.global ≡ false }
+{
+    Arg::new(alloc, name).long(name).action(ArgAction::SetTrue)
 }
 
 fn format_parser<'a>(alloc: Global) -> Result<Command<'a>, AllocError>
@@ -50,6 +58,13 @@ fn serve_parser<'a>(alloc: Global) -> Result<Command<'a>, AllocError>
         .arg(optional(alloc, "slots"))
 }
 
+fn check_parser<'a>(alloc: Global) -> Result<Command<'a>, AllocError>
+    ensures app { IfOk result (λ c. app_of c ≡ check_app) }
+    ensures own { IfOk result (λ c. (out-Command c).has_globals ≡ false) }
+{
+    Command::new(alloc, "check").arg(flag(alloc, "list"))
+}
+
 fn parser<'a>(alloc: Global) -> Result<Command<'a>, AllocError>
     ensures app { IfOk result (λ c. app_of c ≡ program) }
 {
@@ -61,7 +76,8 @@ fn parser<'a>(alloc: Global) -> Result<Command<'a>, AllocError>
         .subcommand(format_parser(alloc)?)?
         .subcommand(Command::new(alloc, "adopt"))?
         .subcommand(Command::new(alloc, "show"))?
-        .subcommand(serve_parser(alloc)?)
+        .subcommand(serve_parser(alloc)?)?
+        .subcommand(check_parser(alloc)?)
 }
 
 /// What clap finds in the words.

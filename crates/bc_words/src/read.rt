@@ -3,7 +3,7 @@ ghost use Rattle.std.specs.Prelude.{◌≡◌, ◌≤◌, ◌<◌, ◌^◌, ℕ,
 ghost use Rattle.std.specs.Fmt.{decimal};
 ghost use Rattle.hex.specs.Hex.{encode_lower};
 ghost use Rattle.clap.specs.Words.{first_of, first_value, found_of, rows_of};
-ghost use Rattle.bc_words.specs.Words.{IsNumberOr, IsModeIfGiven, IsModeOr, IsUuid, IsSize, IsWithin, IsInRange, Spells};
+ghost use Rattle.bc_words.specs.Words.{IsFlag, IsNumberOr, IsModeIfGiven, IsModeOr, IsUuid, IsSize, IsWithin, IsInRange, Spells};
 ghost use Rattle.bc_words.specs.Reading.{IsCause, Reads, ReadsOptions, ReadsValues};
 ghost use Rattle.bc_words.specs.declared.command.Command.{Command};
 ghost use Rattle.bc_mode.specs.declared.mode.Mode.{Mode};
@@ -178,6 +178,16 @@ fn options_of(matches: &ArgMatches<'_>) -> Option<Options>
     })
 }
 
+// Whether the flag of this name is given.
+fn is_given(matches: &ArgMatches<'_>, name: &str) -> bool
+    ensures { IsFlag (first_of name.now (rows_of (found_of matches.now))) result }
+{
+    match value_of(matches, name) {
+        Some(word) => word == "true",
+        None => false,
+    }
+}
+
 // What the command of this name asks for.
 fn command_of(name: &str, matches: &ArgMatches<'_>) -> Option<Command>
     ensures { ReadsValues name.now (rows_of (found_of matches.now)) result }
@@ -186,6 +196,7 @@ fn command_of(name: &str, matches: &ArgMatches<'_>) -> Option<Command>
         "format" => format_of(matches),
         "adopt" => Some(Command::Adopt),
         "show" => Some(Command::Show),
+        "check" => Some(Command::Check(is_given(matches, "list"))),
         "serve" => Some(Command::Serve(options_of(matches)?)),
         _ => None,
     }
@@ -202,8 +213,8 @@ fn command_in(alloc: Global, words: &[String]) -> Result<Command, WordsError>
     command_of(name, values).ok_or(WordsError::Usage)
 }
 
-/// The command that the words spell: `adopt`, `show`, `format` or `serve`, and behind it options
-/// with a value each, as `--NAME VALUE` or `--NAME=VALUE`, in any order and each once at most.
+/// The command that the words spell: `adopt`, `show`, `check`, `format` or `serve`, and behind it
+/// options, `--list` of `check` alone and the others with a value each, as `--NAME VALUE` or `--NAME=VALUE`, in any order and each once at most.
 ///
 /// `format` has `--set X --cuuid X --buuid X`, and may have `--block N` (1 where it isn't given),
 /// `--bucket N` (1024), `--mode M` (writethrough) and `--offset N` (16). An X is the 32 lower-case

@@ -60,6 +60,8 @@ fn commands(rt: HostRuntime) -> Result<(), Fail> {
         ("serve --cutoff=0 --slots 1024", serve(None, 0, 1024)),
         ("serve --cutoff 0 --slots=1024", serve(None, 0, 1024)),
         ("serve --slots 1", serve(None, 8192, 1)),
+        ("check", Command::Check(false)),
+        ("check --list", Command::Check(true)),
     ] {
         assert_eq!(rt; read(alloc, text)?, Ok(command), "{text}");
     }
@@ -137,7 +139,9 @@ fn refused_words(rt: HostRuntime) -> Result<(), Fail> {
         "show -",
         "format",
         "load 1 10 1",
-        "check",
+        "check list",
+        "check --list=true",
+        "check --list --list",
         "nbd",
         "serve --help",
         "serve --mode",

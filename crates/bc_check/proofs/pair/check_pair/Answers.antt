@@ -1,37 +1,9 @@
-use Rattle.bc_image.specs.Pair.{Pair}
-use Rattle.bc_prio.proofs.Chains.{kept_all, kept_both}
-use Rattle.bc_replay.specs.Causes.{OfHeld}
-use Rattle.bc_replay.specs.Survey.{HasSurvey}
-use Rattle.bc_walk.proofs.Goes.{on_ok}
-use Rattle.bc_check.specs.Calls.{check_of}
-use Rattle.bc_check.specs.Verdict.{IsCheckCause, IsVerdict}
-use Rattle.bc_check.proofs.Checked.{passes, cause_so, verdict_so}
-use Rattle.bc_check.proofs.Pairs.{passed_on}
+use Rattle.bc_check.specs.Verdict.{IsVerdict, ListsIf}
+use Rattle.std.proofs.Common.{false}
+use Rattle.bc_check.proofs.Checked.{verdict_alone}
 use Rattle.bc_check.proofs.pair.check_pair.Goals as goal
-
-pub returns-then-branch-clause-found : goal.returns-then-branch-clause-found
-returns-then-branch-clause-found g c = passes (g.C.Disk.facts c.args.cache.now) (g.B.Disk.facts c.args.backing.now) c.in_ok-serves_alone.field-0 c.if-branch.true c.in_ok-serves_alone.ensures.found
-
-pub returns-in_err-s-clause-refused : goal.returns-in_err-s-clause-refused
-returns-in_err-s-clause-refused g c =
-    let cache = g.C.Disk.facts c.args.cache.now in
-    let backing = g.B.Disk.facts c.args.backing.now in
-    let why = c.in_err-s.field-0.0 in
-    passed_on c.from_residual-in_err-s.result (check_of why) (IsCheckCause cache backing) c.from_residual-in_err-s.ensures.1
-    (cause_so cache backing cache (g.B.Disk.facts c.serves_alone.new.backing) (record { cache_kept = kept_all cache; backing_kept = c.in_ok-serves_alone.ensures.kept }) c.in_ok-serves_alone.field-0 c.if-branch.false
-    c.in_ok-serves_alone.ensures.found why c.in_err-s.ensures.refused)
 
 pub returns-clause-found : goal.returns-clause-found
 returns-clause-found g c =
-    let cache = g.C.Disk.facts c.args.cache.now in
-    let backing = g.B.Disk.facts c.args.backing.now in
-    let mid = g.B.Disk.facts c.serves_alone.new.backing in
-    let last = g.C.Disk.facts c.survey.new.cache in
-    let left = g.B.Disk.facts c.survey.new.backing in
-    let s = c.in_ok-s.s in
-    let Has : Pair → Type 0 = λ p. HasSurvey p s.supers.backing s.supers.cache s.supers.geometry s.journal s.gens s.seen.items s.index.keys s.uses.items in
-    let first = c.in_ok-serves_alone.ensures.kept in
-    let read = c.in_ok-s.ensures in
-    on_ok c.verdict_of.result (λ v. OfHeld (λ p. Has p → IsVerdict p v) last left) (λ v. OfHeld (λ p. IsVerdict p v) cache backing)
-    (λ v says. verdict_so cache backing cache mid (record { cache_kept = kept_all cache; backing_kept = first }) last left (record { cache_kept = read.cache_kept; backing_kept = kept_both backing mid left first read.backing_kept }) Has read.found v says)
-    c.verdict_of.ensures.found
+    let r = c.in_ok-report.report in
+    verdict_alone (λ p. IsVerdict p r.verdict) (λ p. ListsIf false p r.verdict r.lines.items) (g.C.Disk.facts c.args.cache.now) (g.B.Disk.facts c.args.backing.now) c.in_ok-report.ensures.found

@@ -1,7 +1,6 @@
-use Rattle.std.proofs.Common.{ap₂, refl, ◌≡◌, ◌∙◌, codes}
+use Rattle.std.proofs.Common.{ap₂, refl, ◌∙◌}
 use Rattle.std.proofs.lemmas.Result.{IfOk-weaker}
-use Rattle.clap.specs.Words.{app_of, new_app, with_rule}
-use Rattle.bc_words.specs.Program.{required, optional}
+use Rattle.clap.specs.Words.{with_rule}
 use Rattle.bc_words.proofs.parser.format_parser.Goals as goal
 
 pub returns-clause-app : goal.returns-clause-app

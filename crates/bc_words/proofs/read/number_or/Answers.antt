@@ -1,4 +1,4 @@
-use Rattle.std.proofs.Common.{◌≡◌, arith, Bor, ℕ, List}
+use Rattle.std.proofs.Common.{◌≡◌, arith}
 use Rattle.std.specs.Prelude.{option_map}
 use Rattle.bc_words.proofs.Commands.{one_number}
 use Rattle.bc_words.proofs.read.number_or.Goals as goal
