@@ -42,3 +42,4 @@ echo "A cache device of 4 MiB and a backing device are formatted as a pair, and 
 command format --set 5e70000000000000000000000000005e --cuuid ca000000000000000000000000000ca0 \
     --buuid ba0000000000000000000000000000ba --block 1 --bucket 64
 command show
+command check --list
