@@ -1,3 +1,4 @@
 pub mod Devices
 pub mod May
 pub mod Claiming
+pub mod Ending

@@ -10,4 +10,5 @@
 
 pub mod backing;
 pub mod claims;
+pub mod run;
 pub mod said;

@@ -191,7 +191,7 @@ module _ {C B : Type 0} (cache_facts : C → DiskFacts) (backing_facts : B → D
     pub inside : b.offset + b.size ≤ x.backing.sectors
 
   abbrev pub IsPart : ℕ → CorePart C B → World → Type 0
-  IsPart k part.Absent x = (k ≢ 1) × (k ≢ 4) × (k ≢ 5)
+  IsPart k part.Absent x = (k ≢ 1) × (k ≢ 5) × (k ≡ 4 → x.opening.machine.flow.plain ≡ true)
   IsPart k (part.Flight f) x = (k ≡ 1) × IsFlight f x
   IsPart k (part.Cache c) x = (k ≡ 4) × IsCache c x
   IsPart k (part.Backing b) x = (k ≡ 5) × IsBacking b x
