@@ -7,8 +7,13 @@
 //!
 //! A plan is a value, and its nodes are in it until they are installed. Writing one changes nothing
 //! of what the plan makes of the tree.
+//!
+//! The write that makes the change is a further set of the node above the leaves, or of the root
+//! where that node moves. Where the root moves too there is none, and the journal names it instead.
 #![tactic(auto)]
 
+mod parent;
 mod write;
 
+pub use parent::write_parent;
 pub use write::{NewNode, write_node};

@@ -16,3 +16,4 @@ pub mod Counts
 pub mod Moves
 pub mod Splits
 pub mod Joins
+pub mod Appends

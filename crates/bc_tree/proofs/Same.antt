@@ -30,6 +30,18 @@ same_set (m ∷ nodes) (suc i) node next there same = (same_node m, same_set nod
 pub shape_of : (a b : Inner) → SameNode a b → SameShape a b
 shape_of a b same = record { level = same.node.level; from = same.node.from; end = same.node.end; ptr = same.node.ptr; children_are = same.children_are }
 
+pub same_shape : (a : Inner) → SameShape a a
+same_shape a = record { level = refl; from = refl; end = refl; ptr = refl; children_are = refl }
+
+pub same_shapes : (xs : List Inner) → SameShapes xs xs
+same_shapes [] = tt
+same_shapes (x ∷ xs) = (same_shape x, same_shapes xs)
+
+pub shape_set : (nodes : List Inner) (i : ℕ) (node next : Inner) → slice_get nodes i ≡ Some node → SameShape node next → SameShapes nodes (set nodes i next)
+shape_set [] i node next there same = absurd (cc)
+shape_set (m ∷ nodes) zero node next there same = let is : node ≡ m = cc in (subst (λ (n : Inner). SameShape n next) is same, same_shapes nodes)
+shape_set (m ∷ nodes) (suc i) node next there same = (same_shape m, shape_set nodes i node next there same)
+
 pub shapes_of : (xs ys : List Inner) → SameNodes xs ys → SameShapes xs ys
 shapes_of [] [] same = tt
 shapes_of [] (y ∷ ys) same = absurd same

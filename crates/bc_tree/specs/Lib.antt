@@ -5,5 +5,6 @@ pub mod Needs
 pub mod Change
 pub mod Next
 pub mod Same
+pub mod Append
 pub mod Plan
 pub mod Laws

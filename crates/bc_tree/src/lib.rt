@@ -14,6 +14,7 @@
 #![tactic(auto)]
 
 mod above;
+mod append;
 mod build;
 mod change;
 mod children;
