@@ -104,6 +104,7 @@ adopted() {
     command_is 0 "$(shown 3 "$journal" 1 "$offset" "$version" "$mode" clean)" show
     command_is 4 'superblock cache 18' adopt
     command_is 5 unserved serve
+    command_is 0 'check sound dirty 0 clean 0' check
     expect 'the backing device but for its superblock, at the end' "$(others)" "$before"
 }
 
@@ -130,6 +131,7 @@ formatted() {
     expect 'the data' "$(field backing.img dev.data.first_sector)" "$offset"
     expect 'the mode and the state' "$(field backing.img dev.data.cache_mode) $(field backing.img dev.data.cache_state)" "$number 1"
     command_is 0 "$(shown 3 "$4" 1 "$offset" "$version" "$mode" clean)" show
+    command_is 0 'check sound dirty 0 clean 0' check
 }
 
 adopted 'small'                 8192   4112 8  32k   512 writethrough 16
