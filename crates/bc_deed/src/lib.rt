@@ -10,5 +10,6 @@
 
 pub mod backing;
 pub mod claims;
+pub mod flush;
 pub mod run;
 pub mod said;
