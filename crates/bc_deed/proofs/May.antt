@@ -2,6 +2,7 @@
 use Rattle.std.proofs.Common.{◌≡◌, ◌⊎◌, inl, inr, ℕ, ◌+◌, ◌<◌, ◌≤◌, Bool, true, false, List, [], ◌∷◌, length, Option, Some, None, refl, sym, ap, ◌∙◌, subst, arith}
 use Rattle.std.specs.Prelude.{◌&&◌, ◌||◌, ◌==◌, fold, Result, Ok, Err, IfOk, IfErr}
 use Rattle.std.proofs.lemmas.Bool.{lt-ltb}
+use Rattle.std.proofs.lemmas.List.{append-nil}
 use Rattle.bc_model.specs.Sector.{Value, Gives, at_run}
 use Rattle.bc_model.proofs.Runs.{at_range}
 use Rattle.bc_disk.specs.Disk.{DiskFacts}
@@ -101,6 +102,12 @@ module _ {C B : Type 0} (cache_facts : C → DiskFacts) (backing_facts : B → D
   pub plain_at : (v : View cache_facts backing_facts) (d : Deed) (x : World)
       → AtDeed cache_facts backing_facts v d x → x.opening.machine.flow.plain ≡ true
   plain_at v d x at = ap (λ (o : Opening). o.machine.flow.plain) (opening_at v d x at)
+
+  -- a run over the backing device alone stays one
+  pub plain_seen : (v : View cache_facts backing_facts)
+      → (world cache_facts backing_facts v).opening.machine.flow.plain ≡ true
+  plain_seen v = ap (λ (o : Opening). o.machine.flow.plain)
+      (opening_after v.seen (opening cache_facts backing_facts v.run.start))
 
   line_at : (v : View cache_facts backing_facts) (d : Deed) (x : World) (of : Line)
       → AtDeed cache_facts backing_facts v d x → worker_of v.first ≡ of.worker
@@ -342,6 +349,7 @@ module _ {C B : Type 0} (cache_facts : C → DiskFacts) (backing_facts : B → D
       promises = refl;
       own = refl;
       since = record { others = []; is = refl; follow = tt; foreign = λ k d lt. absurd (omega (arith, lt)) };
+      grown = record { more = []; seen = sym (append-nil v.seen); rest = λ n low high. refl };
       told = λ none. none;
     };
     seat = seat;

@@ -17,18 +17,18 @@ use Rattle.bc_hand.proofs.Knowing.{View, m, note_committed}
 use Rattle.bc_deed.specs.Asked.{HasFailed, IsHalted}
 use Rattle.bc_deed.specs.Flushed.{HasDone, HasStopped}
 
-abbrev one_of : Option Deed → List Deed
+abbrev pub one_of : Option Deed → List Deed
 one_of None = []
 one_of (Some d) = d ∷ []
 
 module _ {C B : Type 0} (cache_facts : C → DiskFacts) (backing_facts : B → DiskFacts) where
   -- what a step did is a way
-  done_one : (o : Option Deed) (v w : View cache_facts backing_facts) → Did cache_facts backing_facts o v w
+  pub done_one : (o : Option Deed) (v w : View cache_facts backing_facts) → Did cache_facts backing_facts o v w
       → HasDone cache_facts backing_facts (one_of o) v w
   done_one None v w h = waited (m cache_facts backing_facts) v w h.is
   done_one (Some d) v w h = committed (m cache_facts backing_facts) v (by v.first d) w h.is
 
-  same_first : (v w : View cache_facts backing_facts) (ds : List Deed) → HasDone cache_facts backing_facts ds v w
+  pub same_first : (v w : View cache_facts backing_facts) (ds : List Deed) → HasDone cache_facts backing_facts ds v w
       → w.first ≡ v.first
   same_first v w ds h = h.same.first
 
@@ -36,7 +36,7 @@ module _ {C B : Type 0} (cache_facts : C → DiskFacts) (backing_facts : B → D
   map_both i [] ys = refl
   map_both i (x ∷ xs) ys = ap (λ l. by i x ∷ l) (map_both i xs ys)
 
-  done_both : (xs ys : List Deed) (u v w : View cache_facts backing_facts)
+  pub done_both : (xs ys : List Deed) (u v w : View cache_facts backing_facts)
       → HasDone cache_facts backing_facts xs u v → HasDone cache_facts backing_facts ys v w
       → HasDone cache_facts backing_facts (xs ++ ys) u w
   done_both xs ys u v w a b = subst (λ (l : List Event). Went (m cache_facts backing_facts) u l w)

@@ -1,12 +1,14 @@
 -- A run over the backing device alone, as it begins.
-use Rattle.std.specs.Prelude.{◌≡◌, ℕ, List, [], ◌∷◌, None}
+use Rattle.std.specs.Prelude.{◌≡◌, ℕ, ◌<◌, ◌≤◌, List, [], ◌∷◌, ◌++◌}
 use Rattle.bc_disk.specs.Disk.{DiskFacts}
 use Rattle.bc_flight.specs.Flight.{InFlight}
+use Rattle.bc_parts.specs.Machine.{events_by}
 use Rattle.bc_parts.specs.Seat.{PartsView}
+use Rattle.bc_events.specs.declared.event.Event.{Event}
 use Rattle.bc_machine.specs.declared.part.BackingPart.{BackingPart}
 use Rattle.bc_machine.specs.declared.part.CorePart.{CorePart}
 use Rattle.bc_machine.specs.declared.part.CorePart.TheVariants as part
-use Rattle.bc_hand.specs.Seats.{View, Works}
+use Rattle.bc_hand.specs.Seats.{View, Works, core, empty}
 
 -- how many parts it has
 abbrev pub part_count : ℕ
@@ -31,5 +33,16 @@ pub record HasBegun {C B : Type 0} (cache_facts : C → DiskFacts) (backing_fact
   pub end : seat.end ≡ 320
   pub seen : seat.seen ≡ []
   pub promises : seat.promises ≡ 0
-  pub works : Works cache_facts backing_facts parts seat
-      (record { flight = None; cache = None; backing = None })
+  pub works : Works cache_facts backing_facts parts seat empty
+
+-- a seat w that was v has the numbers of o too, and has seen what both had, each of them all of its own
+pub record HasJoined {C B : Type 0} (cache_facts : C → DiskFacts) (backing_facts : B → DiskFacts)
+    (v o w : View cache_facts backing_facts) : Type 0 where
+  pub run : w.run ≡ v.run
+  pub first : w.first ≡ v.first
+  pub end : w.end ≡ o.end
+  pub seen : (more : List Event) × (w.seen ≡ o.seen ++ more)
+  pub own : (n : ℕ) → v.first ≤ n → n < v.end
+      → events_by (core cache_facts backing_facts) n w.seen ≡ events_by (core cache_facts backing_facts) n v.seen
+  pub others : (n : ℕ) → o.first ≤ n → n < o.end
+      → events_by (core cache_facts backing_facts) n w.seen ≡ events_by (core cache_facts backing_facts) n o.seen

@@ -1,7 +1,7 @@
 //! The flush of a line, as the steps that it takes.
 ghost use Rattle.std.specs.Prelude.{◌≡◌, ◌≤◌, OnOk, IfErr};
 ghost use Rattle.bc_machine.specs.Plain.{worker_of};
-ghost use Rattle.bc_hand.specs.Seats.{Works, kinds};
+ghost use Rattle.bc_hand.specs.Seats.{Works, kinds, note};
 ghost use Rattle.bc_deed.specs.Flushed.{HasFlushed, HasStopped};
 
 use crate::backing::backing_barrier;
@@ -27,12 +27,17 @@ pub fn flush<C: Disk + Drop, B: Disk + Drop, R: Wait>(
     requires line { worker_of seat.old.first ≡ of.worker }
     ensures works { Works C.facts B.facts parts.now seat.new hand.new }
     ensures hand { kinds hand.new ≡ kinds hand.old }
+    ensures claim { (note C.facts B.facts seat.new).range ≡ (note C.facts B.facts seat.old).range }
     ensures ok { OnOk result (HasFlushed C.facts B.facts of seat.old seat.new) }
     ensures err { IfErr result (λ error. HasStopped C.facts B.facts error of seat.old seat.new) }
 {
-    flush_from(rt, parts, seat, hand, of)?;
-    match backing_barrier(rt, parts, seat, hand) {
-        Ok(()) => flush_done(rt, parts, seat, hand, of),
-        Err(error) => Err(error),
+    match flush_from(rt, parts, seat, hand, of) {
+        Ok(()) => {}
+        Err(error) => return Err(error),
     }
+    match backing_barrier(rt, parts, seat, hand) {
+        Ok(()) => {}
+        Err(error) => return Err(error),
+    }
+    flush_done(rt, parts, seat, hand, of)
 }

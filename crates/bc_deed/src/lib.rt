@@ -11,5 +11,6 @@
 pub mod backing;
 pub mod claims;
 pub mod flush;
+pub mod promise;
 pub mod run;
 pub mod said;

@@ -6,8 +6,8 @@ ghost use Rattle.bc_parts.specs.Machine.{IsRun};
 ghost use Rattle.bc_book.specs.Pass.{events_in};
 ghost use Rattle.bc_events.specs.Columns.{entries_of};
 ghost use Rattle.bc_machine.specs.World.{IsBacking, opening};
-ghost use Rattle.bc_hand.specs.Seats.{core, world};
-ghost use Rattle.bc_deed.specs.Begun.{HasBegun, HasBacking, part_count};
+ghost use Rattle.bc_hand.specs.Seats.{core, world, Works, empty};
+ghost use Rattle.bc_deed.specs.Begun.{HasBegun, HasBacking, HasJoined, part_count};
 
 use bc_book::book::Book;
 use bc_book::pass::Pass;
@@ -68,6 +68,38 @@ pub fn begin<C: Disk + Drop, B: Disk + Drop>(
         Ok(run) => Ok(run),
         Err(NotMade { parts, book: _ }) => Err(backing_in(parts)),
     }
+}
+
+/// Gives the seat's numbers from `at` on to a new seat, before anything has happened.
+pub fn split<C: Disk, B: Disk>(
+    parts: &CoreParts<C, B>,
+    seat: &mut CoreSeat<C, B>,
+    at: u32,
+) -> CoreSeat<C, B>
+    requires works { Works C.facts B.facts parts.now seat.old empty }
+    requires begins { seat.old.seen ≡ [] }
+    requires at { (seat.old.first < at) × (at < seat.old.end) }
+    ensures kept { seat.new ≡ record seat.old { end = at } }
+    ensures new { result ≡ record seat.old { first = at; parts = []; promises = 0 } }
+    ensures works { Works C.facts B.facts parts.now seat.new empty }
+    ensures other { Works C.facts B.facts parts.now result empty }
+{
+    parts.split(seat, at)
+}
+
+/// Takes in another seat, whose numbers are the next ones and which holds nothing.
+pub fn join<C: Disk, B: Disk>(
+    parts: &CoreParts<C, B>,
+    seat: &mut CoreSeat<C, B>,
+    other: CoreSeat<C, B>,
+)
+    requires works { Works C.facts B.facts parts.now seat.old empty }
+    requires other { Works C.facts B.facts parts.now other empty }
+    requires next { other.first ≡ seat.old.end }
+    ensures works { Works C.facts B.facts parts.now seat.new empty }
+    ensures joined { HasJoined C.facts B.facts seat.old other seat.new }
+{
+    parts.join(seat, other);
 }
 
 /// Ends a run of which the seat has every number, so that no other seat is left. It takes no memory.

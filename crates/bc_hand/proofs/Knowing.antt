@@ -171,7 +171,7 @@ module _ {C B : Type 0} (cache_facts : C → DiskFacts) (backing_facts : B → D
   knew v x live since = still m v x (Knew v)
       (λ y e may other h. knew_event v y e (other.0 v.first (omega arith) live) h) since (knew_same v)
 
-  bare_since : (v : View) (x : World) → IsBareRun (world cache_facts backing_facts v) → Since m v x
+  pub bare_since : (v : View) (x : World) → IsBareRun (world cache_facts backing_facts v) → Since m v x
       → IsBareRun x
   bare_since v x h since = lasts m v x IsBareRun (λ y e may is. bare_event y e may is) since h
 

@@ -35,6 +35,10 @@ with_part k (Some p) ks = k ∷ ks
 abbrev pub numbers : {C B : Type 0} → Hand C B → List ℕ
 numbers h = with_part 5 h.backing (with_part 4 h.cache (with_part 1 h.flight []))
 
+-- nothing in hand
+abbrev pub empty : {C B : Type 0} → Hand C B
+empty = record { flight = None; cache = None; backing = None }
+
 -- which parts are in hand
 pub record Kinds : Type 0 where
   pub flight : Bool

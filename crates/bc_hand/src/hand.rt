@@ -3,7 +3,7 @@
 ghost use Rattle.std.specs.Prelude.{◌≡◌, ◌<◌, ℕ, length, is_none, None, Some, if◌then◌else◌};
 ghost use Rattle.bc_parts.specs.Seat.{Holds};
 ghost use Rattle.bc_seats.specs.Seats.{Waited};
-ghost use Rattle.bc_hand.specs.Seats.{core, Works};
+ghost use Rattle.bc_hand.specs.Seats.{core, Works, empty};
 
 use bc_disk::disk::Disk;
 use bc_flight::flight::Flight;
@@ -23,7 +23,7 @@ pub struct Hand<C, B> {
 impl<C: Disk + Drop, B: Disk + Drop> Hand<C, B> {
     /// A hand without parts.
     pub fn empty() -> Hand<C, B>
-        ensures { result ≡ record { flight = None; cache = None; backing = None } }
+        ensures { result ≡ empty }
     {
         Hand {
             flight: None,

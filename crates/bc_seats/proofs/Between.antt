@@ -7,7 +7,7 @@ use Rattle.bc_parts.specs.declared.machine.Machine.{Ghosts}
 use Rattle.bc_parts.specs.Seat.{SeatView, Run, Holds}
 use Rattle.bc_parts.specs.Machine.{state_after, IsRun, events_by}
 use Rattle.bc_seats.specs.Seats.{state_seen, Same, Since, Foreign, Waited, Committed}
-use Rattle.bc_seats.proofs.Knowing.{run_on}
+use Rattle.bc_seats.proofs.Knowing.{run_on, grown_both, grown_given}
 
 module _ {Z P E B T : Type 0} (m : Ghosts Z P E B T) where
   -- who holds more sees less happen
@@ -41,6 +41,7 @@ module _ {Z P E B T : Type 0} (m : Ghosts Z P E B T) where
     promises = b.promises ∙ a.promises;
     own = b.own ∙ a.own;
     since = since_both u v (state_seen m w) a.same still a.since b.since;
+    grown = grown_both m u v w a.same.first a.same.end a.grown b.grown;
     told = λ none. a.told (b.told none);
   }
 
@@ -55,6 +56,7 @@ module _ {Z P E B T : Type 0} (m : Ghosts Z P E B T) where
     since = since_both u v b.before a.same still a.since b.since;
     may = b.may;
     state = b.state;
+    grown = grown_both m u v w a.same.first a.same.end a.grown b.grown;
     told = b.told;
   }
 
@@ -75,6 +77,7 @@ module _ {Z P E B T : Type 0} (m : Ghosts Z P E B T) where
     promises = promises ∙ a.promises;
     own = own_alike w x same seen ∙ a.own;
     since = subst (Since m v) (sym (seen_alike w x same seen)) a.since;
+    grown = grown_given m v w x seen a.grown;
     told = λ none. a.told (sym told ∙ none);
   }
 
@@ -88,5 +91,6 @@ module _ {Z P E B T : Type 0} (m : Ghosts Z P E B T) where
     since = a.since;
     may = a.may;
     state = seen_alike w x same seen ∙ a.state;
+    grown = grown_given m v w x seen a.grown;
     told = told ∙ a.told ∙ ap (λ l. m.stop l) (sym seen);
   }

@@ -9,7 +9,7 @@ use Rattle.bc_parts.specs.Seat.{SeatView, Run, Holds, without}
 use Rattle.bc_parts.specs.Machine.{state_after, IsRun, events_by}
 use Rattle.bc_parts.specs.Later.{Grows, SeesLater, AtCommit, AddsOwn}
 use Rattle.bc_parts.proofs.Interference.{Frame, state_after-push}
-use Rattle.bc_seats.specs.Seats.{state_seen, own_events, IsSeat, Steady, Lasting, Foreign, Since, Waited, Committed, Kept, Went}
+use Rattle.bc_seats.specs.Seats.{state_seen, own_events, IsSeat, Steady, Lasting, Foreign, Since, Grown, Waited, Committed, Kept, Went}
 use Rattle.bc_seats.specs.Laws.{LawHeld, LawWaited, LawCommitted, LawBoth}
 
 module _ {Z P E B T : Type 0} (m : Ghosts Z P E B T) where
@@ -86,6 +86,44 @@ module _ {Z P E B T : Type 0} (m : Ghosts Z P E B T) where
       (ap (λ (r : Run P). state_after m r.start w.seen) (sym run))
       (since_grows v w.seen sees.grows sees.run)
 
+  grown_later : (v w : SeatView P E T) → SeesLater m v w.seen → Grown m v w
+  grown_later v w sees = record {
+    more = sees.grows.others;
+    seen = sees.grows.behind;
+    rest = λ n low high. sees.own n (omega arith) high;
+  }
+
+  pub grown_both : (u v w : SeatView P E T) → v.first ≡ u.first → v.end ≡ u.end → Grown m u v
+      → Grown m v w → Grown m u w
+  grown_both u v w first_is end_is a b = record {
+    more = a.more ++ b.more;
+    seen = b.seen ∙ ap (λ l. l ++ b.more) a.seen ∙ sym (joined u.seen a.more b.more);
+    rest = λ n low high. b.rest n (omega arith) (omega arith) ∙ a.rest n low high;
+  }
+
+  -- who has seen the same since
+  pub grown_given : (v w x : SeatView P E T) → x.seen ≡ w.seen → Grown m v w → Grown m v x
+  grown_given v w x seen a = record {
+    more = a.more;
+    seen = seen ∙ a.seen;
+    rest = λ n low high. ap (λ l. events_by m n l) seen ∙ a.rest n low high;
+  }
+
+  grown_not : (v w : SeatView P E T) → w.seen ≡ v.seen → Grown m v w
+  grown_not v w seen = record {
+    more = [];
+    seen = seen ∙ sym (append-nil v.seen);
+    rest = λ n low high. ap (λ l. events_by m n l) seen;
+  }
+
+  grown_commit : (v w : SeatView P E T) (e : E) (es : List E) → AtCommit m v e es
+      → w.seen ≡ es ++ e ∷ [] → AddsOwn m v e w.seen → Grown m v w
+  grown_commit v w e es at is own = record {
+    more = at.grows.others ++ e ∷ [];
+    seen = is ∙ ap (λ l. l ++ e ∷ []) at.grows.behind ∙ sym (joined v.seen at.grows.others (e ∷ []));
+    rest = λ n low high. own.others n (omega arith, high) (λ is. omega (arith, is));
+  }
+
   pub waited_later : (v w : SeatView P E T) → IsSeat m v → SeesLater m v w.seen → w.run ≡ v.run
       → w.first ≡ v.first → w.end ≡ v.end → w.promises ≡ v.promises
       → (w.told ≡ None → v.told ≡ None) → Waited m v w
@@ -94,6 +132,7 @@ module _ {Z P E B T : Type 0} (m : Ghosts Z P E B T) where
     promises = promises;
     own = ap (λ n. events_by m n w.seen) first_is ∙ sees.own v.first (omega arith) live;
     since = since_later v w sees run;
+    grown = grown_later v w sees;
     told = told;
   }
 
@@ -111,6 +150,7 @@ module _ {Z P E B T : Type 0} (m : Ghosts Z P E B T) where
       follow = tt;
       foreign = λ k d low. absurd (omega (arith, low));
     };
+    grown = grown_not v w seen;
     told = λ none. sym told ∙ none;
   }
 
@@ -134,6 +174,7 @@ module _ {Z P E B T : Type 0} (m : Ghosts Z P E B T) where
         may = may;
         state = ap (λ (x : SeatView P E T). state_seen m x) is
             ∙ state_after-push m v.run.start es e;
+        grown = grown_commit v w e es at (ap (λ (x : SeatView P E T). x.seen) is) own;
         told = ap (λ (x : SeatView P E T). x.told) is ∙ stop
             ∙ ap (λ l. m.stop l) (sym (ap (λ (x : SeatView P E T). x.seen) is));
       }
@@ -161,13 +202,14 @@ module _ {Z P E B T : Type 0} (m : Ghosts Z P E B T) where
   -- ---- ways
 
   pub went_since : (v w : SeatView P E T) → w.run ≡ v.run → w.first ≡ v.first → w.end ≡ v.end
-      → own_events m w ≡ own_events m v → Since m v (state_seen m w) → Went m v [] w
-  went_since v w run first_is end_is own since = record {
+      → own_events m w ≡ own_events m v → Since m v (state_seen m w) → Grown m v w → Went m v [] w
+  went_since v w run first_is end_is own since grown = record {
     same = record { run = run; first = first_is; end = end_is };
     own = own ∙ sym (append-nil (own_events m v));
     all = since.others;
     is = since.is;
     follow = since.follow;
+    grown = grown;
   }
 
   pub went_later : (v w : SeatView P E T) → IsSeat m v → SeesLater m v w.seen → w.run ≡ v.run
@@ -175,10 +217,10 @@ module _ {Z P E B T : Type 0} (m : Ghosts Z P E B T) where
   went_later v w seat sees run first_is end_is = let live = seat.live in
       went_since v w run first_is end_is
       (ap (λ n. events_by m n w.seen) first_is ∙ sees.own v.first (omega arith) live)
-      (since_later v w sees run)
+      (since_later v w sees run) (grown_later v w sees)
 
   pub waited : LawWaited m
-  waited v w h = went_since v w h.same.run h.same.first h.same.end h.own h.since
+  waited v w h = went_since v w h.same.run h.same.first h.same.end h.own h.since h.grown
 
   pub committed : LawCommitted m
   committed v e w h = record {
@@ -189,6 +231,7 @@ module _ {Z P E B T : Type 0} (m : Ghosts Z P E B T) where
         ∙ sym (fold-append m.after (state_seen m v) h.since.others (e ∷ []));
     follow = run_on h.since.others (e ∷ []) (state_seen m v) h.since.follow
         (subst (λ x. m.enabled x e) h.since.is h.may, tt);
+    grown = h.grown;
   }
 
   pub both : LawBoth m
@@ -204,4 +247,5 @@ module _ {Z P E B T : Type 0} (m : Ghosts Z P E B T) where
         ∙ sym (fold-append m.after (state_seen m u) a.all b.all);
     follow = run_on a.all b.all (state_seen m u) a.follow
         (subst (λ x. IsRun m x b.all) a.is b.follow);
+    grown = grown_both u v w a.same.first a.same.end a.grown b.grown;
   }

@@ -41,6 +41,12 @@ module _ {Z P E B T : Type 0} (m : Ghosts Z P E B T) where
 
   -- ---- what a seat has done
 
+  -- the list that it has seen went on, and of its numbers but the first by nothing
+  pub record Grown (v w : SeatView P E T) : Type 0 where
+    pub more : List E
+    pub seen : w.seen ≡ v.seen ++ more
+    pub rest : (n : ℕ) → v.first < n → n < v.end → events_by m n w.seen ≡ events_by m n v.seen
+
   -- the same seat of the same run
   pub record Same (v w : SeatView P E T) : Type 0 where
     pub run : w.run ≡ v.run
@@ -53,6 +59,7 @@ module _ {Z P E B T : Type 0} (m : Ghosts Z P E B T) where
     pub promises : w.promises ≡ v.promises
     pub own : own_events w ≡ own_events v
     pub since : Since v (state_seen w)
+    pub grown : Grown v w
     -- it forgot no stop that it was told of
     pub told : w.told ≡ None → v.told ≡ None
 
@@ -65,6 +72,7 @@ module _ {Z P E B T : Type 0} (m : Ghosts Z P E B T) where
     pub since : Since v before
     pub may : m.enabled before e
     pub state : state_seen w ≡ m.after before e
+    pub grown : Grown v w
     -- it was told of the stop that the events have made then
     pub told : w.told ≡ m.stop w.seen
 
@@ -83,3 +91,4 @@ module _ {Z P E B T : Type 0} (m : Ghosts Z P E B T) where
     pub all : List E
     pub is : state_seen w ≡ fold m.after (state_seen v) all
     pub follow : IsRun m (state_seen v) all
+    pub grown : Grown v w

@@ -5,8 +5,14 @@ use Rattle.bc_disk.specs.declared.disk.Device.TheVariants as device
 use Rattle.bc_hand.proofs.Knowing.{map_ok}
 use Rattle.bc_hand.proofs.Lending.{works_backing}
 use Rattle.bc_hand.proofs.Between.{did_between}
-use Rattle.bc_deed.proofs.May.{map_if_err, failed_between}
+use Rattle.bc_deed.proofs.May.{did_nothing, map_if_err, failed_between}
 use Rattle.bc_deed.proofs.backing.backing_barrier.Goals as goal
+
+pub returns-in-Some-clause-err : goal.returns-in-Some-clause-err
+returns-in-Some-clause-err g c = (
+  c.in-Some.ensures.stopped c.in-Some.device refl,
+  did_nothing g.C.Disk.facts g.B.Disk.facts c.args.seat.now c.requires.works.seat,
+)
 
 pub return_backing-requires : goal.return_backing-requires
 return_backing-requires g c = works_backing g.C.Disk.facts g.B.Disk.facts c.args.parts.now

@@ -9,8 +9,22 @@ use Rattle.bc_hand.proofs.Knowing.{map_ok}
 use Rattle.bc_hand.proofs.Lending.{works_backing}
 use Rattle.bc_hand.proofs.Between.{did_between}
 use Rattle.bc_deed.specs.Asked.{HasFailedOr, MayWrite, size_of}
-use Rattle.bc_deed.proofs.May.{map_if_err, failed_or_between, size_waited, may_write_waited}
+use Rattle.bc_deed.proofs.May.{did_nothing, map_if_err, failed_or_between, size_waited, may_write_waited}
 use Rattle.bc_deed.proofs.backing.backing_write.Goals as goal
+
+pub returns-in-Some-clause-err : goal.returns-in-Some-clause-err
+returns-in-Some-clause-err g c = (
+  c.in-Some.ensures.stopped c.in-Some.device refl,
+  did_nothing g.C.Disk.facts g.B.Disk.facts c.args.seat.now c.requires.works.seat,
+)
+
+pub returns-in_default-copy-clause-err : goal.returns-in_default-copy-clause-err
+returns-in_default-copy-clause-err g c = did_nothing g.C.Disk.facts g.B.Disk.facts
+    c.args.seat.now c.requires.works.seat
+
+pub returns-in_default-bytes_of-clause-err : goal.returns-in_default-bytes_of-clause-err
+returns-in_default-bytes_of-clause-err g c = did_nothing g.C.Disk.facts g.B.Disk.facts
+    c.args.seat.now c.requires.works.seat
 
 pub write_in-done-requires-clause-inside : goal.write_in-done-requires-clause-inside
 write_in-done-requires-clause-inside g c =

@@ -1,9 +1,15 @@
 use Rattle.std.proofs.Common.{refl, ap, ◌∙◌}
 use Rattle.bc_hand.proofs.Knowing.{note_waited}
 use Rattle.bc_hand.proofs.Lending.{works_flight}
-use Rattle.bc_deed.proofs.May.{map_if_ok, map_if_err}
+use Rattle.bc_deed.proofs.May.{did_nothing, map_if_ok, map_if_err}
 use Rattle.bc_deed.proofs.Claiming.{claimed_between, halted_between}
 use Rattle.bc_deed.proofs.claims.claim.Goals as goal
+
+pub returns-in-Some-clause-err : goal.returns-in-Some-clause-err
+returns-in-Some-clause-err g c = (
+  c.in-Some.ensures.stopped c.in-Some.device refl,
+  did_nothing g.C.Disk.facts g.B.Disk.facts c.args.seat.now c.requires.works.seat,
+)
 
 pub claim_in-done-requires-clause-none : goal.claim_in-done-requires-clause-none
 claim_in-done-requires-clause-none g c = ap (λ r. r.count)

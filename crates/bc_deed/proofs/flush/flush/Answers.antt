@@ -1,34 +1,62 @@
-use Rattle.std.proofs.Common.{◌∙◌}
-use Rattle.bc_hand.proofs.Knowing.{map_ok}
-use Rattle.bc_deed.proofs.Sequence.{begun_going, barrier_firm, stopped_barrier, stopped_end, flushed}
+use Rattle.std.proofs.Common.{refl, ◌∙◌}
+use Rattle.bc_disk.specs.declared.disk.Device.TheVariants.{Backing}
+use Rattle.bc_events.specs.declared.event.Deed.TheVariants as deed
+use Rattle.bc_events.specs.declared.event.Failure.TheVariants as failure
+use Rattle.bc_hand.proofs.Knowing.{map_ok, note_committed}
+use Rattle.bc_deed.proofs.Noting.{still_claimed, range_stopped, range_either}
+use Rattle.bc_deed.proofs.Sequence.{begun_going, barrier_firm, stopped_first, stopped_barrier, stopped_end, flushed}
 use Rattle.bc_deed.proofs.flush.flush.Goals as goal
+
+pub returns-in-Err-clause-claim : goal.returns-in-Err-clause-claim
+returns-in-Err-clause-claim g c = still_claimed g.C.Disk.facts g.B.Disk.facts c.args.seat.now
+    c.flush_from.new.seat c.requires.works.seat c.in-Err.ensures.err
+
+pub returns-in-Err-clause-err : goal.returns-in-Err-clause-err
+returns-in-Err-clause-err g c = stopped_first g.C.Disk.facts g.B.Disk.facts c.in-Err.error c.args.of
+    c.args.seat.now c.flush_from.new.seat c.in-Err.ensures.cause c.in-Err.ensures.err
 
 pub flush_done-requires-clause-going : goal.flush_done-requires-clause-going
 flush_done-requires-clause-going g c =
     (barrier_firm g.C.Disk.facts g.B.Disk.facts c.flush_from.new.seat c.backing_barrier.new.seat
-    c.in_ok-flush_from.ensures.ok.seat c.in-Ok.ensures.ok).0
+    c.in-Ok.ensures.ok.seat c.in-Ok-backing_barrier.ensures.ok).0
     ∙ (begun_going g.C.Disk.facts g.B.Disk.facts c.args.seat.now c.flush_from.new.seat c.args.of
-    c.requires.works.seat c.in_ok-flush_from.ensures.ok).0
+    c.requires.works.seat c.in-Ok.ensures.ok).0
 
 pub flush_done-requires-clause-its : goal.flush_done-requires-clause-its
 flush_done-requires-clause-its g c =
     (barrier_firm g.C.Disk.facts g.B.Disk.facts c.flush_from.new.seat c.backing_barrier.new.seat
-    c.in_ok-flush_from.ensures.ok.seat c.in-Ok.ensures.ok).1
+    c.in-Ok.ensures.ok.seat c.in-Ok-backing_barrier.ensures.ok).1
     ∙ (begun_going g.C.Disk.facts g.B.Disk.facts c.args.seat.now c.flush_from.new.seat c.args.of
-    c.requires.works.seat c.in_ok-flush_from.ensures.ok).1
+    c.requires.works.seat c.in-Ok.ensures.ok).1
 
-pub returns-in-Ok-clause-ok : goal.returns-in-Ok-clause-ok
-returns-in-Ok-clause-ok g c = map_ok c.flush_done.result
+pub returns-clause-ok : goal.returns-clause-ok
+returns-clause-ok g c = map_ok c.flush_done.result
     (flushed g.C.Disk.facts g.B.Disk.facts c.args.of c.args.seat.now c.flush_from.new.seat
-    c.backing_barrier.new.seat c.flush_done.new.seat c.in_ok-flush_from.ensures.ok c.in-Ok.ensures.ok)
+    c.backing_barrier.new.seat c.flush_done.new.seat c.in-Ok.ensures.ok c.in-Ok-backing_barrier.ensures.ok)
     c.flush_done.ensures.ok
 
-pub returns-in-Ok-clause-err : goal.returns-in-Ok-clause-err
-returns-in-Ok-clause-err g c = stopped_end g.C.Disk.facts g.B.Disk.facts c.flush_done.result c.args.of
+pub returns-clause-err : goal.returns-clause-err
+returns-clause-err g c = stopped_end g.C.Disk.facts g.B.Disk.facts c.flush_done.result c.args.of
     c.args.seat.now c.flush_from.new.seat c.backing_barrier.new.seat c.flush_done.new.seat
-    c.in_ok-flush_from.ensures.ok c.in-Ok.ensures.ok c.flush_done.ensures.err c.flush_done.ensures.cause
+    c.in-Ok.ensures.ok c.in-Ok-backing_barrier.ensures.ok c.flush_done.ensures.err c.flush_done.ensures.cause
 
-pub returns-in-Err-clause-err : goal.returns-in-Err-clause-err
-returns-in-Err-clause-err g c = stopped_barrier g.C.Disk.facts g.B.Disk.facts c.in-Err.error c.args.of
-    c.args.seat.now c.flush_from.new.seat c.backing_barrier.new.seat c.in_ok-flush_from.ensures.ok
-    c.in-Err.ensures.err
+pub returns-in-Err-backing_barrier-clause-err : goal.returns-in-Err-backing_barrier-clause-err
+returns-in-Err-backing_barrier-clause-err g c = stopped_barrier g.C.Disk.facts g.B.Disk.facts
+    c.in-Err-backing_barrier.error c.args.of c.args.seat.now c.flush_from.new.seat c.backing_barrier.new.seat
+    c.in-Ok.ensures.ok c.in-Err-backing_barrier.ensures.err
+
+pub returns-in-Err-backing_barrier-clause-claim : goal.returns-in-Err-backing_barrier-clause-claim
+returns-in-Err-backing_barrier-clause-claim g c = range_stopped g.C.Disk.facts g.B.Disk.facts
+    c.in-Err-backing_barrier.error (deed.DeviceFault (failure.Barrier Backing)) c.flush_from.new.seat
+    c.backing_barrier.new.seat c.in-Ok.ensures.ok.seat (λ plain. refl) c.in-Err-backing_barrier.ensures.err
+    ∙ (note_committed g.C.Disk.facts g.B.Disk.facts c.args.seat.now c.flush_from.new.seat
+    (deed.FlushFrom c.args.of) c.requires.works.seat c.in-Ok.ensures.ok.is).range
+
+pub returns-clause-claim : goal.returns-clause-claim
+returns-clause-claim g c = range_either g.C.Disk.facts g.B.Disk.facts c.flush_done.result
+    (deed.FlushDone c.args.of) c.backing_barrier.new.seat c.flush_done.new.seat
+    c.in-Ok-backing_barrier.ensures.ok.seat (λ plain. refl) c.flush_done.ensures.ok c.flush_done.ensures.err
+    ∙ (note_committed g.C.Disk.facts g.B.Disk.facts c.flush_from.new.seat c.backing_barrier.new.seat
+    deed.BackingBarrier c.in-Ok.ensures.ok.seat c.in-Ok-backing_barrier.ensures.ok.is).range
+    ∙ (note_committed g.C.Disk.facts g.B.Disk.facts c.args.seat.now c.flush_from.new.seat
+    (deed.FlushFrom c.args.of) c.requires.works.seat c.in-Ok.ensures.ok.is).range

@@ -1,6 +1,10 @@
 use Rattle.std.specs.Prelude.{◌==◌}
-use Rattle.bc_deed.proofs.May.{may_end_line, none_changed, works_kept}
+use Rattle.bc_deed.proofs.May.{did_nothing, may_end_line, none_changed, works_kept}
 use Rattle.bc_deed.proofs.said.line_done.Goals as goal
+
+pub returns-in-Some-clause-err : goal.returns-in-Some-clause-err
+returns-in-Some-clause-err g c = did_nothing g.C.Disk.facts g.B.Disk.facts c.args.seat.now
+    c.requires.works.seat
 
 pub commit-requires-clause-may : goal.commit-requires-clause-may
 commit-requires-clause-may g c = let v = c.args.seat.now in

@@ -1,0 +1,55 @@
+-- A hand without parts, and what a halt leaves.
+use Rattle.std.proofs.Common.{◌≡◌, ℕ, false, List, [], ◌∷◌, ◌++◌, Option, Some, None, append-nil, append_assoc, refl, sym, ap, ◌∙◌, subst}
+use Rattle.std.specs.Prelude.{Bool, is_some}
+use Rattle.bc_disk.specs.Disk.{DiskFacts}
+use Rattle.bc_disk.specs.declared.disk.Device.{Device}
+use Rattle.bc_parts.specs.Seat.{PartsView}
+use Rattle.bc_seats.specs.Seats.{Grown}
+use Rattle.bc_flight.specs.Flight.{InFlight}
+use Rattle.bc_events.specs.Columns.{halt_of}
+use Rattle.bc_events.specs.declared.event.Event.{Event}
+use Rattle.bc_machine.specs.Frame.{stays_halted}
+use Rattle.bc_machine.specs.declared.part.BackingPart.{BackingPart}
+use Rattle.bc_machine.specs.declared.part.CorePart.{CorePart}
+use Rattle.bc_hand.specs.declared.hand.Hand.{Hand}
+use Rattle.bc_hand.specs.Seats.{Kinds, kinds, empty, Works}
+use Rattle.bc_hand.proofs.Knowing.{View, m}
+
+is_none : {A : Type 0} (o : Option A) → is_some o ≡ false → o ≡ None
+is_none None is = refl
+is_none (Some x) is = absurd (cc)
+
+-- a step that holds after it what it held before holds nothing where there was nothing
+pub still_empty : {C B : Type 0} (h k : Hand C B) → h ≡ empty → kinds k ≡ kinds h → k ≡ empty
+still_empty {C} {B} h k is same =
+    let all : kinds k ≡ kinds {C = C} {B = B} empty = same ∙ ap (λ (x : Hand C B). kinds x) is in
+    let f : k.flight ≡ None = is_none k.flight (ap (λ (x : Kinds). x.flight) all) in
+    let c : k.cache ≡ None = is_none k.cache (ap (λ (x : Kinds). x.cache) all) in
+    let b : k.backing ≡ None = is_none k.backing (ap (λ (x : Kinds). x.backing) all) in
+    ap (λ (o : Option InFlight). record k { flight = o }) f
+    ∙ ap (λ (o : Option C). record k { flight = None; cache = o }) c
+    ∙ ap (λ (o : Option (BackingPart B)). record k { flight = None; cache = None; backing = o }) b
+
+-- with nothing in hand a part may be taken
+pub in_order : {C B : Type 0} (h : Hand C B) → h ≡ empty
+    → h.flight ≡ None → (h.cache ≡ None) × (h.backing ≡ None)
+in_order {C} {B} h is none = (
+  ap (λ (x : Hand C B). x.cache) is,
+  ap (λ (x : Hand C B). x.backing) is,
+)
+
+-- a halt stays, whatever comes behind it
+stays_more : (es others : List Event) (d : Device) → halt_of es ≡ Some d → halt_of (es ++ others) ≡ Some d
+stays_more es [] d is = ap (λ (l : List Event). halt_of l) (append-nil es) ∙ is
+stays_more es (e ∷ others) d is = ap (λ (l : List Event). halt_of l) (sym (append_assoc es (e ∷ []) others))
+    ∙ stays_more (es ++ e ∷ []) others d (stays_halted es e d is)
+
+module _ {C B : Type 0} (cache_facts : C → DiskFacts) (backing_facts : B → DiskFacts) where
+  pub halted_still : (v w : View cache_facts backing_facts) (d : Device)
+      → Grown (m cache_facts backing_facts) v w → halt_of v.seen ≡ Some d → halt_of w.seen ≡ Some d
+  halted_still v w d grown is = ap (λ (l : List Event). halt_of l) grown.seen
+      ∙ stays_more v.seen grown.more d is
+
+  pub works_empty : (p : PartsView (CorePart C B)) (v : View cache_facts backing_facts) (h : Hand C B)
+      → h ≡ empty → Works cache_facts backing_facts p v h → Works cache_facts backing_facts p v empty
+  works_empty p v h is works = subst (λ (x : Hand C B). Works cache_facts backing_facts p v x) is works

@@ -1,0 +1,4 @@
+pub mod Holding
+pub mod Under
+pub mod Sequence
+pub mod Looping

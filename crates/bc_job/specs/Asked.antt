@@ -1,0 +1,29 @@
+-- What a request asks of its seat.
+use Rattle.std.specs.Prelude.{◌≡◌, ℕ, ◌+◌, ◌<◌, ◌≤◌, ◌^◌}
+use Rattle.bc_disk.specs.Disk.{DiskFacts}
+use Rattle.bc_parts.specs.Seat.{PartsView}
+use Rattle.bc_events.specs.declared.event.Line.{Line}
+use Rattle.bc_machine.specs.Plain.{worker_of}
+use Rattle.bc_machine.specs.declared.part.CorePart.{CorePart}
+use Rattle.bc_hand.specs.Seats.{View, Works, empty, note}
+use Rattle.bc_deed.specs.Asked.{size_of}
+use Rattle.bc_job.specs.declared.job.Job.{Job}
+
+abbrev pub line_of : Job → Line
+line_of job = record { worker = job.worker; line = job.line }
+
+-- the range is of some sectors, and its end is a number
+pub record IsRange (job : Job) : Type 0 where
+  pub some : 1 ≤ job.count
+  pub end : job.first + job.count < 2 ^ 64
+
+module _ {C B : Type 0} (cache_facts : C → DiskFacts) (backing_facts : B → DiskFacts) where
+  -- a seat of this run that holds no part and no claim
+  pub record IsIdle (p : PartsView (CorePart C B)) (v : View cache_facts backing_facts) : Type 0 where
+    pub works : Works cache_facts backing_facts p v empty
+    pub unclaimed : (note cache_facts backing_facts v).range.count ≡ 0
+
+  -- it is of the worker that the line names, and the job tells how many sectors the data are
+  pub record IsFor (job : Job) (v : View cache_facts backing_facts) : Type 0 where
+    pub worker : worker_of v.first ≡ job.worker
+    pub size : job.size ≡ size_of cache_facts backing_facts v.run.start

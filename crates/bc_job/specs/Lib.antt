@@ -1,0 +1,5 @@
+pub mod Asked
+pub mod Refusals
+pub mod Deeds
+pub mod Pieces
+pub mod Requests

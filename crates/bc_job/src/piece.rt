@@ -1,0 +1,234 @@
+//! One piece of a request, under one claim.
+ghost use Rattle.std.specs.Prelude.{◌≡◌, ◌+◌, ◌*◌, ◌/◌, ◌<◌, ◌≤◌, ◌^◌, true, [], ◌∷◌, length, if◌then◌else◌, OnOk, IfOk, IfErr};
+ghost use Rattle.bc_model.specs.Sector.{values_of};
+ghost use Rattle.bc_events.specs.declared.event.Deed.{Deed};
+ghost use Rattle.bc_flight.specs.declared.claim.Share.{Share};
+ghost use Rattle.bc_machine.specs.Plain.{worker_of};
+ghost use Rattle.bc_hand.specs.Seats.{Works, empty, note};
+ghost use Rattle.bc_deed.specs.Asked.{AreSectors, IsHalted, IsWithin, size_of};
+ghost use Rattle.bc_deed.specs.Flushed.{HasDone};
+ghost use Rattle.bc_job.specs.Asked.{IsIdle};
+ghost use Rattle.bc_job.specs.Deeds.{ReadStop, WriteStop, read_deeds, write_deeds, written};
+ghost use Rattle.bc_job.specs.Pieces.{HasMadeClaim, IsFresh, ReadUnder, WriteUnder};
+ghost use Rattle.bc_job.specs.Requests.{HasStoppedBy};
+
+use crate::error::{RequestError, refusal};
+use bc_deed::backing::{backing_barrier, backing_read, backing_write};
+use bc_deed::claims::{claim, release};
+use bc_deed::promise::promise;
+use bc_deed::said::{answer, durable};
+use bc_disk::disk::Disk;
+use bc_events::event::Line;
+use bc_flight::claim::{Claim, Share};
+use bc_hand::error::StepError;
+use bc_hand::hand::Hand;
+use bc_machine::machine::{CoreParts, CoreSeat};
+use bc_model::values::Values;
+use bc_worker::gate::Gate;
+use crossbeam_utils::Backoff;
+use std::alloc::Global;
+use std::sync::Wait;
+
+// Waits until no claim that conflicts stands, and claims the sectors.
+fn claim_range<C: Disk + Drop, B: Disk + Drop, R: Wait>(
+    rt: &R,
+    parts: &CoreParts<C, B>,
+    seat: &mut CoreSeat<C, B>,
+    hand: &mut Hand<C, B>,
+    first: u64,
+    count: u32,
+    share: Share,
+) -> Result<Claim, StepError>
+    requires works { Works C.facts B.facts parts.now seat.old hand.old }
+    requires empty { hand.old ≡ empty }
+    requires promise { 0 < seat.old.promises }
+    requires none { (note C.facts B.facts seat.old).range.count ≡ 0 }
+    requires range { (1 ≤ count) × (first + count < 2 ^ 64) }
+    requires inside { first + count ≤ size_of C.facts B.facts seat.old.run.start }
+    ensures works { Works C.facts B.facts parts.now seat.new hand.new }
+    ensures empty { hand.new ≡ empty }
+    ensures ok { IfOk result (λ claim. HasMadeClaim C.facts B.facts claim first count share
+        seat.old seat.new) }
+    ensures err { IfErr result (λ error. IsHalted error seat.new.seen
+        × HasDone C.facts B.facts [] seat.old seat.new
+        × ((note C.facts B.facts seat.new).range.count ≡ 0)) }
+{
+    let backoff = Backoff::new();
+    for _ in rt.forever() {
+        match claim(rt, parts, seat, hand, first, count, share) {
+            Ok(true) => {
+                return Ok(Claim {
+                    seat: seat.number(),
+                    first,
+                    count,
+                    share,
+                });
+            }
+            Ok(false) => backoff.snooze(),
+            Err(error) => return Err(error),
+        }
+    }
+    unreachable!()
+}
+
+// Reads the claimed sectors and answers the line with them.
+fn read_under<C: Disk + Drop, B: Disk + Drop, R: Wait, G: Gate>(
+    rt: &R,
+    alloc: Global,
+    parts: &CoreParts<C, B>,
+    seat: &mut CoreSeat<C, B>,
+    hand: &mut Hand<C, B>,
+    of: Line,
+    first: u64,
+    into: &mut [u8],
+    gate: &G,
+) -> Result<(), StepError>
+    requires works { Works C.facts B.facts parts.now seat.old hand.old }
+    requires empty { hand.old ≡ empty }
+    requires promise { 1 < seat.old.promises }
+    requires line { worker_of seat.old.first ≡ of.worker }
+    requires sectors { AreSectors first (length into.old) (size_of C.facts B.facts seat.old.run.start) }
+    requires range { first + length into.old / 512 ≤ 2 ^ 64 }
+    requires looked { (note C.facts B.facts seat.old).looked ≡ true }
+    requires covered { IsWithin (note C.facts B.facts seat.old).range first (length into.old / 512) }
+    ensures works { Works C.facts B.facts parts.now seat.new hand.new }
+    ensures empty { hand.new ≡ empty }
+    ensures claim { (note C.facts B.facts seat.new).range ≡ (note C.facts B.facts seat.old).range }
+    ensures left { seat.old.promises ≤ seat.new.promises + 2 }
+    ensures ok { OnOk result (HasDone C.facts B.facts (Deed.BackingRead first (values_of into.new)
+        ∷ Deed.Answer of first (values_of into.new) ∷ []) seat.old seat.new) }
+    ensures err { IfErr result (λ error. ReadUnder C.facts B.facts error first seat.old seat.new) }
+{
+    match backing_read(rt, alloc, parts, seat, hand, first, into, gate) {
+        Ok(()) => {}
+        Err(error) => return Err(error),
+    }
+    let Ok(values) = Values::from_bytes(alloc, first, into) else {
+        return Err(StepError::Memory);
+    };
+    answer(rt, parts, seat, hand, of, first, &values)
+}
+
+/// Reads the sectors of a piece into `into` for a line, under a shared claim of them: one call of
+/// the device. After an error the bytes of `into` are any.
+pub(crate) fn read_piece<C: Disk + Drop, B: Disk + Drop, R: Wait, G: Gate>(
+    rt: &R,
+    alloc: Global,
+    parts: &CoreParts<C, B>,
+    seat: &mut CoreSeat<C, B>,
+    of: Line,
+    first: u64,
+    count: u32,
+    into: &mut [u8],
+    gate: &G,
+) -> Result<(), RequestError>
+    requires idle { IsIdle C.facts B.facts parts.now seat.old }
+    requires line { worker_of seat.old.first ≡ of.worker }
+    requires some { 1 ≤ count }
+    requires length { length into.old ≡ 512 * count }
+    requires range { first + count < 2 ^ 64 }
+    requires inside { first + count ≤ size_of C.facts B.facts seat.old.run.start }
+    ensures idle { IsIdle C.facts B.facts parts.now seat.new }
+    ensures ok { OnOk result (HasDone C.facts B.facts
+        (read_deeds of first count (values_of into.new)) seat.old seat.new) }
+    ensures err { IfErr result (λ error. HasStoppedBy C.facts B.facts error
+        (ReadStop error first count) seat.old seat.new) }
+{
+    let mut hand = Hand::empty();
+    let Ok(()) = promise(rt, parts, seat, &mut hand, 4) else {
+        return Err(RequestError::Memory);
+    };
+    let claim = match claim_range(rt, parts, seat, &mut hand, first, count, Share::Shared) {
+        Ok(claim) => claim,
+        Err(error) => return Err(refusal(error)),
+    };
+    let answered = read_under(rt, alloc, parts, seat, &mut hand, of, first, into, gate);
+    release(rt, parts, seat, &mut hand, claim);
+    match answered {
+        Ok(()) => Ok(()),
+        Err(error) => Err(refusal(error)),
+    }
+}
+
+// Writes the claimed sectors, and where that is forced makes them durable and acknowledges it.
+fn write_under<C: Disk + Drop, B: Disk + Drop, R: Wait>(
+    rt: &R,
+    alloc: Global,
+    parts: &CoreParts<C, B>,
+    seat: &mut CoreSeat<C, B>,
+    hand: &mut Hand<C, B>,
+    of: Line,
+    first: u64,
+    values: &Values,
+    force: bool,
+) -> Result<(), StepError>
+    requires works { Works C.facts B.facts parts.now seat.old hand.old }
+    requires empty { hand.old ≡ empty }
+    requires promise { (if force then 3 else 1) ≤ seat.old.promises }
+    requires line { worker_of seat.old.first ≡ of.worker }
+    requires some { 0 < length values.now }
+    requires inside { first + length values.now ≤ size_of C.facts B.facts seat.old.run.start }
+    requires fresh { IsFresh first (length values.now) Share.Exclusive (note C.facts B.facts seat.old) }
+    ensures works { Works C.facts B.facts parts.now seat.new hand.new }
+    ensures empty { hand.new ≡ empty }
+    ensures claim { (note C.facts B.facts seat.new).range ≡ (note C.facts B.facts seat.old).range }
+    ensures left { seat.old.promises ≤ seat.new.promises + (if force then 3 else 1) }
+    ensures ok { OnOk result (HasDone C.facts B.facts (written force of first values.now)
+        seat.old seat.new) }
+    ensures err { IfErr result (λ error. WriteUnder C.facts B.facts error force of first values.now
+        seat.old seat.new) }
+{
+    match backing_write(rt, alloc, parts, seat, hand, first, values, of) {
+        Ok(()) => {}
+        Err(error) => return Err(error),
+    }
+    if !force {
+        return Ok(());
+    }
+    match backing_barrier(rt, parts, seat, hand) {
+        Ok(()) => {}
+        Err(error) => return Err(error),
+    }
+    durable(rt, parts, seat, hand, of, first, values.len())
+}
+
+/// Writes the values of a piece for a line, under an exclusive claim of its sectors, and where it is
+/// forced makes them durable by a barrier before the claim is let go.
+pub(crate) fn write_piece<C: Disk + Drop, B: Disk + Drop, R: Wait>(
+    rt: &R,
+    alloc: Global,
+    parts: &CoreParts<C, B>,
+    seat: &mut CoreSeat<C, B>,
+    of: Line,
+    first: u64,
+    values: &Values,
+    force: bool,
+) -> Result<(), RequestError>
+    requires idle { IsIdle C.facts B.facts parts.now seat.old }
+    requires line { worker_of seat.old.first ≡ of.worker }
+    requires some { 1 ≤ length values.now }
+    requires range { first + length values.now < 2 ^ 64 }
+    requires inside { first + length values.now ≤ size_of C.facts B.facts seat.old.run.start }
+    ensures idle { IsIdle C.facts B.facts parts.now seat.new }
+    ensures ok { OnOk result (HasDone C.facts B.facts
+        (write_deeds force of first values.now) seat.old seat.new) }
+    ensures err { IfErr result (λ error. HasStoppedBy C.facts B.facts error
+        (WriteStop error force of first values.now) seat.old seat.new) }
+{
+    let mut hand = Hand::empty();
+    let deeds = if force { 5 } else { 3 };
+    let Ok(()) = promise(rt, parts, seat, &mut hand, deeds) else {
+        return Err(RequestError::Memory);
+    };
+    let count = values.len();
+    let claim = match claim_range(rt, parts, seat, &mut hand, first, count, Share::Exclusive) {
+        Ok(claim) => claim,
+        Err(error) => return Err(refusal(error)),
+    };
+    let written = write_under(rt, alloc, parts, seat, &mut hand, of, first, values, force);
+    release(rt, parts, seat, &mut hand, claim);
+    match written {
+        Ok(()) => Ok(()),
+        Err(error) => Err(refusal(error)),
+    }
+}
