@@ -70,7 +70,7 @@ gives_same f (entry.FlushDone worker line) s = refl
 gives_same f (entry.Durable worker line first count) s = refl
 gives_same f (entry.Tried first values) s = refl
 
-now_same : (f : ℕ → ℕ) (opening : Image) (H : List Entry) (s : ℕ)
+pub now_same : (f : ℕ → ℕ) (opening : Image) (H : List Entry) (s : ℕ)
     → now opening (all_renamed f H) s ≡ now opening H s
 now_same f opening [] s = refl
 now_same f opening (e ∷ es) s =

@@ -1,8 +1,8 @@
 -- A plain run is one of the data alone, in which no key ever comes in.
-use Rattle.std.proofs.Common.{◌≡◌, ℕ, true, List, [], ◌∷◌, ◌++◌, Option, Some, None, refl, sym, ap, ◌∙◌, subst, inl}
-use Rattle.bc_model.specs.Sector.{Image}
-use Rattle.bc_model.specs.History.{IsLegal, Allowed}
-use Rattle.bc_disk.specs.Device.{Content, MayLeave, quiet}
+use Rattle.std.proofs.Common.{◌≡◌, ℕ, true, false, List, [], ◌∷◌, ◌++◌, Option, Some, None, refl, sym, ap, ◌∙◌, subst, inl, arith}
+use Rattle.bc_model.specs.Sector.{Value, Image}
+use Rattle.bc_model.specs.History.{now, IsLegal, Allowed}
+use Rattle.bc_disk.specs.Device.{Content, Among, MayLeave, quiet}
 use Rattle.bc_books.specs.Books as book
 use Rattle.bc_books.specs.After as books_step
 use Rattle.bc_books.specs.Laws.{durable_snapshot}
@@ -11,6 +11,9 @@ use Rattle.bc_data.specs.Enabled as flow_ask
 use Rattle.bc_data.specs.After as flow_step
 use Rattle.bc_data.specs.Laws.{IsPair, shown_by}
 use Rattle.bc_data.specs.Laws as data_law
+use Rattle.bc_data.specs.Invariant.{IsTruthful}
+use Rattle.bc_data.proofs.Truth.{counts_of}
+use Rattle.bc_data.proofs.Now.{keep_course}
 use Rattle.bc_data.proofs.Opening as data_now
 use Rattle.bc_crash.specs.Laws as crash_law
 use Rattle.bc_crash.proofs.Survive as data_crash
@@ -22,8 +25,9 @@ use Rattle.bc_known.specs.Acts as known
 use Rattle.bc_known.specs.Run as machine
 use Rattle.bc_events.specs.Acts.{acts_of}
 use Rattle.bc_events.specs.Run.{Opening, State, start, by, IsSome, CanDo, AreAlone, acts_or_none, after, IsRun, run}
-use Rattle.bc_events.specs.Laws.{LawPlainNow, LawPlainCrash, LawPlainCache}
-use Rattle.bc_events.proofs.Machine.{legal_renamed}
+use Rattle.bc_events.specs.Laws.{LawPlainNow, LawPlainCrash, LawPlainStable, LawPlainCache}
+use Rattle.bc_events.proofs.Machine.{now_same, legal_renamed}
+use Rattle.bc_events.specs.declared.event.Deed.TheVariants.{BackingBarrier}
 use Rattle.bc_events.specs.declared.event.Event.{Event}
 
 -- ---- one act leaves the index and the cache device
@@ -142,8 +146,8 @@ module _ (w : Opening) (x : parts.State) (n : ℕ) (es : List Event) (plain : w.
   at : AtPlain w.machine.flow last
   at = reached w (start w x n) es plain (opened w.machine.flow) on
 
-  now : IsLegal w.machine.flow.image last.history
-  now = subst (λ st. IsLegal w.machine.flow.image st.history) (sym at.is)
+  legal : IsLegal w.machine.flow.image last.history
+  legal = subst (λ st. IsLegal w.machine.flow.image st.history) (sym at.is)
       (data_now.law_now w.machine.flow at.events pair at.course)
 
   -- nothing is cached, so the backing device has what is shown
@@ -171,12 +175,61 @@ module _ (w : Opening) (x : parts.State) (n : ℕ) (es : List Event) (plain : w.
       (shown last.books.journal.durable s last.books.generations.durable w.machine.flow.cache b)
       (safe w.machine.flow.cache b cache_left left s).allowed
 
+  -- ---- once nothing is left that a crash may undo
+
+  true_now : IsTruthful w.machine.flow last
+  true_now = subst (λ st. IsTruthful w.machine.flow st) (sym at.is)
+      (keep_course w.machine.flow (flow.start w.machine.flow) at.events at.course
+      (data_now.inv_opened w.machine.flow pair))
+
+  durable : last.books.journal.durable ≡ last.books.index.count
+  durable = let counts = counts_of w.machine.flow.books last.books true_now.books in
+      let durable_low = counts.0 in let sealed_low = counts.1 in
+      let none = (true_now.plain plain).0 in omega arith
+
+  module _ (running : last.halted ≡ false) (settled : (s : ℕ) (v : Value)
+      → Among v (last.backing.leaves s) → Among v (last.backing.reads s)) where
+    closed : crash_law.IsClosed last
+    closed = record { running = running; journal = durable; backing = settled }
+
+    stable : (b : Image) → MayLeave last.backing b → (s : ℕ)
+        → b s ≡ now w.machine.flow.image last.history s
+    stable b left s = sym (shown last.books.journal.durable s last.books.generations.durable
+        w.machine.flow.cache b)
+        ∙ subst (λ st. crash_law.IsClosed st → MayLeave st.cache w.machine.flow.cache
+        → MayLeave st.backing b
+        → data_law.shown w.machine.flow.books.bucket (st.books.index.at st.books.journal.durable)
+        st.books.generations.durable w.machine.flow.cache b s
+        ≡ now w.machine.flow.image st.history s) (sym at.is)
+        (λ c left_cache left_backing.
+        data_crash.law_closed w.machine.flow at.events pair at.course c
+        (durable_snapshot
+        (flow_step.course w.machine.flow (flow.start w.machine.flow) at.events).books)
+        w.machine.flow.cache b (inl refl) left_cache left_backing s) closed cache_left left
+
+-- the last event of a run is done in the state that those before it leave
+run_behind : (w : Opening) (st : State) (es : List Event) (e : Event)
+    → run w st (es ++ e ∷ []) ≡ after w (run w st es) e
+run_behind w st [] e = refl
+run_behind w st (x ∷ es) e = run_behind w (after w st x) es e
+
 pub law_plain_now : LawPlainNow
 law_plain_now w x n es plain pair on = legal_renamed w.worker w.machine.flow.image
-    (last w x n es plain pair on).history (now w x n es plain pair on)
+    (last w x n es plain pair on).history (legal w x n es plain pair on)
 
 pub law_plain_crash : LawPlainCrash
 law_plain_crash w x n es plain pair on = crash w x n es plain pair on
+
+pub law_plain_stable : LawPlainStable
+law_plain_stable w x n es i plain pair on running b left s =
+    let e : Event = record { seat = i; deed = BackingBarrier } in
+    let settled = subst (λ (st : State). (s : ℕ) (v : Value)
+    → Among v (st.machine.whole.flow.backing.leaves s)
+    → Among v (st.machine.whole.flow.backing.reads s))
+    (sym (run_behind w (start w x n) es e)) (λ s v among. among) in
+    stable w x n (es ++ e ∷ []) plain pair on running settled b left s
+    ∙ sym (now_same w.worker w.machine.flow.image
+    (last w x n (es ++ e ∷ []) plain pair on).history s)
 
 pub law_plain_cache : LawPlainCache
 law_plain_cache w x n es plain pair on = (at w x n es plain pair on).bare.cache

@@ -1,8 +1,8 @@
 -- What holds of every run. With a cache it is opened from a sound pair; a plain run uses the backing
 -- device alone, and needs no more than that nothing is cached.
-use Rattle.std.specs.Prelude.{◌≡◌, ℕ, true, List, Some}
+use Rattle.std.specs.Prelude.{◌≡◌, ℕ, true, false, List, [], ◌∷◌, ◌++◌, Some}
 use Rattle.bc_model.specs.Sector.{Value, Image}
-use Rattle.bc_model.specs.History.{IsLegal, Allowed}
+use Rattle.bc_model.specs.History.{now, IsLegal, Allowed}
 use Rattle.bc_disk.specs.Device.{MayLeave, quiet}
 use Rattle.bc_books.specs.Enabled.{CanRaise}
 use Rattle.bc_data.specs.Laws.{IsPair}
@@ -21,6 +21,7 @@ use Rattle.bc_known.specs.Laws.{IsSound, OpensAgain}
 use Rattle.bc_known.specs.Workers.{AreToldApart, SaysTheSame}
 use Rattle.bc_events.specs.Run.{Opening, State, IsSeat, start, history_of, IsRun, run, machine_events}
 use Rattle.bc_events.specs.Writes.{draft_leaf, draft_inner, write_of}
+use Rattle.bc_events.specs.declared.event.Deed.TheVariants.{BackingBarrier}
 use Rattle.bc_events.specs.declared.event.Event.{Event}
 use Rattle.bc_events.specs.declared.event.NewNode.{NewNode}
 use Rattle.bc_events.specs.declared.event.Written.TheVariants.{Leaf, Inner}
@@ -103,6 +104,17 @@ LawPlainNow = AlwaysPlain (λ w st. IsLegal w.machine.flow.image (history_of w s
 abbrev pub LawPlainCrash : Type 0
 LawPlainCrash = AlwaysPlain (λ w st. (b : Image) → MayLeave st.machine.whole.flow.backing b → (s : ℕ)
     → Allowed w.machine.flow.image st.machine.whole.flow.history s (b s))
+
+-- Behind a good barrier, of whatever seat, each sector is its last write, whatever a crash leaves,
+-- where nothing halted the run: after a write that failed a sector may read as one of two values.
+abbrev pub LawPlainStable : Type 0
+LawPlainStable = (w : Opening) (x : parts.State) (next_seq : ℕ) (es : List Event) (i : ℕ)
+    → w.machine.flow.plain ≡ true → IsPair w.machine.flow
+    → let all = es ++ record { seat = i; deed = BackingBarrier } ∷ [] in
+    IsRun w (start w x next_seq) all
+    → let st = run w (start w x next_seq) all in st.machine.whole.flow.halted ≡ false
+    → (b : Image) → MayLeave st.machine.whole.flow.backing b
+    → (s : ℕ) → b s ≡ now w.machine.flow.image (history_of w st) s
 
 -- and the cache device is as it was
 abbrev pub LawPlainCache : Type 0

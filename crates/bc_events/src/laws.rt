@@ -4,7 +4,7 @@ ghost use Rattle.bc_events.specs.Example.{LawPlainRuns, LawPlainTooth};
 ghost use Rattle.bc_events.specs.Keys.{LawKeys};
 ghost use Rattle.bc_events.specs.Laws.{LawMachine, LawFirstWrite};
 ghost use Rattle.bc_events.specs.Laws.{LawNow, LawCrash, LawRaise, LawNext, LawWorkers};
-ghost use Rattle.bc_events.specs.Laws.{LawPlainNow, LawPlainCrash, LawPlainCache};
+ghost use Rattle.bc_events.specs.Laws.{LawPlainNow, LawPlainCrash, LawPlainStable, LawPlainCache};
 
 /// Each run is one of the machine: each event is some acts of it.
 pub fn law_machine()
@@ -65,6 +65,11 @@ pub fn law_plain_now()
 /// What a crash leaves of it is allowed, sector by sector.
 pub fn law_plain_crash()
     ensures { LawPlainCrash }
+{}
+
+/// Behind a good barrier, where no call halted the run, it is what was written last.
+pub fn law_plain_stable()
+    ensures { LawPlainStable }
 {}
 
 /// And the cache device is as it was.

@@ -1,0 +1,4 @@
+pub mod Refusals
+pub mod Closed
+pub mod Causes
+pub mod Run
