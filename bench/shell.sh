@@ -92,7 +92,7 @@ try_words 'show over an empty cache file' 4 'superblock cache 9' cache.img backi
 
 try_trace 'an unknown letter behind a write' 3 'trace 2 2' '1 w 0 1 1\n1 x 0 1\n'
 try_trace 'a comment behind a space' 3 'trace 1 3' ' # no comment\n1 w 0 1 1\n'
-try_trace 'a forced write behind a write' 3 'trace 2 2' '1 w 0 1 1\n1 W 0 1 1\n'
+try_trace 'a forced write without a stamp' 3 'trace 2 2' '1 w 0 1 1\n1 W 0 1\n'
 try_trace 'another worker behind a write' 3 'trace 2 5' '1 w 0 1 1\n2 w 0 1 1\n'
 try_trace 'a stamp of zero behind a write' 3 'trace 2 4' '1 w 0 1 1\n1 w 0 1 0\n'
 try_trace 'a line of 81 bytes behind a write' 3 'trace 2 1' "1 w 0 1 1\n1 r 0 1$(printf '%74s' '')\n"

@@ -76,3 +76,8 @@ module _ (d : DiskFacts) where
   pub good_so : (d' : DiskFacts) (why : SuperError) (r : Result Bool CheckError) → Refused why r → (16 ≤ d.sectors → IsCounted (call_of {T = BackingSuper} (Err why)) d d') → (d.sectors < 16 → d'.faults ≡ d.faults) → OnOk r (d'.faults ≡ d.faults)
   good_so d' why (Ok alone) so counted small = elim (cases_lt d.sectors 16) [ inl low ↦ small low | inr large ↦ none_failed d' why so.1 (counted large) ]
   good_so d' why (Err e) so counted small = tt
+
+  -- one that is refused doesn't serve alone
+  pub refused_other : (P : Type 0) (why : SuperError) (r : Result Bool CheckError) → Refused why r → IfOk r (λ alone. alone ≡ true → P)
+  refused_other P why (Ok alone) so = λ yes. (let no = so.0 in absurd (cc))
+  refused_other P why (Err e) so = tt

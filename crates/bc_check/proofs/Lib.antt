@@ -13,3 +13,4 @@ pub mod Checked
 pub mod Texts
 pub mod Anew
 pub mod Through
+pub mod Calls

@@ -1,15 +1,16 @@
 //! Whether a pair is sound.
-ghost use Rattle.std.specs.Prelude.{◌≡◌, ◌≢◌, ◌*◌, ◌≤◌, ◌↔◌, false, IfOk, IfErr, MatchResult, OnOk, IsTrue};
+ghost use Rattle.std.specs.Prelude.{◌≡◌, ◌≢◌, ◌*◌, ◌≤◌, ◌↔◌, false, true, IfOk, IfErr, MatchResult, OnOk, IsTrue};
+ghost use Rattle.bc_disk.specs.Device.{next_count};
 ghost use Rattle.bc_disk.specs.Disk.{IsKept};
 ghost use Rattle.bc_disk.specs.declared.disk.Device.TheVariants as device;
 ghost use Rattle.bc_image.specs.Pair.{Pair};
-ghost use Rattle.bc_replay.specs.Causes.{OfHeld};
+ghost use Rattle.bc_replay.specs.Causes.{IsReadOnce, OfHeld};
 ghost use Rattle.bc_replay.specs.Survey.{HasSurvey};
 ghost use Rattle.bc_super.specs.Division.{IsPassThrough};
 ghost use Rattle.bc_super.specs.declared.error.SuperError.{SuperError};
 ghost use Rattle.bc_disk.specs.declared.disk.Device.{Device};
 ghost use Rattle.bc_check.specs.declared.verdict.CheckError.{CheckError};
-ghost use Rattle.bc_check.specs.Calls.{BothKept, CountsFault, IsWant, IsWantOf, NoneFailed};
+ghost use Rattle.bc_check.specs.Calls.{BothKept, CountsFault, EndsAlone, EndsAtSuper, IsWant, IsWantOf, NoneFailed};
 ghost use Rattle.bc_check.specs.Verdict.{DecidesAlone, IsCheckCause, IsVerdict, ListsIf};
 
 use crate::data::first_apart;
@@ -52,6 +53,10 @@ fn serves_alone<B: Disk>(backing: &mut B) -> Result<bool, CheckError>
     ensures want { IfErr result
         (λ e. IsWantOf device.Backing e (B.facts backing.old).faults (B.facts backing.new).faults) }
     ensures good { OnOk result ((B.facts backing.new).faults ≡ (B.facts backing.old).faults) }
+    ensures called { IsReadOnce (B.facts backing.old).sectors (B.facts backing.old).calls
+        (B.facts backing.new).calls }
+    ensures alone { IfOk result (λ alone. alone ≡ true
+        → (B.facts backing.new).calls ≡ next_count (B.facts backing.old).calls) }
 {
     match read_backing(backing) {
         Ok(b) => Ok(is_pass_through(&b)),
@@ -74,6 +79,7 @@ fn verdict_of<C: Disk, B: Disk>(
         s.now.index.keys s.now.uses.items → IsVerdict p v) (C.facts cache.old)
         (B.facts backing.old)) }
     ensures want { IfErr result IsWant }
+    ensures other { IfOk result (λ v. v ≢ Verdict.PassThrough) }
     ensures kept { BothKept (C.facts cache.old) (C.facts cache.new) (B.facts backing.old)
         (B.facts backing.new) }
     ensures faults { IfErr result (λ e. CountsFault e (C.facts cache.old) (C.facts cache.new)
@@ -142,6 +148,10 @@ pub fn examine<C: Disk, B: Disk>(
     ensures found { IfOk result (λ r. OfHeld (λ p. IsVerdict p r.verdict
         × ListsIf list p r.verdict r.lines.items) (C.facts cache.old) (B.facts backing.old)) }
     ensures refused { IfErr result (IsCheckCause (C.facts cache.old) (B.facts backing.old)) }
+    ensures supers { IfErr result (EndsAtSuper (C.facts cache.old) (C.facts cache.new)
+        (B.facts backing.old) (B.facts backing.new)) }
+    ensures alone { IfOk result (λ r. EndsAlone (C.facts cache.old) (C.facts cache.new)
+        (B.facts backing.old) (B.facts backing.new) r.verdict) }
     ensures kept { BothKept (C.facts cache.old) (C.facts cache.new) (B.facts backing.old)
         (B.facts backing.new) }
     ensures faults { IfErr result (λ e. CountsFault e (C.facts cache.old) (C.facts cache.new)
@@ -170,6 +180,10 @@ pub fn check_pair<C: Disk, B: Disk>(
     ensures found { IfOk result (λ v. OfHeld (λ p. IsVerdict p v) (C.facts cache.old)
         (B.facts backing.old)) }
     ensures refused { IfErr result (IsCheckCause (C.facts cache.old) (B.facts backing.old)) }
+    ensures supers { IfErr result (EndsAtSuper (C.facts cache.old) (C.facts cache.new)
+        (B.facts backing.old) (B.facts backing.new)) }
+    ensures alone { IfOk result (EndsAlone (C.facts cache.old) (C.facts cache.new)
+        (B.facts backing.old) (B.facts backing.new)) }
     ensures kept { BothKept (C.facts cache.old) (C.facts cache.new) (B.facts backing.old)
         (B.facts backing.new) }
     ensures faults { IfErr result (λ e. CountsFault e (C.facts cache.old) (C.facts cache.new)

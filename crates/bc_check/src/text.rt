@@ -3,7 +3,7 @@ ghost use Rattle.std.specs.Prelude.{◌≡◌, ◌++◌, codes, OnOk, IfOk, IfEr
 ghost use Rattle.std.specs.Fmt.{decimal};
 ghost use Rattle.std.specs.String.{string_bytes};
 ghost use Rattle.bc_replay.specs.Causes.{OfHeld};
-ghost use Rattle.bc_check.specs.Calls.{BothKept, CountsFault, NoneFailed};
+ghost use Rattle.bc_check.specs.Calls.{BothKept, CountsFault, EndsAlone, EndsAtSuper, NoneFailed};
 ghost use Rattle.bc_check.specs.Verdict.{IsCheckCause};
 ghost use Rattle.bc_check.specs.Text.{IsTold, counts_text, line_text, live_text, number_text, report_text, sound_text, use_text, used_text, verdict_text, words_of};
 
@@ -146,6 +146,10 @@ pub fn tell_pair<C: Disk, B: Disk>(
     ensures found { IfOk result (λ r. OfHeld (λ p. IsTold list p r.verdict (string_bytes r.text))
         (C.facts cache.old) (B.facts backing.old)) }
     ensures refused { IfErr result (IsCheckCause (C.facts cache.old) (B.facts backing.old)) }
+    ensures supers { IfErr result (EndsAtSuper (C.facts cache.old) (C.facts cache.new)
+        (B.facts backing.old) (B.facts backing.new)) }
+    ensures alone { IfOk result (λ r. EndsAlone (C.facts cache.old) (C.facts cache.new)
+        (B.facts backing.old) (B.facts backing.new) r.verdict) }
     ensures kept { BothKept (C.facts cache.old) (C.facts cache.new) (B.facts backing.old)
         (B.facts backing.new) }
     ensures faults { IfErr result (λ e. CountsFault e (C.facts cache.old) (C.facts cache.new)

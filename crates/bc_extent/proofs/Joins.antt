@@ -242,3 +242,19 @@ module _ (rings : List (List Key)) (n i : ℕ) (ring : List Key) (full : AreFull
       ap (λ r. take n (joined (set rings (i / 256) (set r (i % 256) x)))) (sym own_is)
       ∙ ap (take n) (joined_set rings (i / 256) (i % 256) x full inside (omega arith) ∙ ap (λ k. set (joined rings) k x) parts)
       ∙ take_set n (joined rings) i x low
+
+-- ---- a key behind the last one in use
+
+set_last : {X : Type 0} (xs : List X) (n : ℕ) (x : X) → n < length xs → set (take (suc n) xs) n x ≡ insert (take n xs) n x
+set_last [] n x inside = absurd (omega arith)
+set_last (y ∷ ys) zero x inside = refl
+set_last (y ∷ ys) (suc n) x inside = ap (λ zs. y ∷ zs) (set_last ys n x (omega arith))
+
+pub appended : (rings : List (List Key)) (n : ℕ) (ring now : List Key) (full : AreFull rings) → n < 256 * length rings → ring ≡ get_or rings (n / 256) ring → (key : Key) → now ≡ set ring (n % 256) key
+    → take (n + 1) (joined (set rings (n / 256) now)) ≡ insert (take n (joined rings)) n key
+appended rings n ring now full room own key is =
+    let next : n + 1 ≡ suc n = omega arith in
+    ap (λ r. take (n + 1) (joined (set rings (n / 256) r))) is
+    ∙ row_set rings (n + 1) n ring full (omega arith) (omega (arith, room)) own key
+    ∙ ap (λ k. set (take k (joined rings)) n key) next
+    ∙ set_last (joined rings) n key (omega (arith, length-joined rings full, room))

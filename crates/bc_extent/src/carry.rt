@@ -42,6 +42,7 @@ fn pull_through(rings: &mut [Ring], place: usize, slot: Slot) -> Slot
 }
 
 /// Puts a key before the one at this place, where the first `count` keys of the rings are in use.
+/// Behind the last of them nothing moves.
 pub fn insert_within(rings: &mut [Ring], count: usize, i: usize, slot: Slot)
     requires full { AreFull rings.old }
     requires within { i ≤ count }
@@ -49,6 +50,10 @@ pub fn insert_within(rings: &mut [Ring], count: usize, i: usize, slot: Slot)
     ensures keys { take (count + 1) (joined rings.new) ≡ insert (take count (joined rings.old)) i slot }
     ensures full { AreFull rings.new }
 {
+    if i == count {
+        let _ = rings[i / LENGTH].swap_in(i % LENGTH, slot);
+        return;
+    }
     let first = i / LENGTH;
     let last = count / LENGTH;
     let _ = push_through(&mut rings[first..last + 1], i % LENGTH, slot);

@@ -10,7 +10,7 @@ use crate::rows::Rows;
 use bc_key::Key;
 
 /// How many keys end at the sector or before it. They are the first ones. It takes a number of steps
-/// that is logarithmic in the number of keys.
+/// that is logarithmic in the number of keys, and one where these are all of them.
 pub fn count_ended(rows: &Rows, sector: u64) -> usize
     requires { IsInOrder rows.now.keys }
     ensures within { result ≤ length rows.now.keys }
@@ -19,6 +19,9 @@ pub fn count_ended(rows: &Rows, sector: u64) -> usize
 {
     let mut low = 0;
     let mut high = rows.len();
+    if high > 0 && rows.end(high - 1) <= sector {
+        return high;
+    }
     while low < high {
         let middle = low + (high - low) / 2;
         if rows.end(middle) <= sector {

@@ -1,6 +1,6 @@
 -- What is tested of each element of a list in turn.
 use Rattle.std.proofs.Common.{◌≡◌, ℕ, ◌+◌, ◌<◌, ◌≤◌, List, length, take, get_or, refl, sym, subst, ap, ◌∙◌, arith}
-use Rattle.std.specs.Prelude.{◌↔◌, true, false, All, IsTrue}
+use Rattle.std.specs.Prelude.{◌↔◌, true, false, All, Any, IsTrue}
 use Rattle.std.proofs.lemmas.List.{take_all}
 use Rattle.std.proofs.lemmas.List.Elements.{All-more, All-same}
 use Rattle.std.proofs.lemmas.Bool.{true≢false}
@@ -15,3 +15,23 @@ module _ {X : Type 0} (P : X → Type 0) (xs : List X) (i : ℕ) where
 
   pub all_so : length xs ≤ i → All P (take i xs) → IsTrue true ↔ All P xs
   all_so end all = ((λ t. All-same P xs (take i xs) (sym (take_all i xs end)) all), (λ h. refl))
+
+  pub all_fails : (x : X) → i < length xs → x ≡ get_or xs i x → (P x → ⊥) → All P xs → ⊥
+  all_fails x low is bad all = bad (subst P (sym is) (all i x low))
+
+  pub all_ends : length xs ≤ i → All P (take i xs) → All P xs
+  all_ends end all = All-same P xs (take i xs) (sym (take_all i xs end)) all
+
+-- ---- whether it holds of some element
+
+module _ {X : Type 0} (P : X → Type 0) (xs : List X) (i : ℕ) where
+  pub any_here : (x : X) → i < length xs → x ≡ get_or xs i x → P x → Any P xs
+  any_here x low is here = (i, x, low, sym is, here)
+
+  pub any_more : (x : X) → i < length xs → x ≡ get_or xs i x → (P x → ⊥) → All (λ y. P y → ⊥) (take i xs) → All (λ y. P y → ⊥) (take (i + 1) xs)
+  any_more x low is bad none = All-more (λ y. P y → ⊥) xs i x low none (subst (λ (y : X). P y → ⊥) is bad)
+
+  pub any_none : length xs ≤ i → All (λ y. P y → ⊥) (take i xs) → Any P xs → ⊥
+  any_none end none any =
+      let all = All-same (λ y. P y → ⊥) xs (take i xs) (sym (take_all i xs end)) none in
+      all any.0 any.1 any.2 (subst P (sym any.3) any.4)

@@ -5,3 +5,6 @@ pub mod Walks
 pub mod Readings
 pub mod Alls
 pub mod Shows
+pub mod Sectors
+pub mod Blocks
+pub mod Tables

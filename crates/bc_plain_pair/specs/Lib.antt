@@ -1,2 +1,5 @@
 pub mod PairBytes
 pub mod LivePlace
+pub mod Sectors
+pub mod Ring
+pub mod Names

@@ -1,221 +1,220 @@
-//! Pairs of a small size, sound ones and ones with random faults in their records, so that what is
-//! said of a pair can be compared by two programs.
+//! Random changes of the records of a pair, so that what is said of it can be compared by two
+//! programs.
 //!
-//! A random byte alone is found by a checksum nearly always, and tells little. So most of the faults
-//! are sealed: the record gets the checksum of its changed bytes, as from a writer that was wrong.
-ghost use Rattle.std.specs.Prelude.{◌≡◌, ◌+◌, ◌*◌, ◌^◌, ◌<◌, ◌≤◌, length, IfOk};
-ghost use Rattle.bc_plain_pair.specs.PairBytes.{AreSectors};
+//! A random byte alone is found by a checksum nearly always, and tells little. So most of the
+//! changes are sealed: the record gets the checksum of its changed bytes, as from a writer that
+//! was wrong.
+ghost use Rattle.std.specs.Prelude.{◌≡◌, ◌+◌, ◌*◌, ◌<◌, ◌≤◌, length};
 
-use bc_bytes::{crc64, get_u16, get_u32, put_u32, put_u64};
-use bc_disk::mem_disk::MemDisk;
-use bc_keys::put_words;
-use bc_mode::Mode;
-use bc_pair::error::PairError;
-use bc_pair::format::{NewPair, format};
-use std::alloc::{AllocError, Global};
+use crate::layouts::{BACKING, Layout};
+use crate::seal::{Kind, Record, seal, sealed};
+use bc_bytes::{get_u64, put_u64};
 
-/// The bytes of the cache device: 128 buckets of 64 sectors.
-const CACHE_BYTES: usize = 128 * 64 * 512;
-
-/// The bytes of the backing device: 16 sectors set aside, and 48 of data.
-const BACKING_BYTES: usize = 64 * 512;
-
-/// The sectors at which the records of the made pairs begin: superblock, two entries, generations,
-/// uuid table, root, and two sets of the leaf.
-const RECORDS: [usize; 8] = [8, 64, 65, 576, 640, 704, 768, 769];
-
-/// The first word of a key of 8 sectors with one pointer.
-const CLEAN: u64 = (1 << 63) + (1 << 60) + (8 << 20);
-
-/// The same of a dirty key.
-const DIRTY: u64 = CLEAN + (1 << 36);
-
-/// The number after this one, below 2^31.
-pub fn next(random: u64) -> u64
-    ensures { result < 2147483648 }
-{
-    random.wrapping_mul(1_103_515_245).wrapping_add(12345) % (1 << 31)
+/// Numbers that look random, each made of the one before.
+#[derive(Clone, Copy, Debug, PartialEq, Eq, Drop)]
+pub struct Random {
+    state: u64,
 }
 
-// A disk of so many zeros, in sectors.
-fn blank(alloc: Global, sectors: usize) -> Result<MemDisk, AllocError>
-    requires { sectors ≤ 65536 }
-{
-    MemDisk::new(alloc, vec![in alloc; 0u8; 512 * sectors]?, 10000)
+impl Random {
+    /// The numbers that this one makes.
+    pub fn new(seed: u64) -> Random {
+        Random {
+            state: seed.wrapping_mul(6_364_136_223_846_793_005).wrapping_add(1),
+        }
+    }
+
+    /// The next number below a bound.
+    pub fn below(&mut self, bound: usize) -> usize
+        requires { 0 < bound }
+        ensures { result < bound }
+    {
+        self.state = self
+            .state
+            .wrapping_mul(6_364_136_223_846_793_005)
+            .wrapping_add(1_442_695_040_888_963_407);
+        (self.state >> 33) as usize % bound
+    }
 }
 
-// The bytes that a disk holds.
-fn bytes_of(alloc: Global, disk: &MemDisk) -> Result<Vec<u8>, AllocError>
-    ensures { IfOk result (λ v. AreSectors v.items) }
+// One of the records of a cache device, by its number.
+fn record(l: &Layout, number: usize) -> Record
+    ensures { result.sector + 1 ≤ 128 * l.now.bucket }
 {
-    Vec::from_slice(alloc, disk.bytes())
-}
-
-/// The bytes of both devices of a new pair: entry 1 in sector 64, the generations in bucket 9, the
-/// uuid table in bucket 10, the root in bucket 11, and its leaf in bucket 12.
-pub fn new_pair(alloc: Global) -> Result<(Vec<u8>, Vec<u8>), PairError>
-    ensures cache { IfOk result (λ r. AreSectors r.0.items) }
-    ensures backing { IfOk result (λ r. AreSectors r.1.items) }
-{
-    let mut cache = blank(alloc, CACHE_BYTES / 512)?;
-    let mut backing = blank(alloc, BACKING_BYTES / 512)?;
-    let pair = NewPair {
-        set_uuid: [1; 16],
-        cache_uuid: [2; 16],
-        backing_uuid: [3; 16],
-        block: 1,
-        bucket: 64,
-        mode: Mode::Writethrough,
-        offset: 16,
+    let leaf = l.sector(12);
+    let block = l.block as usize;
+    let (sector, kind) = match number {
+        0 => (8, Kind::Super),
+        1 => (l.sector(1), Kind::Entry),
+        2 | 3 => (l.sector(1) + block, Kind::Entry),
+        4 => (l.sector(9), Kind::Generations { bucket: l.bucket }),
+        5 => (l.sector(10), Kind::Table),
+        6 | 7 => (l.sector(11), Kind::Set { node: l.sector(11) }),
+        8 => (leaf, Kind::Set { node: leaf }),
+        9 | 10 => (leaf + block, Kind::Set { node: leaf }),
+        _ => (l.sector(28), Kind::Set { node: l.sector(28) }),
     };
-    format(alloc, &mut cache, &mut backing, &pair)?;
-    let first = bytes_of(alloc, &cache)?;
-    let second = bytes_of(alloc, &backing)?;
-    Ok((first, second))
+    Record { sector, kind }
 }
 
-// Writes entry 2 behind entry 1: sectors 0 to 7 are clean in bucket 13, and 16 to 23 dirty.
-fn put_entry(bytes: &mut [u8])
-    requires { 4194304 ≤ length bytes.old }
+// How many bytes of a record tell something.
+fn telling(bytes: &[u8], what: &Record) -> usize
+    requires sector { what.now.sector < 16384 }
+    requires within { 512 * what.now.sector + 512 ≤ length bytes.now }
+    ensures { (8 ≤ result) × (result ≤ 424) }
+{
+    match what.kind {
+        Kind::Super => 280,
+        Kind::Generations { .. } => 424,
+        Kind::Table => 128,
+        Kind::Entry | Kind::Set { .. } => sealed(bytes, 512 * what.sector, what.kind).min(424),
+    }
+}
+
+// Changes a random bit of a record, which in seven of eight cases is sealed again.
+fn flip(bytes: &mut [u8], what: &Record, random: &mut Random)
+    requires sector { what.now.sector < 16384 }
+    requires within { 512 * what.now.sector + 512 ≤ length bytes.old }
     ensures { length bytes.new ≡ length bytes.old }
 {
-    let mut sector = [0; 512];
-    sector.copy_from_slice(&bytes[64 * 512..65 * 512]);
-    put_u64(&mut sector, 16, 2);
-    put_u32(&mut sector, 28, 6);
-    put_words(&mut sector, 240, &[CLEAN, 8, 832 << 8, DIRTY, 24, 840 << 8]);
-    let sum = crc64(u64::MAX, &sector[8..288]);
-    put_u64(&mut sector, 0, sum);
-    bytes[65 * 512..66 * 512].copy_from_slice(&sector);
+    let at = 512 * what.sector + random.below(telling(bytes, what));
+    bytes[at] ^= 1 << random.below(8);
+    if random.below(8) != 0 {
+        seal(bytes, what);
+    }
 }
 
-// Writes a second set into the leaf: sectors 32 to 39 are dirty in bucket 14.
-fn put_set(bytes: &mut [u8])
-    requires { 4194304 ≤ length bytes.old }
+// Copies a random word of a record to the place of another one, and seals it.
+fn repeat(bytes: &mut [u8], what: &Record, random: &mut Random)
+    requires sector { what.now.sector < 16384 }
+    requires within { 512 * what.now.sector + 512 ≤ length bytes.old }
     ensures { length bytes.new ≡ length bytes.old }
 {
-    let mut sector = [0; 512];
-    sector.copy_from_slice(&bytes[768 * 512..769 * 512]);
-    put_u32(&mut sector, 28, 3);
-    put_words(&mut sector, 32, &[DIRTY, 40, 896 << 8]);
-    let sum = crc64(768 << 8, &sector[8..56]);
-    put_u64(&mut sector, 0, sum);
-    bytes[769 * 512..770 * 512].copy_from_slice(&sector);
+    let words = telling(bytes, what) / 8;
+    let from = 512 * what.sector + 8 * random.below(words);
+    let to = 512 * what.sector + 8 * random.below(words);
+    let word = get_u64(bytes, from);
+    put_u64(bytes, to, word);
+    seal(bytes, what);
 }
 
-// The dirty sectors of the cache device are full of sevens.
-fn put_data(bytes: &mut [u8])
-    requires { 4194304 ≤ length bytes.old }
+// Puts the first entry once more at a random block of the journal, with a number from 0 to 4.
+fn stray(bytes: &mut [u8], l: &Layout, random: &mut Random)
+    requires { length bytes.old ≡ 512 * (128 * l.now.bucket) }
     ensures { length bytes.new ≡ length bytes.old }
 {
-    bytes[840 * 512..848 * 512].fill(7);
-    bytes[896 * 512..904 * 512].fill(7);
+    let first = l.sector(1);
+    let place = first + random.below(8 * l.bucket as usize);
+    let place = place - place % l.block as usize;
+    let mut entry = [0; 512];
+    entry.copy_from_slice(&bytes[512 * first..512 * first + 512]);
+    entry[16] = random.below(5) as u8;
+    bytes[512 * place..512 * place + 512].copy_from_slice(&entry);
+    let what = Record {
+        sector: place,
+        kind: Kind::Entry,
+    };
+    seal(bytes, &what);
 }
 
-/// The same pair with an entry of two keys and a second set of one key in its leaf, which is sound:
-/// its sectors 16 to 23 and 32 to 39 are dirty and full of sevens, and all others zero.
-pub fn rich_pair(alloc: Global) -> Result<(Vec<u8>, Vec<u8>), PairError>
-    ensures cache { IfOk result (λ r. AreSectors r.0.items) }
-    ensures backing { IfOk result (λ r. AreSectors r.1.items) }
-{
-    let (mut cache, backing) = new_pair(alloc)?;
-    if cache.len() < CACHE_BYTES {
-        return Ok((cache, backing));
-    }
-    put_entry(&mut cache);
-    put_set(&mut cache);
-    put_data(&mut cache);
-    Ok((cache, backing))
-}
-
-// How many bytes of the record at a sector its checksum covers, its own eight among them.
-fn sealed(bytes: &[u8], sector: usize) -> usize
-    requires sector { sector < 1000 }
-    requires within { 512 * sector + 512 ≤ length bytes.now }
-    ensures some { 8 ≤ result }
-    ensures few { result ≤ 2 ^ 36 }
-{
-    let at = 512 * sector;
-    if sector == 8 {
-        return 208 + 8 * get_u16(bytes, at + 206) as usize;
-    }
-    if sector < 100 {
-        return 240 + 8 * get_u32(bytes, at + 28) as usize;
-    }
-    if sector < 700 {
-        return 32768;
-    }
-    32 + 8 * get_u32(bytes, at + 28) as usize
-}
-
-// What the checksum of the record at a sector starts from.
-fn start_of(sector: usize) -> u64 {
-    match sector {
-        704 => 704 << 8,
-        768 | 769 => 768 << 8,
-        _ => u64::MAX,
-    }
-}
-
-/// Gives the record at a sector the checksum of its bytes; none where these would be more than
-/// there are.
-pub fn seal(bytes: &mut [u8], sector: usize)
-    requires sector { sector < 1000 }
-    requires within { 512 * sector + 512 ≤ length bytes.old }
+// Changes a random bit of the backing device's superblock.
+fn flip_backing(bytes: &mut [u8], random: &mut Random)
+    requires { length bytes.old ≡ 512 * 336 }
     ensures { length bytes.new ≡ length bytes.old }
 {
-    let at = 512 * sector;
-    let end = at + sealed(bytes, sector);
-    if end > bytes.len() {
+    let what = Record {
+        sector: 8,
+        kind: Kind::Super,
+    };
+    flip(bytes, &what, random);
+}
+
+// Gives the backing device a random mode and a random state.
+fn put_flags(bytes: &mut [u8], random: &mut Random)
+    requires { length bytes.old ≡ 512 * 336 }
+    ensures { length bytes.new ≡ length bytes.old }
+{
+    let (mode, state) = (random.below(4) as u64, random.below(3) as u64);
+    put_u64(bytes, 512 * 8 + 104, mode + (state << 61));
+    let what = Record {
+        sector: 8,
+        kind: Kind::Super,
+    };
+    seal(bytes, &what);
+}
+
+// Gives the newest entry one of the last numbers that there are, of which it needs no older one.
+fn put_number(bytes: &mut [u8], l: &Layout, random: &mut Random)
+    requires { length bytes.old ≡ 512 * (128 * l.now.bucket) }
+    ensures { length bytes.new ≡ length bytes.old }
+{
+    let sector = l.sector(1) + l.block as usize;
+    let number = (1 << 63) - 4 + random.below(4) as u64;
+    put_u64(bytes, 512 * sector + 16, number);
+    put_u64(bytes, 512 * sector + 32, number);
+    let what = Record {
+        sector,
+        kind: Kind::Entry,
+    };
+    seal(bytes, &what);
+}
+
+// Puts a pointer to a random place among the first buckets into a random word of a record.
+fn point(bytes: &mut [u8], what: &Record, random: &mut Random)
+    requires sector { what.now.sector < 16384 }
+    requires within { 512 * what.now.sector + 512 ≤ length bytes.old }
+    ensures { length bytes.new ≡ length bytes.old }
+{
+    let at = 512 * what.sector + 8 * random.below(telling(bytes, what) / 8);
+    let place = 64 * random.below(32) as u64;
+    put_u64(bytes, at, place << 8);
+    seal(bytes, what);
+}
+
+// Changes a bit of the backing device's data.
+fn flip_data(bytes: &mut [u8], random: &mut Random)
+    requires { length bytes.old ≡ 512 * 336 }
+    ensures { length bytes.new ≡ length bytes.old }
+{
+    let at = 512 * 16 + random.below(512 * 320);
+    bytes[at] ^= 1;
+}
+
+// Makes a random change.
+fn change(cache: &mut [u8], backing: &mut [u8], l: &Layout, random: &mut Random)
+    requires cache { length cache.old ≡ 512 * (128 * l.now.bucket) }
+    requires backing { length backing.old ≡ 512 * 336 }
+    ensures cache { length cache.new ≡ length cache.old }
+    ensures backing { length backing.new ≡ length backing.old }
+{
+    let what = record(l, random.below(13));
+    match random.below(24) {
+        0 => stray(cache, l, random),
+        1 => flip_backing(backing, random),
+        2 => flip_data(backing, random),
+        3 => put_flags(backing, random),
+        4 => put_number(cache, l, random),
+        5..=8 => repeat(cache, &what, random),
+        9..=12 => point(cache, &what, random),
+        _ => flip(cache, &what, random),
+    }
+}
+
+/// Makes one, two or three random changes in a pair of this layout, in the records of its cache
+/// device, the superblock of its backing device, or its data; none where the devices have other
+/// sizes.
+pub fn edit(cache: &mut [u8], backing: &mut [u8], l: &Layout, random: &mut Random)
+    ensures cache { length cache.new ≡ length cache.old }
+    ensures backing { length backing.new ≡ length backing.old }
+{
+    if cache.len() != 512 * l.sectors() || backing.len() != 512 * BACKING {
         return;
     }
-    let sum = crc64(start_of(sector), &bytes[at + 8..end]);
-    put_u64(bytes, at, sum);
-}
-
-/// Changes a bit of a byte of the record at a sector.
-pub fn flip(bytes: &mut [u8], sector: usize, byte: usize, bit: u8)
-    requires sector { sector < 1000 }
-    requires byte { byte < 512 }
-    requires bit { bit < 8 }
-    requires within { 512 * sector + 512 ≤ length bytes.old }
-    ensures { length bytes.new ≡ length bytes.old }
-{
-    bytes[512 * sector + byte] ^= 1 << bit;
-}
-
-// Changes a random bit of a random record, which in three of four cases is sealed again.
-fn edit(bytes: &mut [u8], random: u64)
-    requires { 4194304 ≤ length bytes.old }
-    ensures { length bytes.new ≡ length bytes.old }
-{
-    let sector = RECORDS[(random / 256 % 8) as usize];
-    let byte = (random / 2048 % 300) as usize;
-    let bit = (random / 1048576 % 8) as u8;
-    if sector >= 1000 {
-        return;
+    change(cache, backing, l, random);
+    if random.below(2) == 0 {
+        change(cache, backing, l, random);
     }
-    flip(bytes, sector, byte, bit);
-    if random / 8388608 % 4 != 0 && sector != 640 {
-        seal(bytes, sector);
+    if random.below(4) == 0 {
+        change(cache, backing, l, random);
     }
-}
-
-/// The bytes of both devices of a pair that the number makes: the one of `rich_pair` with one or two
-/// random changes in the records of its cache device.
-pub fn edited_pair(alloc: Global, number: u64) -> Result<(Vec<u8>, Vec<u8>), PairError>
-    ensures cache { IfOk result (λ r. AreSectors r.0.items) }
-    ensures backing { IfOk result (λ r. AreSectors r.1.items) }
-{
-    let (mut cache, backing) = rich_pair(alloc)?;
-    if cache.len() < CACHE_BYTES {
-        return Ok((cache, backing));
-    }
-    let first = next(number);
-    let second = next(first);
-    edit(&mut cache, first);
-    if second / 65536 % 2 == 0 {
-        edit(&mut cache, next(second));
-    }
-    Ok((cache, backing))
 }

@@ -8,7 +8,7 @@ ghost use Rattle.bc_record.specs.Sectors.{in_blocks};
 ghost use Rattle.bc_set.specs.declared.error.SetError.{SetError};
 ghost use Rattle.bc_set.specs.declared.set.Set.{Set};
 ghost use Rattle.bc_set.specs.Records.{set_kind, set_sectors, numbered_kind};
-ghost use Rattle.bc_image.specs.Tree.{Node, kind_at, set_keys, tree_keys, AreSetsAt, AreWalks, IsWalk};
+ghost use Rattle.bc_image.specs.Tree.{Node, kind_at, node_of, set_keys, tree_keys, AreSetsAt, AreWalks, IsWalk};
 ghost use Rattle.bc_plain_pair.specs.PairBytes.{Finds};
 
 use crate::bytes::bytes_in;
@@ -205,6 +205,31 @@ pub fn node_sets(
     let mut sets = Vec::new(alloc);
     add_further(alloc, image, g, word, kind, end, ptr.offset, seq, &mut sets)?;
     Ok(Some(sets))
+}
+
+/// The node of a level that a key points to; nothing where there is none.
+pub fn node_at(
+    alloc: Global,
+    image: &[u8],
+    g: &Geometry,
+    level: u16,
+    from: u64,
+    key: &Key,
+) -> Result<Option<Node>, AllocError>
+    ensures { IfOk result (λ o. MatchOption o
+        ((sets : List Set) → AreSetsAt g.now (image_of image.now) level key.now sets → ⊥)
+        (λ n. (n ≡ node_of level from key.now n.sets)
+        × AreSetsAt g.now (image_of image.now) level key.now n.sets)) }
+{
+    let Some(sets) = node_sets(alloc, image, g, level, key)? else {
+        return Ok(None);
+    };
+    Ok(Some(Node {
+        level,
+        from,
+        key: *key,
+        sets,
+    }))
 }
 
 /// The keys of sets, set after set.

@@ -43,6 +43,26 @@ impl Model for Reading {
 }
 
 impl Reading {
+    /// A reading of these parts.
+    pub fn new(
+        entries: Vec<Placed<JEntry>>,
+        newest: Placed<JEntry>,
+        gens: Gens,
+        nodes: Vec<Node>,
+    ) -> Reading
+        ensures entries { result.entries ≡ entries.items }
+        ensures newest { result.newest ≡ newest }
+        ensures gens { result.gens ≡ gens }
+        ensures nodes { result.nodes ≡ nodes.items }
+    {
+        Reading {
+            entries,
+            newest,
+            gens,
+            nodes,
+        }
+    }
+
     /// The entries of the journal, oldest first.
     pub fn entries(&self) -> &[Placed<JEntry>]
         ensures { result.now ≡ self.now.entries }
@@ -83,8 +103,8 @@ impl Reading {
     }
 }
 
-// The same entry once more.
-fn copy(alloc: Global, found: &Placed<JEntry>) -> Result<Placed<JEntry>, AllocError>
+/// The same entry once more.
+pub fn copy(alloc: Global, found: &Placed<JEntry>) -> Result<Placed<JEntry>, AllocError>
     ensures { IfOk result (λ e. e ≡ found.now) }
 {
     let entry = &found.item;
@@ -156,6 +176,26 @@ impl Model for View {
 }
 
 impl View {
+    /// A view of these parts.
+    pub fn new(
+        backing: BackingSuper,
+        cache: CacheSuper,
+        geometry: Geometry,
+        reading: Reading,
+    ) -> View
+        ensures backing { result.backing ≡ backing }
+        ensures cache { result.cache ≡ cache }
+        ensures geometry { result.geometry ≡ geometry }
+        ensures reading { result.reading ≡ reading }
+    {
+        View {
+            backing,
+            cache,
+            geometry,
+            reading,
+        }
+    }
+
     /// What the backing device says of itself.
     pub fn backing(&self) -> &BackingSuper
         ensures { result.now ≡ self.now.backing }

@@ -13,6 +13,8 @@
 #![tactic(auto)]
 
 mod parent;
+#[cfg(test)]
+mod tests;
 mod write;
 
 pub use parent::write_parent;

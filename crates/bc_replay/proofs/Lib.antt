@@ -14,3 +14,4 @@ pub mod Surveyed
 pub mod Refuses
 pub mod Once
 pub mod Opens
+pub mod Ends

@@ -84,20 +84,20 @@ module _ (cache backing : DiskFacts) (c b : Image) (tells : cache.holds ≡ Some
     | inr large ↦ inr (large, cache_why cache c why tells large unless cause)
   ]
 
-  first_super : (e : OpenError) → IsSupersCause cache backing e → (e ≢ errors.Fault device.Cache) → (e ≢ errors.Fault device.Backing) → IsFirstHead pair e
-  first_super (errors.Super device.Backing why) (inl own) n m = inl (backing_refused why own)
-  first_super (errors.Super device.Backing why) (inr (s, gives, inl other)) n m = absurd other
-  first_super (errors.Super device.Backing why) (inr (s, gives, inr (k, given, misfit))) n m =
+  first_super : (old new : ℕ) (e : OpenError) → IsSupersCause cache backing old new e → (e ≢ errors.Fault device.Cache) → (e ≢ errors.Fault device.Backing) → IsFirstHead pair e
+  first_super old new (errors.Super device.Backing why) (inl own) n m = inl (backing_refused why own.0)
+  first_super old new (errors.Super device.Backing why) (inr (s, gives, calls, inl other)) n m = absurd other
+  first_super old new (errors.Super device.Backing why) (inr (s, gives, calls, inr (k, given, misfit))) n m =
       inr (s, k, backing_read backing pair s told refl gives.0 gives.1, cache_read cache pair k tells refl given.0 given.1, misfit.0, misfit.1, misfit.2)
-  first_super (errors.Super device.Cache why) (inl own) n m = absurd own
-  first_super (errors.Super device.Cache why) (inr (s, gives, inl own)) n m = inl (s, backing_read backing pair s told refl gives.0 gives.1, cache_refused why own)
-  first_super (errors.Super device.Cache why) (inr (s, gives, inr (k, given, misfit))) n m =
+  first_super old new (errors.Super device.Cache why) (inl own) n m = absurd own.0
+  first_super old new (errors.Super device.Cache why) (inr (s, gives, calls, inl own)) n m = inl (s, backing_read backing pair s told refl gives.0 gives.1, cache_refused why own)
+  first_super old new (errors.Super device.Cache why) (inr (s, gives, calls, inr (k, given, misfit))) n m =
       inr (s, k, backing_read backing pair s told refl gives.0 gives.1, cache_read cache pair k tells refl given.0 given.1, misfit.0, misfit.1)
-  first_super (errors.Fault device.Cache) cause n m = absurd (n refl)
-  first_super (errors.Fault device.Backing) cause n m = absurd (m refl)
-  first_super e (inl own) n m = absurd own
-  first_super e (inr (s, gives, inl own)) n m = absurd own
-  first_super e (inr (s, gives, inr (k, given, misfit))) n m = absurd misfit
+  first_super old new (errors.Fault device.Cache) cause n m = absurd (n refl)
+  first_super old new (errors.Fault device.Backing) cause n m = absurd (m refl)
+  first_super old new e (inl own) n m = absurd own.0
+  first_super old new e (inr (s, gives, calls, inl own)) n m = absurd own
+  first_super old new e (inr (s, gives, calls, inr (k, given, misfit))) n m = absurd misfit
 
   has_supers : (s : BackingSuper) (k : CacheSuper) (g : Geometry) → ReadsSupers cache backing s k g → HasSupers pair s k g
   has_supers s k g reads = record {
@@ -125,13 +125,13 @@ module _ (cache backing : DiskFacts) (c b : Image) (tells : cache.holds ≡ Some
   heads s k g j gens reads has = record { supers = has_supers s k g reads; journal = has.journal; chain = has.chain; uuids = has.uuids }
 
 module _ (cache backing : DiskFacts) where
-  first_of : (e : OpenError) → e ≢ errors.Fault device.Cache → e ≢ errors.Fault device.Backing → IsSupersCause cache backing e → OfHeld (λ p. IsFirstHead p e) cache backing
-  first_of e n m cause = of_both (λ p. IsFirstHead p e) cache backing (λ c b tells told. first_super cache backing c b tells told e cause n m)
+  first_of : (old new : ℕ) (e : OpenError) → e ≢ errors.Fault device.Cache → e ≢ errors.Fault device.Backing → IsSupersCause cache backing old new e → OfHeld (λ p. IsFirstHead p e) cache backing
+  first_of old new e n m cause = of_both (λ p. IsFirstHead p e) cache backing (λ c b tells told. first_super cache backing c b tells told old new e cause n m)
 
-  pub supers_cause : (e : OpenError) → IsSupersCause cache backing e → IsOpenCause cache backing e
-  supers_cause (errors.Fault d) cause = tt
-  supers_cause errors.Memory cause = tt
-  supers_cause e cause = first_of e (λ is. cc) (λ is. cc) cause
+  pub supers_cause : (old new : ℕ) (e : OpenError) → IsSupersCause cache backing old new e → IsOpenCause cache backing e
+  supers_cause old new (errors.Fault d) cause = tt
+  supers_cause old new errors.Memory cause = tt
+  supers_cause old new e cause = first_of old new e (λ is. cc) (λ is. cc) cause
 
   behind_of : (mid : DiskFacts) (s : BackingSuper) (k : CacheSuper) (g : Geometry) (e : OpenError) → ReadsSupers cache backing s k g → IsKept cache mid → IfTold mid.holds (IsBehindFirst g s.uuid e) → OfHeld (λ p. IsFirstHead p e) cache backing
   behind_of mid s k g e reads kept cause =
@@ -141,6 +141,7 @@ module _ (cache backing : DiskFacts) where
   pub behind_cause : (mid : DiskFacts) (s : BackingSuper) (k : CacheSuper) (g : Geometry) (e : OpenError) → ReadsSupers cache backing s k g → IsKept cache mid → IsBehindCause mid g s.uuid e → IsOpenCause cache backing e
   behind_cause mid s k g (errors.Fault d) reads kept cause = tt
   behind_cause mid s k g errors.Memory reads kept cause = tt
+  behind_cause mid s k g (errors.Super d why) reads kept cause = absurd cause
   behind_cause mid s k g e reads kept cause = behind_of mid s k g e reads kept cause
 
   pub heads_held : (mid : DiskFacts) (s : BackingSuper) (k : CacheSuper) (g : Geometry) (j : Journal) (gens : Gens) → ReadsSupers cache backing s k g → IsKept cache mid → IfTold mid.holds (λ image. HasBehind g image s.uuid j gens)

@@ -31,7 +31,7 @@ use Rattle.bc_replay.specs.Index.{rule_by}
 use Rattle.bc_replay.specs.Judge.{IsKnown, IsJudged, IsFirstOf, IsJudgedCause, held_of}
 use Rattle.bc_replay.specs.Replay.{IsIndex, HasIndex, IsIndexCause, entry_keys}
 use Rattle.bc_replay.specs.Used.{Held}
-use Rattle.bc_replay.specs.Survey.{Indexed, HasIndexed, OfIndex, IsFirst, IsSurveyCause, HasSurvey}
+use Rattle.bc_replay.specs.Survey.{Indexed, OfIndex, IsFirst, IsSurveyCause, HasSurvey}
 use Rattle.bc_replay.proofs.Behind.{told_back}
 use Rattle.bc_replay.proofs.Surveyed.{known, surveyed}
 
@@ -166,7 +166,7 @@ module _ (cache backing mid : DiskFacts) (b : BackingSuper) (c : CacheSuper) (g 
     judged_cause (errors.NoSpare found) judges = with_known (λ p. IsFirst p (errors.NoSpare found)) (λ p k. of_index p k (λ r h. IsFirstOf r h (errors.NoSpare found)) (here (errors.NoSpare found) p k judges))
     judged_cause (errors.Fault d) judges = tt
     judged_cause errors.Memory judges = tt
-    judged_cause (errors.Super d why) judges = with_known (λ p. IsFirst p (errors.Super d why)) (λ p k. absurd (here (errors.Super d why) p k judges))
+    judged_cause (errors.Super d why) judges = absurd judges
     judged_cause errors.NoJournal judges = with_known (λ p. IsFirst p errors.NoJournal) (λ p k. absurd (here errors.NoJournal p k judges))
     judged_cause (errors.JournalGap from to) judges = with_known (λ p. IsFirst p (errors.JournalGap from to)) (λ p k. absurd (here (errors.JournalGap from to) p k judges))
     judged_cause (errors.JournalEnd seq) judges = with_known (λ p. IsFirst p (errors.JournalEnd seq)) (λ p k. absurd (here (errors.JournalEnd seq) p k judges))

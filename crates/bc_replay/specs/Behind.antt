@@ -41,6 +41,7 @@ abbrev pub IsBehindCause : DiskFacts → Geometry → List ℕ → OpenError →
 IsBehindCause d g uuid (errors.Fault device.Cache) = Unit {0}
 IsBehindCause d g uuid (errors.Fault device.Backing) = ⊥
 IsBehindCause d g uuid errors.Memory = Unit {0}
+IsBehindCause d g uuid (errors.Super k why) = ⊥
 IsBehindCause d g uuid e = IfTold d.holds (IsBehindFirst g uuid e)
 
 -- why the generations aren't had that begin in a bucket

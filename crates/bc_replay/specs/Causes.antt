@@ -71,10 +71,20 @@ pub record ReadsSupers (cache backing : DiskFacts) (b : BackingSuper) (c : Cache
   pub fit : HasSuperblocks b c
   pub geometry : IsGeometryOf c g
 
--- why they aren't had: the backing device's first, then the cache device's, then both
-abbrev pub IsSupersCause : DiskFacts → DiskFacts → OpenError → Type 0
-IsSupersCause cache backing e = IsBackingCause backing e ⊎ ((b : BackingSuper) × GivesBacking backing b
+-- one call of a device with so many sectors; none of one that is too small for a superblock
+abbrev pub IsReadOnce : ℕ → ℕ → ℕ → Type 0
+IsReadOnce sectors old new = (16 ≤ sectors → new ≡ next_count old) × (sectors < 16 → new ≡ old)
+
+-- Why they aren't had, and the cache device's count of calls before and behind its part: the backing device's first, and then the
+-- cache device isn't called; then the cache device's; then both.
+abbrev pub IsSupersCause : DiskFacts → DiskFacts → ℕ → ℕ → OpenError → Type 0
+IsSupersCause cache backing old new e = (IsBackingCause backing e × (new ≡ old)) ⊎ ((b : BackingSuper) × GivesBacking backing b × IsReadOnce cache.sectors old new
     × (IsCacheCauseOf cache e ⊎ ((c : CacheSuper) × GivesCache cache c × IsMisfit b c e)))
+
+-- so it is where a pair is refused for a superblock
+abbrev pub EndsAtSupers : DiskFacts → DiskFacts → ℕ → ℕ → OpenError → Type 0
+EndsAtSupers cache backing old new (errors.Super d why) = IsSupersCause cache backing old new (errors.Super d why)
+EndsAtSupers cache backing old new e = Unit {0}
 
 -- ---- counts of faults
 

@@ -1,7 +1,6 @@
 -- What is said of a pair whose index was read, by the pointers and the buckets in it.
 use Rattle.std.specs.Prelude.{ℕ, ◌<◌, ◌≤◌, true, List, Option, All}
 use Rattle.bc_disk.specs.Gens.{Gens}
-use Rattle.bc_disk.specs.declared.geometry.Geometry.{Geometry}
 use Rattle.bc_image.specs.Pointers.{PointsIntoData}
 use Rattle.bc_key.specs.declared.key.Key.{Key}
 use Rattle.bc_prio.specs.Chain.{IsPlace}
@@ -45,4 +44,5 @@ pub record IsJudged (r : Rule) (h : Held) (table : List Use) : Type 0 where
 abbrev pub IsJudgedCause : Rule → Gens → Key → List Visit → List Key → Option ℕ → OpenError → Type 0
 IsJudgedCause r gens uuid_bucket seen index word (errors.Fault d) = ⊥
 IsJudgedCause r gens uuid_bucket seen index word errors.Memory = Unit {0}
+IsJudgedCause r gens uuid_bucket seen index word (errors.Super k why) = ⊥
 IsJudgedCause r gens uuid_bucket seen index word e = (keys : List Key) → IsKnown r gens uuid_bucket seen keys index word → IsFirstOf r (held_of r gens uuid_bucket seen keys) e

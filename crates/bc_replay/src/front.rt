@@ -2,7 +2,7 @@
 ghost use Rattle.std.specs.Prelude.{◌≡◌, ◌*◌, ◌≤◌, IfOk, IfErr, OnOk};
 ghost use Rattle.bc_disk.specs.Disk.{IsKept};
 ghost use Rattle.bc_replay.specs.Heads.{HasHeads};
-ghost use Rattle.bc_replay.specs.Causes.{CountsFault, IsOpenCause, OfHeld};
+ghost use Rattle.bc_replay.specs.Causes.{CountsFault, EndsAtSupers, IsOpenCause, IsReadOnce, OfHeld};
 
 use crate::error::OpenError;
 use crate::heads::read_behind;
@@ -40,6 +40,8 @@ pub fn read_heads<C: Disk, B: Disk>(
     ensures room { IfOk result (λ f. f.supers.geometry.bucket * f.supers.geometry.nbuckets
         ≤ (C.facts cache.new).sectors) }
     ensures refused { IfErr result (IsOpenCause (C.facts cache.old) (B.facts backing.old)) }
+    ensures supers { IfErr result (EndsAtSupers (C.facts cache.old) (B.facts backing.old)
+        (C.facts cache.old).calls (C.facts cache.new).calls) }
     ensures cache_kept { IsKept (C.facts cache.old) (C.facts cache.new) }
     ensures backing_kept { IsKept (B.facts backing.old) (B.facts backing.new) }
     ensures faults { IfErr result (λ e. CountsFault e (C.facts cache.old) (C.facts cache.new)
@@ -47,6 +49,8 @@ pub fn read_heads<C: Disk, B: Disk>(
     ensures cache_good { OnOk result ((C.facts cache.new).faults ≡ (C.facts cache.old).faults) }
     ensures backing_good { OnOk result
         ((B.facts backing.new).faults ≡ (B.facts backing.old).faults) }
+    ensures backing_called { IsReadOnce (B.facts backing.old).sectors (B.facts backing.old).calls
+        (B.facts backing.new).calls }
 {
     let supers = read_supers(cache, backing)?;
     let uuid = supers.backing.uuid;

@@ -1,9 +1,10 @@
 //! The superblocks of a pair.
 ghost use Rattle.std.specs.Prelude.{◌≡◌, ◌≢◌, ◌*◌, ◌≤◌, IfOk, IfErr, OnOk};
+ghost use Rattle.bc_disk.specs.Device.{next_count};
 ghost use Rattle.bc_disk.specs.Disk.{IsKept};
 ghost use Rattle.bc_image.specs.Sound.{HasSuperblocks};
 ghost use Rattle.bc_super.specs.Super.{state_number};
-ghost use Rattle.bc_replay.specs.Causes.{GivesBacking, GivesCache, IsBackingCause, IsCacheCauseOf, IsMisfit, RisesWith, ReadsSupers, IsSupersCause, CountsFault, refusal};
+ghost use Rattle.bc_replay.specs.Causes.{GivesBacking, GivesCache, IsBackingCause, IsCacheCauseOf, IsMisfit, RisesWith, ReadsSupers, IsReadOnce, IsSupersCause, CountsFault, refusal};
 
 use crate::error::OpenError;
 use bc_disk::disk::{Device, Disk};
@@ -41,6 +42,8 @@ fn backing_of<B: Disk>(backing: &mut B) -> Result<BackingSuper, OpenError>
     ensures refused { IfErr result (IsBackingCause (B.facts backing.old)) }
     ensures kept { IsKept (B.facts backing.old) (B.facts backing.new) }
     ensures faults { RisesWith result (B.facts backing.old).faults (B.facts backing.new).faults }
+    ensures called { IsReadOnce (B.facts backing.old).sectors (B.facts backing.old).calls
+        (B.facts backing.new).calls }
 {
     match read_backing(backing) {
         Ok(b) => Ok(b),
@@ -54,6 +57,8 @@ fn cache_of<C: Disk>(cache: &mut C) -> Result<CacheSuper, OpenError>
     ensures refused { IfErr result (IsCacheCauseOf (C.facts cache.old)) }
     ensures kept { IsKept (C.facts cache.old) (C.facts cache.new) }
     ensures faults { RisesWith result (C.facts cache.old).faults (C.facts cache.new).faults }
+    ensures called { IsReadOnce (C.facts cache.old).sectors (C.facts cache.old).calls
+        (C.facts cache.new).calls }
 {
     match read_cache(cache) {
         Ok(c) => Ok(c),
@@ -93,7 +98,8 @@ pub fn read_supers<C: Disk, B: Disk>(cache: &mut C, backing: &mut B) -> Result<S
         s.backing s.cache s.geometry) }
     ensures room { IfOk result
         (λ s. s.geometry.bucket * s.geometry.nbuckets ≤ (C.facts cache.new).sectors) }
-    ensures refused { IfErr result (IsSupersCause (C.facts cache.old) (B.facts backing.old)) }
+    ensures refused { IfErr result (IsSupersCause (C.facts cache.old) (B.facts backing.old)
+        (C.facts cache.old).calls (C.facts cache.new).calls) }
     ensures cache_kept { IsKept (C.facts cache.old) (C.facts cache.new) }
     ensures backing_kept { IsKept (B.facts backing.old) (B.facts backing.new) }
     ensures faults { IfErr result (λ e. CountsFault e (C.facts cache.old) (C.facts cache.new)
@@ -101,6 +107,10 @@ pub fn read_supers<C: Disk, B: Disk>(cache: &mut C, backing: &mut B) -> Result<S
     ensures cache_good { OnOk result ((C.facts cache.new).faults ≡ (C.facts cache.old).faults) }
     ensures backing_good { OnOk result
         ((B.facts backing.new).faults ≡ (B.facts backing.old).faults) }
+    ensures cache_called { OnOk result
+        ((C.facts cache.new).calls ≡ next_count (C.facts cache.old).calls) }
+    ensures backing_called { IsReadOnce (B.facts backing.old).sectors (B.facts backing.old).calls
+        (B.facts backing.new).calls }
 {
     let b = backing_of(backing)?;
     let c = cache_of(cache)?;

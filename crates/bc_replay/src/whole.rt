@@ -3,7 +3,7 @@ ghost use Rattle.std.specs.Prelude.{◌≡◌, ◌*◌, ◌≤◌, true, List, I
 ghost use Rattle.bc_disk.specs.Disk.{IsKept};
 ghost use Rattle.bc_key.specs.declared.key.Key.{Key};
 ghost use Rattle.bc_super.specs.Super.{data_sectors};
-ghost use Rattle.bc_replay.specs.Causes.{CountsFault, OfHeld};
+ghost use Rattle.bc_replay.specs.Causes.{CountsFault, EndsAtSupers, IsReadOnce, OfHeld};
 ghost use Rattle.bc_replay.specs.Index.{IsIndexed};
 ghost use Rattle.bc_replay.specs.Judge.{IsKnown, IsJudged, IsJudgedCause, held_of};
 ghost use Rattle.bc_replay.specs.Limits.{rule_in};
@@ -103,6 +103,8 @@ pub fn survey<C: Disk, B: Disk>(
     ensures room { IfOk result (λ s. s.supers.geometry.bucket * s.supers.geometry.nbuckets
         ≤ (C.facts cache.new).sectors) }
     ensures refused { IfErr result (IsSurveyCause (C.facts cache.old) (B.facts backing.old)) }
+    ensures supers { IfErr result (EndsAtSupers (C.facts cache.old) (B.facts backing.old)
+        (C.facts cache.old).calls (C.facts cache.new).calls) }
     ensures cache_kept { IsKept (C.facts cache.old) (C.facts cache.new) }
     ensures backing_kept { IsKept (B.facts backing.old) (B.facts backing.new) }
     ensures faults { IfErr result (λ e. CountsFault e (C.facts cache.old) (C.facts cache.new)
@@ -110,6 +112,8 @@ pub fn survey<C: Disk, B: Disk>(
     ensures cache_good { OnOk result ((C.facts cache.new).faults ≡ (C.facts cache.old).faults) }
     ensures backing_good { OnOk result
         ((B.facts backing.new).faults ≡ (B.facts backing.old).faults) }
+    ensures backing_called { IsReadOnce (B.facts backing.old).sectors (B.facts backing.old).calls
+        (B.facts backing.new).calls }
 {
     let front = read_heads(alloc, cache, backing)?;
     let Front {

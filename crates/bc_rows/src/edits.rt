@@ -55,6 +55,9 @@ type Record = (usize, usize, u64);
 
 const NONE: Record = (0, 0, 0);
 
+/// What `check` prints of a pair without data on its cache device.
+const SOUND: &str = "check sound dirty 0 clean 0\n";
+
 /// Why an edited pair is refused, by its number.
 #[derive(Clone, Copy, Debug, PartialEq, Eq, Drop)]
 enum Refusal {
@@ -252,6 +255,11 @@ fn edited_pairs_are_refused(rt: HostRuntime) -> Result<(), Fail> {
 }
 
 #[test]
+fn a_check_refuses_edited_pairs(rt: HostRuntime) -> Result<(), Fail> {
+    test_edits(&rt, rt.alloc(), "check")
+}
+
+#[test]
 fn a_version_with_feature_words(rt: HostRuntime) -> Result<(), Fail> {
     let alloc = rt.alloc();
     let superblock = (SUPER, SUPER + 272, ONES);
@@ -265,6 +273,7 @@ backing version 1 offset 16 size 4096 mode writethrough state clean
 backing uuid ba0000000000000000000000000000ba set 5e70000000000000000000000000005e
 ";
     let pair = test_run(&rt, alloc, pair, "show", text, 0)?;
+    let pair = test_run(&rt, alloc, pair, "check", SOUND, 0)?;
     test_run(&rt, alloc, pair, "serve", "unserved\n", 5)?;
     Ok(())
 }
@@ -282,6 +291,7 @@ fn a_set_of_version_0(rt: HostRuntime) -> Result<(), Fail> {
         leaf,
         CACHE_SECTORS,
     )?;
+    let pair = test_run(&rt, alloc, pair, "check", SOUND, 0)?;
     test_run(&rt, alloc, pair, "serve", "unserved\n", 5)?;
     Ok(())
 }

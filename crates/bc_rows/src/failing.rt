@@ -2,7 +2,7 @@
 ghost use Rattle.std.specs.Prelude.{◌≡◌, ◌*◌, length};
 
 use crate::serving::{image, serve, source};
-use bc_core::pass::Pass;
+use bc_book::pass::Pass;
 use bc_disk::crash::Pick;
 use bc_disk::mem_disk::MemDisk;
 use bc_disk::mem_sink::MemSink;
@@ -16,8 +16,9 @@ use std::process::Abort;
 use std::sync::Wait;
 use std::test::Fail;
 
-/// Writes, flushes and reads that cross the end of a piece. They make 13 calls of the device.
-const TRACE: &str = "1 w 250 12 1\n1 f\n1 w 0 4 2\n1 r 248 16\n1 w 252 6 3\n1 f\n1 r 0 8\n";
+/// Writes, flushes and reads that cross the end of a piece, and a forced write that does. They make
+/// 17 calls of the device.
+const TRACE: &str = "1 w 250 12 1\n1 f\n1 w 0 4 2\n1 r 248 16\n1 W 254 4 4\n1 w 252 6 3\n1 f\n1 r 0 8\n";
 
 /// The sectors before the data.
 const OFFSET: usize = 16;
@@ -178,14 +179,14 @@ fn test_stop<R: Abort + Wait>(rt: &R, alloc: Global, opening: &[u8], calls: u64)
 {
     let mut device = MemDisk::new(alloc, Vec::from_slice(alloc, opening)?, 64)?;
     device.stop_after(calls);
-    test_served(rt, alloc, opening, device, if 13 <= calls { 0 } else { 6 })
+    test_served(rt, alloc, opening, device, if 17 <= calls { 0 } else { 6 })
 }
 
 #[test]
 fn each_call_fails_or_is_the_last(rt: HostRuntime) -> Result<(), Fail> {
     let alloc = rt.alloc();
     let opening = image(alloc, OFFSET + SIZE, false)?;
-    for call in 0..14 {
+    for call in 0..18 {
         test_fault(&rt, alloc, &opening, call)?;
         test_stop(&rt, alloc, &opening, call)?;
     }

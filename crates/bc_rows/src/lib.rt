@@ -6,6 +6,8 @@ mod edits;
 #[cfg(test)]
 mod failing;
 #[cfg(test)]
+mod forced;
+#[cfg(test)]
 mod lines;
 #[cfg(test)]
 mod pair;

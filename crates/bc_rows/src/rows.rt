@@ -84,7 +84,9 @@ fn refused_lines(rt: HostRuntime) -> Result<(), Fail> {
         ("1 r z 1", "trace 1 3\n"),
         ("1 r 0 1 9", "trace 1 2\n"),
         ("1 f\n2 w 0 8 7\n", "trace 2 5\n"),
-        ("1 f\n1 W 0 8 7\n", "trace 2 2\n"),
+        ("1 f\n1 W 0 8\n", "trace 2 2\n"),
+        ("1 f\n1 W 0 8 0\n", "trace 2 4\n"),
+        ("1 f\n2 W 0 8 7\n", "trace 2 5\n"),
     ] {
         test_row(&rt, alloc, "serve", trace, text, 3)?;
     }

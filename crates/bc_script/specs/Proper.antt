@@ -6,7 +6,6 @@ use Rattle.bc_script.specs.declared.line.Action.{Action}
 use Rattle.bc_script.specs.declared.line.Action.TheVariants.{Write, ForcedWrite, Read, Flush, Round}
 use Rattle.bc_script.specs.declared.line.Line.{Line}
 use Rattle.bc_script.specs.declared.line.Line.TheVariants.{Silent, Request}
-use Rattle.bc_script.specs.Serving.{IsServedAction}
 
 abbrev pub IsRange : ℕ → ℕ → Type 0
 IsRange first count = (first ≤ 2 ^ 40) × (1 ≤ count) × (count ≤ 2048)
@@ -23,10 +22,9 @@ IsProperForm Quiet = Unit {0}
 IsProperForm PhaseEnd = Unit {0}
 IsProperForm (Asked worker action) = (1 ≤ worker) × (worker ≤ 16) × IsProper action
 
--- a request that is served: so far of the first worker, and no forced write
+-- a request that is served: so far of the first worker
 pub record IsRequest (worker : ℕ) (action : Action) : Type 0 where
   pub worker_is : worker ≡ 1
-  pub served : IsServedAction action
   pub proper : IsProper action
 
 abbrev pub IsLine : Line → Type 0

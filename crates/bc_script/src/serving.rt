@@ -2,12 +2,11 @@
 //! read, so that it is never answered `done` for what wasn't done.
 ghost use Rattle.std.specs.Prelude.{◌≡◌, ℕ, IfOk};
 ghost use Rattle.bc_script.specs.Proper.{IsProperForm, IsLine};
-ghost use Rattle.bc_script.specs.Serving.{if_served, is_forced, is_of_other_worker};
+ghost use Rattle.bc_script.specs.Serving.{if_served, is_of_other_worker};
 ghost use Rattle.bc_script.specs.Trace.{line_of};
 ghost use Rattle.bc_script.specs.declared.form.Form.{Form};
 
 use crate::form::Form;
-use crate::line::Action;
 use crate::reason::Reason;
 
 // Workers 2 to 16 aren't served yet.
@@ -20,19 +19,6 @@ fn is_of_other_worker(form: Form) -> bool
     }
 }
 
-// Forced writes aren't served yet.
-fn is_forced(form: Form) -> bool
-    ensures { result ≡ is_forced form }
-{
-    matches!(
-        form,
-        Form::Asked {
-            action: Action::ForcedWrite { .. },
-            ..
-        }
-    )
-}
-
 /// The form, where it is served.
 pub(crate) fn if_served(form: Form) -> Result<Form, Reason>
     requires { IsProperForm form }
@@ -41,8 +27,6 @@ pub(crate) fn if_served(form: Form) -> Result<Form, Reason>
 {
     if is_of_other_worker(form) {
         Err(Reason::Worker)
-    } else if is_forced(form) {
-        Err(Reason::Word)
     } else {
         Ok(form)
     }

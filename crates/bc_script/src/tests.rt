@@ -110,14 +110,13 @@ fn lines_are_read(rt: HostRuntime) {
 #[test]
 fn lines_are_refused(rt: HostRuntime) -> Result<(), Fail> {
     let alloc = rt.alloc();
-    let texts: [(&[u8], u32, u8); 24] = [
+    let texts: [(&[u8], u32, u8); 23] = [
         (b"1 x 0 8", 1, 2),
         (b"1", 1, 2),
         (b"1 ww 0 1 1", 1, 2),
         (b"1 f\n1 w 0 1", 2, 2),
         (b"1 r 0 1 9", 1, 2),
         (b"1 b 1", 1, 2),
-        (b"1 W 0 8 7", 1, 2),
         (b"1 w 0 0", 1, 4),
         (b"1 r 0 0", 1, 4),
         (b"1 r 0 2049", 1, 4),

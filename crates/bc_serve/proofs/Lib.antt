@@ -6,3 +6,4 @@ pub mod Lines
 pub mod Failing
 pub mod Whole
 pub mod Ran
+pub mod Counted

@@ -106,6 +106,7 @@ module _ {C B : Type 0} (cache_facts : C → DiskFacts) (backing_facts : B → D
         (fold after (opening cache_facts backing_facts ps) w.seen)) c.begun.start.1 stands;
     served = subst (λ (es : List Entry). Served backing.size lines answers es) (sym entries) c.served.served;
     seen = o.seen;
+    alone = both.alone;
     by_line = subst (λ (es : List Event). AreServedBy backing.size 16 1 lines answers es o.seen) us
         (subst (λ n. AreServedBy backing.size n 1 lines answers u.seen o.seen) uf c.served.by_line);
     last = c.last;

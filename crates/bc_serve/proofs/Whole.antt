@@ -86,6 +86,7 @@ closed_entries closing.Memory ds seen h = (ap entries_by h, subst CallsBacking (
 
 -- what both seats know of the run as it ends
 pub record IsWhole (ds last : List Deed) (seen events : List Event) : Type 0 where
+  pub alone : seen ≡ own 16 seen
   pub lines : seen ≡ map (by 16) ds
   pub all : events ≡ seen ++ map (by 0) last
 
@@ -126,6 +127,7 @@ module _ {C B : Type 0} (cache_facts : C → DiskFacts) (backing_facts : B → D
       (sym (own_both 0 x.seen more) ∙ ap (λ (l : List Event). own 0 l) (sym closed.grown.seen)
       ∙ ap (λ n. own n w.seen) (sym (closed.same.first ∙ xf)) ∙ closed.own
       ∙ ap (λ n. own n x.seen ++ map (by n) last) xf) in record {
+        alone = alone_o;
         lines = alone_o ∙ own_o;
         all = closed.grown.seen ∙ ap (λ (l : List Event). l ++ more) same
             ∙ ap (λ (l : List Event). o.seen ++ l) (alone_more ∙ own_more);

@@ -54,7 +54,8 @@ module _ {C B : Type 0} (cache_facts : C → DiskFacts) (backing_facts : B → D
 
   -- The pass tells the events of a run from the opening state over this device, and the device that is
   -- left stands for the state that they leave. The answers and the history serve the lines, each line
-  -- by its own deeds, and behind the lines the run was closed.
+  -- by its own deeds, of the one seat that did anything by then, and behind the lines the run was
+  -- closed.
   pub record HasRun (backing left : BackingPart B) (lines : List Line) (answers : List Answer)
       (how : Closing) (events : List Event) (pass : Pass) : Type 0 where
     pub flight : InFlight
@@ -66,6 +67,7 @@ module _ {C B : Type 0} (cache_facts : C → DiskFacts) (backing_facts : B → D
         (state_after (core cache_facts backing_facts) (opening_parts flight backing) events)
     pub served : Served backing.size lines answers pass.entries.items
     pub seen : List Event
+    pub alone : seen ≡ own 16 seen
     pub by_line : AreServedBy backing.size 16 1 lines answers [] seen
     pub last : List Deed
     pub closing : events ≡ seen ++ map (by 0) last

@@ -11,10 +11,11 @@ use Rattle.bc_image.specs.Sound.{ServesAlone}
 use Rattle.bc_image.proofs.Supers.{backing_read}
 use Rattle.bc_output.specs.Message.{message_text}
 use Rattle.bc_pair.specs.Found.{pair_of}
-use Rattle.bc_replay.specs.Causes.{CountsFault, OfHeld}
+use Rattle.bc_replay.specs.Causes.{CountsFault, EndsAtSupers, OfHeld}
 use Rattle.bc_replay.specs.Survey.{CanBeOpened, IsFirst, IsSurveyCause}
 use Rattle.bc_replay.specs.declared.error.OpenError.{OpenError}
 use Rattle.bc_replay.specs.declared.error.OpenError.TheVariants as errors
+use Rattle.bc_replay.proofs.Ends.{end_before}
 use Rattle.bc_replay.proofs.Once.{never_both, one_refusal}
 use Rattle.bc_replay.proofs.Opens.{held_map}
 use Rattle.bc_replay.proofs.Pairs.{backing_refused, of_both}
@@ -29,7 +30,7 @@ use Rattle.bc_top.specs.Top.{AnswersPair, AreSame, EndsAnswering, IsServeCause, 
 use Rattle.bc_top.specs.declared.stop.Stop.{Stop}
 use Rattle.bc_top.specs.declared.stop.Stop.TheVariants as stop
 use Rattle.bc_top.proofs.Completing.{never_refused}
-use Rattle.bc_top.proofs.Raising.{next_rises}
+use Rattle.bc_serve.proofs.Failing.{next_rises}
 use Rattle.bc_top.proofs.Settled.{both_same}
 
 -- ---- the pair that two devices hold
@@ -89,22 +90,33 @@ module _ (cache settled cache' backing backing' : DiskFacts) (size : settled.sec
   pub held_settled : (P : Pair → Type 0) → OfHeld P settled backing → OfHeld P cache backing
   held_settled P = held_before P cache settled backing backing size kept refl (both_self backing.holds)
 
-  pub survey_cause : (e : OpenError) → IsSurveyCause settled backing e → CountsFault e settled cache' backing backing' → IsPairCause cache cache' backing backing' e
-  survey_cause (errors.Fault device.Cache) cause counts = next_risen cache.faults cache'.faults (subst (λ n. cache'.faults ≡ next_count n) good counts.0)
-  survey_cause (errors.Fault device.Backing) cause counts = next_risen backing.faults backing'.faults counts.1
-  survey_cause errors.Memory cause counts = tt
-  survey_cause e cause counts = (held_settled (λ p. IsFirst p e) cause, (counts.0 ∙ good, counts.1))
+  pub survey_cause : settled.calls ≡ next_count cache.calls → (e : OpenError) → IsSurveyCause settled backing e → CountsFault e settled cache' backing backing' → EndsAtSupers settled backing settled.calls cache'.calls e → backing'.calls ≡ next_count backing.calls
+      → IsPairCause cache cache' backing backing' backing.calls e
+  survey_cause calls (errors.Fault device.Cache) cause counts ends again = next_risen cache.faults cache'.faults (subst (λ n. cache'.faults ≡ next_count n) good counts.0)
+  survey_cause calls (errors.Fault device.Backing) cause counts ends again = next_risen backing.faults backing'.faults counts.1
+  survey_cause calls errors.Memory cause counts ends again = tt
+  survey_cause calls e cause counts ends again = (
+    held_settled (λ p. IsFirst p e) cause,
+    (counts.0 ∙ good, counts.1),
+    again,
+    end_before cache settled backing backing size kept refl (both_self backing.holds) (next_count cache.calls) cache'.calls e (subst (λ n. EndsAtSupers settled backing n cache'.calls e) calls ends),
+  )
 
 -- the same of a backing device that was opened before
 module _ (cache cache' backing opened backing' : DiskFacts) (size : opened.sectors ≡ backing.sectors) (kept : BothTold SameImage backing.holds opened.holds) (good : opened.faults ≡ backing.faults) where
   pub opened_held : (P : Pair → Type 0) → OfHeld P cache opened → OfHeld P cache backing
   opened_held P = held_before P cache cache backing opened refl (both_self cache.holds) size kept
 
-  pub opened_cause : (e : OpenError) → IsPairCause cache cache' opened backing' e → IsPairCause cache cache' backing backing' e
-  opened_cause (errors.Fault device.Cache) cause = cause
-  opened_cause (errors.Fault device.Backing) cause = subst (λ n. HasRisen n backing'.faults) good cause
-  opened_cause errors.Memory cause = tt
-  opened_cause e cause = (opened_held (λ p. IsFirst p e) cause.0, (cause.1.0, cause.1.1 ∙ good))
+  pub opened_cause : opened.calls ≡ next_count (next_count backing.calls) → (e : OpenError) → IsPairCause cache cache' opened backing' opened.calls e → IsPairCause cache cache' backing backing' (next_count (next_count backing.calls)) e
+  opened_cause calls (errors.Fault device.Cache) cause = cause
+  opened_cause calls (errors.Fault device.Backing) cause = subst (λ n. HasRisen n backing'.faults) good cause
+  opened_cause calls errors.Memory cause = tt
+  opened_cause calls e cause = (
+    opened_held (λ p. IsFirst p e) cause.0,
+    (cause.1.0, cause.1.1 ∙ good),
+    subst (λ n. backing'.calls ≡ next_count n) calls cause.2,
+    end_before cache cache backing opened refl (both_self cache.holds) size kept (next_count cache.calls) cache'.calls e cause.3,
+  )
 
 -- ---- why a pair isn't opened
 
@@ -117,11 +129,16 @@ module _ (cache cache' backing opened backing' : DiskFacts) (s : BackingSuper) (
   asks : AsksForCache backing
   asks = (s, reads_before backing opened is.sectors is.holds s is.reads, never)
 
-  pub opening_refused : (e : OpenError) → IsPairCause cache cache' opened backing' e → IsOpeningCause cache cache' backing backing' (stop_of e)
-  opening_refused e cause = inr (asks, inl (e, refl, opened_cause cache cache' backing opened backing' is.sectors is.holds is.faults e cause))
+  pub opening_refused : (e : OpenError) → IsPairCause cache cache' opened backing' opened.calls e → IsOpeningCause cache cache' backing backing' (stop_of e)
+  opening_refused e cause = inr (asks, inl (e, refl, opened_cause cache cache' backing opened backing' is.sectors is.holds is.faults is.calls e cause))
 
-  pub opening_unserved : OfHeld CanBeOpened cache opened → AreQuiet cache cache' opened backing' → IsOpeningCause cache cache' backing backing' stop.Unserved
-  opening_unserved can quiet = inr (asks, inr (refl, opened_held cache cache' backing opened backing' is.sectors is.holds is.faults CanBeOpened can, (quiet.0, quiet.1 ∙ is.faults)))
+  pub opening_unserved : OfHeld CanBeOpened cache opened → AreQuiet cache cache' opened backing' → backing'.calls ≡ next_count opened.calls → IsOpeningCause cache cache' backing backing' stop.Unserved
+  opening_unserved can quiet again =
+      inr (asks, inr (refl, opened_held cache cache' backing opened backing' is.sectors is.holds is.faults CanBeOpened can, (quiet.0, quiet.1 ∙ is.faults), subst (λ n. backing'.calls ≡ next_count n) is.calls again))
+
+-- a device that has a superblock has room for it
+pub has_room : (d : DiskFacts) (s : BackingSuper) → ReadsSuper d s → 16 ≤ d.sectors
+has_room d s reads = let begins = reads.2.usable.data_offset in let low = begins.0 in let high = begins.1 in omega arith
 
 -- ---- what is answered
 
@@ -136,15 +153,15 @@ module _ (cache cache' backing backing' : DiskFacts) (same : AreSame cache cache
       (of_both (λ p. IsFirst p (errors.Super device.Backing why)) cache' backing' (λ c b tells told. inl (backing_refused cache' backing' c b tells told why refuses.0)))
   lone_first e cause = absurd cause
 
-  pair_first : (why : Stop) (e : OpenError) → why ≡ stop_of e → IsPairCause cache cache' backing backing' e → OfHeld (Answers why) cache backing
-  pair_first why (errors.Fault device.Cache) is rose = absurd (still (inl rose))
-  pair_first why (errors.Fault device.Backing) is rose = absurd (still (inr rose))
-  pair_first why errors.Memory is cause = held_all (Answers why) cache backing (λ p. inl is)
-  pair_first why e is cause = held_map (λ p. IsFirst p e) (Answers why) cache backing (λ p first. inr (inl (e, first, is))) cause.0
+  pair_first : (calls : ℕ) (why : Stop) (e : OpenError) → why ≡ stop_of e → IsPairCause cache cache' backing backing' calls e → OfHeld (Answers why) cache backing
+  pair_first calls why (errors.Fault device.Cache) is rose = absurd (still (inl rose))
+  pair_first calls why (errors.Fault device.Backing) is rose = absurd (still (inr rose))
+  pair_first calls why errors.Memory is cause = held_all (Answers why) cache backing (λ p. inl is)
+  pair_first calls why e is cause = held_map (λ p. IsFirst p e) (Answers why) cache backing (λ p first. inr (inl (e, first, is))) cause.0
 
   answers : (why : Stop) → IsOpeningCause cache cache' backing backing' why → OfHeld (Answers why) cache backing
   answers why (inl lone) = held_map (λ p. IsFirst p lone.0) (Answers why) cache backing (λ p first. inr (inl (lone.0, first, lone.1))) (lone_first lone.0 lone.2)
-  answers why (inr (asked, inl refused)) = pair_first why refused.0 refused.1 refused.2
+  answers why (inr (asked, inl refused)) = pair_first (next_count (next_count backing.calls)) why refused.0 refused.1 refused.2
   answers why (inr (asked, inr none)) = held_map CanBeOpened (Answers why) cache backing (λ p can. inr (inr ((λ e first. never_both p can.0 can.1 can.2 e first), none.0))) none.1
 
   served : (source left : StreamFacts) (why : Stop) → SpellsTrace source → (HasRisen source.faults left.faults → ⊥) → IsServeCause why source left cache cache' backing backing' → OfHeld (Answers why) cache backing
@@ -188,7 +205,4 @@ nine_answers source left cache cache' backing backing' status old new nine = λ 
 pub alone_answers : (source left : StreamFacts) (cache cache' backing backing' : DiskFacts) (s : BackingSuper) → ReadsSuper backing s → IsPassThrough s → (status : ℕ) (old new : StreamFacts) → AnswersPair source left cache cache' backing backing' status old new
 alone_answers source left cache cache' backing backing' s reads alone status old new = λ spells quiet still.
     of_both (λ p. (ServesAlone p → ⊥) → EndsAnswering p status old new) cache backing (λ c b tells told never.
-    absurd (never (s, backing_read backing (pair_of cache backing c b) s told refl large reads, alone)))
-  where
-    large : 16 ≤ backing.sectors
-    large = let begins = reads.2.usable.data_offset in let low = begins.0 in let high = begins.1 in omega arith
+    absurd (never (s, backing_read backing (pair_of cache backing c b) s told refl (has_room backing s reads) reads, alone)))

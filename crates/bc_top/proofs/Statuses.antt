@@ -1,6 +1,5 @@
 -- What the status of a run tells.
-use Rattle.std.proofs.Common.{◌≡◌, ◌⊎◌, inl, inr, ℕ, suc, Bool, true, false, ◌||◌, List, [], ◌∷◌, Option, None, refl, sym, ap, ◌∙◌, subst, arith}
-use Rattle.std.proofs.lemmas.List.Elements.{All-head, All-tail}
+use Rattle.std.proofs.Common.{◌≡◌, ◌⊎◌, inl, inr, ℕ, suc, Bool, true, false, ◌||◌, List, [], ◌∷◌, ◌++◌, Option, None, refl, sym, ap, ◌∙◌, subst, arith}
 use Rattle.std.specs.Prelude.{All, Result, Ok, Err, MatchResult, OnOk, IfErr}
 use Rattle.std.specs.List.{list_any}
 use Rattle.std.specs.Result.{is_err}
@@ -8,17 +7,16 @@ use Rattle.bc_disk.specs.Device.{HasRisen, next_count}
 use Rattle.bc_disk.specs.Disk.{DiskFacts}
 use Rattle.bc_disk.specs.Stream.{StreamFacts}
 use Rattle.bc_model.specs.declared.history.Entry.{Entry}
-use Rattle.bc_core.specs.State.{Setup, opened}
-use Rattle.bc_core.specs.declared.event.Event.{Event}
-use Rattle.bc_core.specs.declared.pass.Pass.{Pass}
+use Rattle.bc_book.specs.declared.pass.Pass.{Pass}
+use Rattle.bc_events.specs.declared.event.Event.{Event}
+use Rattle.bc_machine.specs.declared.part.BackingPart.{BackingPart}
 use Rattle.bc_script.specs.declared.line.Action.{Action}
 use Rattle.bc_script.specs.declared.line.Action.TheVariants.{Write, ForcedWrite, Read, Flush, Round}
 use Rattle.bc_script.specs.declared.line.Line.{Line}
 use Rattle.bc_script.specs.declared.line.Line.TheVariants as line
 use Rattle.bc_script.specs.Proper.{IsLine}
-use Rattle.bc_script.specs.Serving.{IsServedAction}
 use Rattle.bc_script.proofs.Marks.{of_first, one_by_one}
-use Rattle.bc_top.specs.Causes.{IsCausedBy}
+use Rattle.bc_serve.specs.Run.{AreServedBy, HasRun}
 use Rattle.bc_script.specs.declared.answer.Answer.{Answer}
 use Rattle.bc_script.specs.declared.answer.Answer.TheVariants.{Silent, Done, Runs, Refused}
 use Rattle.bc_script.specs.declared.answer.Refusal.TheVariants as refusal
@@ -33,11 +31,12 @@ use Rattle.bc_output.specs.Put.{Takes, IsWriteFault}
 use Rattle.bc_output.proofs.Taken.{took_nothing}
 use Rattle.bc_output.proofs.Standing.{all_whole}
 use Rattle.bc_top.specs.Ended.{says_fault, says_memory, has_failed, status_of_end, message_of_end, ArePut, IsPutBehind, IsEnd, IsDone, HasStopped}
-use Rattle.bc_top.specs.Run.{HasRun}
 use Rattle.bc_top.specs.Stops.{IsRefusal}
-use Rattle.bc_top.specs.declared.closing.Closing.{Closing}
-use Rattle.bc_top.specs.declared.closing.Closing.TheVariants as closing
-use Rattle.bc_top.proofs.Raising.{SomeFailed, next_rises, rises, said_failed, closed_failed}
+use Rattle.bc_serve.specs.declared.closing.Closing.{Closing}
+use Rattle.bc_serve.specs.declared.closing.Closing.TheVariants as closing
+use Rattle.bc_serve.proofs.Counted.{run_rises}
+use Rattle.bc_serve.proofs.Failing.{failed_in, failed_left, next_rises}
+use Rattle.bc_top.proofs.Raising.{said_failed, closed_failed}
 
 -- no run ends with another status than these
 abbrev pub IsEndStatus : ℕ → Type 0
@@ -83,51 +82,96 @@ none false closing.Done true cut is = absurd (let no : 9 ≡ 0 = is in omega ari
 none false closing.Done false true is = absurd (let no : 8 ≡ 0 = is in omega arith)
 none false closing.Done false false is = (refl, refl, refl, refl)
 
+-- of buckets, the journal and nodes such a run says nothing
+abbrev pub IsPlain : Answer → Type 0
+IsPlain (Refused (refusal.NoBucket purpose none_len own_len)) = ⊥
+IsPlain (Refused refusal.JournalEnd) = ⊥
+IsPlain (Refused (refusal.Node bucket why)) = ⊥
+IsPlain a = Unit {0}
+
+abbrev pub ArePlain : List Answer → Type 0
+ArePlain [] = Unit {0}
+ArePlain (a ∷ others) = IsPlain a × ArePlain others
+
+plain_one : (a : Answer) (seen : List Event) (ds : _) → Rattle.bc_serve.specs.Causes.IsCaused a seen ds → IsPlain a
+plain_one (Refused (refusal.NoBucket purpose none_len own_len)) seen ds h = h
+plain_one (Refused refusal.JournalEnd) seen ds h = h
+plain_one (Refused (refusal.Node bucket why)) seen ds h = h
+plain_one a seen ds h = tt
+
+pub all_plain : (size i number : ℕ) (ls : List Line) (answers : List Answer) (before last : List Event)
+    → AreServedBy size i number ls answers before last → ArePlain answers
+all_plain size i number [] [] before last served = tt
+all_plain size i number [] (a ∷ others) before last served = absurd served
+all_plain size i number (l ∷ ls) [] before last served = tt
+all_plain size i number (l ∷ ls) (a ∷ others) before last served = (
+  plain_one a (before ++ served.0) served.1 served.2.caused,
+  all_plain size i (suc number) ls others (before ++ served.0) last served.3,
+)
+
 -- a request that says neither fault nor memory was answered others it should be
-asked : (size worker number : ℕ) (es : List Event) (action : Action) (answer : Answer) (own : List Entry) → ServesAction size worker number action answer own → IsServedAction action → IsCausedBy es answer → says_fault answer ≡ false → says_memory answer ≡ false → IsAsked size action answer
-asked size worker number es (ForcedWrite first count stamp) answer own serves done why f m = absurd done
-asked size worker number es (Write first count stamp) Silent own serves done why f m = absurd serves
-asked size worker number es (Write first count stamp) Done own serves done why f m = inl (serves.0, refl)
-asked size worker number es (Write first count stamp) (Runs at values) own serves done why f m = absurd serves
-asked size worker number es (Write first count stamp) (Refused refusal.OutOfRange) own serves done why f m = inr (serves.0, refl)
-asked size worker number es (Read first count) Silent own serves done why f m = absurd serves
-asked size worker number es (Read first count) Done own serves done why f m = absurd serves
-asked size worker number es (Read first count) (Runs at values) own serves done why f m = inl (serves.0, (values, ap (λ n. Runs n values) serves.1))
-asked size worker number es (Read first count) (Refused refusal.OutOfRange) own serves done why f m = inr (serves.0, refl)
-asked size worker number es Flush Silent own serves done why f m = absurd serves
-asked size worker number es Flush Done own serves done why f m = refl
-asked size worker number es Flush (Runs at values) own serves done why f m = absurd serves
-asked size worker number es Flush (Refused refusal.OutOfRange) own serves done why f m = absurd serves
-asked size worker number es (Round round) Silent own serves done why f m = absurd serves
-asked size worker number es (Round round) Done own serves done why f m = refl
-asked size worker number es (Round round) (Runs at values) own serves done why f m = absurd serves
-asked size worker number es (Round round) (Refused refusal.OutOfRange) own serves done why f m = absurd (serves.1 tt)
-asked size worker number es action (Refused (refusal.NoBucket purpose none_len own_len)) own serves done why f m = absurd why
-asked size worker number es action (Refused refusal.JournalEnd) own serves done why f m = absurd why
-asked size worker number es action (Refused (refusal.Node bucket number')) own serves done why f m = absurd why
-asked size worker number es action (Refused (refusal.Fault d)) own serves done why f m = absurd (cc)
-asked size worker number es action (Refused (refusal.Halted d)) own serves done why f m = absurd (cc)
-asked size worker number es action (Refused refusal.Memory) own serves done why f m = absurd (cc)
+asked : (size worker number : ℕ) (action : Action) (answer : Answer) (own : List Entry)
+    → ServesAction size worker number action answer own → IsPlain answer → says_fault answer ≡ false → says_memory answer ≡ false → IsAsked size action answer
+asked size worker number (ForcedWrite first count stamp) Silent own serves why f m = absurd serves
+asked size worker number (ForcedWrite first count stamp) Done own serves why f m = inl (serves.0, refl)
+asked size worker number (ForcedWrite first count stamp) (Runs at values) own serves why f m = absurd serves
+asked size worker number (ForcedWrite first count stamp) (Refused refusal.OutOfRange) own serves why f m =
+    inr (serves.0, refl)
+asked size worker number (Write first count stamp) Silent own serves why f m = absurd serves
+asked size worker number (Write first count stamp) Done own serves why f m = inl (serves.0, refl)
+asked size worker number (Write first count stamp) (Runs at values) own serves why f m = absurd serves
+asked size worker number (Write first count stamp) (Refused refusal.OutOfRange) own serves why f m = inr (serves.0, refl)
+asked size worker number (Read first count) Silent own serves why f m = absurd serves
+asked size worker number (Read first count) Done own serves why f m = absurd serves
+asked size worker number (Read first count) (Runs at values) own serves why f m = inl (serves.0, (values, ap (λ n. Runs n values) serves.1))
+asked size worker number (Read first count) (Refused refusal.OutOfRange) own serves why f m = inr (serves.0, refl)
+asked size worker number Flush Silent own serves why f m = absurd serves
+asked size worker number Flush Done own serves why f m = refl
+asked size worker number Flush (Runs at values) own serves why f m = absurd serves
+asked size worker number Flush (Refused refusal.OutOfRange) own serves why f m = absurd serves
+asked size worker number (Round round) Silent own serves why f m = absurd serves
+asked size worker number (Round round) Done own serves why f m = refl
+asked size worker number (Round round) (Runs at values) own serves why f m = absurd serves
+asked size worker number (Round round) (Refused refusal.OutOfRange) own serves why f m = absurd (serves.1 tt)
+asked size worker number action (Refused (refusal.NoBucket purpose none_len own_len)) own serves why f m = absurd why
+asked size worker number action (Refused refusal.JournalEnd) own serves why f m = absurd why
+asked size worker number action (Refused (refusal.Node bucket number')) own serves why f m = absurd why
+asked size worker number action (Refused (refusal.Fault d)) own serves why f m = absurd (cc)
+asked size worker number action (Refused (refusal.Halted d)) own serves why f m = absurd (cc)
+asked size worker number action (Refused refusal.Memory) own serves why f m = absurd (cc)
 
 -- so was a line
-answered : (size number : ℕ) (es : List Event) (l : Line) (answer : Answer) (own : List Entry) → ServesLine size number l answer own → IsLine l → IsCausedBy es answer → says_fault answer ≡ false → says_memory answer ≡ false → IsAnswered size l answer
-answered size number es line.Silent answer own serves is why f m = serves.0
-answered size number es (line.Request worker phase action) answer own serves is why f m = asked size worker number es action answer own serves is.served why f m
+answered : (size number : ℕ) (l : Line) (answer : Answer) (own : List Entry)
+    → ServesLine size number l answer own → IsPlain answer → says_fault answer ≡ false → says_memory answer ≡ false → IsAnswered size l answer
+answered size number line.Silent answer own serves why f m = serves.0
+answered size number (line.Request worker phase action) answer own serves why f m =
+    asked size worker number action answer own serves why f m
 
 neither : (a b : Bool) → (a || b) ≡ false → (a ≡ false) × (b ≡ false)
 neither true b is = absurd (cc)
 neither false b is = (refl, is)
 
-all_answered : (size number : ℕ) (es : List Event) (lines : List Line) (answers : List Answer) (history : List Entry) → ServedFrom size number lines answers history → All IsLine lines → All (IsCausedBy es) answers → list_any says_fault answers ≡ false → list_any says_memory answers ≡ false → AllAnswered size lines answers
-all_answered size number es [] [] history served are why f m = tt
-all_answered size number es [] (a ∷ others) history served are why f m = absurd served
-all_answered size number es (l ∷ ls) [] history served are why f m = absurd served
-all_answered size number es (l ∷ ls) (a ∷ others) history served are why f m =
+all_answered : (size number : ℕ) (lines : List Line) (answers : List Answer) (history : List Entry)
+    → ServedFrom size number lines answers history → ArePlain answers
+    → list_any says_fault answers ≡ false → list_any says_memory answers ≡ false
+    → AllAnswered size lines answers
+all_answered size number [] [] history served why f m = tt
+all_answered size number [] (a ∷ others) history served why f m = absurd served
+all_answered size number (l ∷ ls) [] history served why f m = absurd served
+all_answered size number (l ∷ ls) (a ∷ others) history served why f m =
     let fs = neither (says_fault a) (list_any says_fault others) f in
     let ms = neither (says_memory a) (list_any says_memory others) m in (
-      answered size number es l a served.0 served.3 (All-head IsLine l ls are) (All-head (IsCausedBy es) a others why) fs.0 ms.0,
-      all_answered size (suc number) es ls others served.1 served.4 (All-tail IsLine l ls are) (All-tail (IsCausedBy es) a others why) fs.1 ms.1,
+      answered size number l a served.0 served.3 why.0 fs.0 ms.0,
+      all_answered size (suc number) ls others served.1 served.4 why.1 fs.1 ms.1,
     )
+
+pub of_lines : {C B : Type 0} (cache_facts : C → DiskFacts) (backing_facts : B → DiskFacts)
+    (backing left : BackingPart B) (lines others : List Line) (answers : List Answer) (how : Closing)
+    (events : List Event) (pass : Pass) → lines ≡ others
+    → HasRun cache_facts backing_facts backing left lines answers how events pass
+    → HasRun cache_facts backing_facts backing left others answers how events pass
+of_lines cache_facts backing_facts backing left lines others answers how events pass is run =
+    subst (λ (ls : List Line). HasRun cache_facts backing_facts backing left ls answers how events pass) is run
 
 -- the sink behind whole lines, where no message follows
 none_behind : (put : Result (Unit {0}) WriteFault) (old new : StreamFacts) → IsPutBehind put None old new → new ≡ old
@@ -202,23 +246,28 @@ module _ (status : ℕ) (answers : List Answer) (how : Closing) (old new : Strea
       left (inr (inr (inl eight))) = absurd (takes (sink_stopped eight))
       left (inr (inr (inr nine))) = inr nine
 
-  pub done : (size : ℕ) (es : List Event) (lines : List Line) (history : List Entry) → All IsLine lines → All (IsCausedBy es) answers → Served size lines answers history → status ≡ 0 → IsDone size lines answers old new
-  done size es lines history are why served is =
+  pub done : (size : ℕ) (lines : List Line) (history : List Entry) → All IsLine lines → ArePlain answers → Served size lines answers history → status ≡ 0 → IsDone size lines answers old new
+  done size lines history are why served is =
       let ends = none (list_any says_fault answers) how (list_any says_memory answers || end.printed.memory_missed) (is_err end.printed.put) (sym end.ends ∙ is) in
       let found = neither (list_any says_memory answers) end.printed.memory_missed ends.2 in
       let no_message : message_of_end (list_any says_fault answers) how (list_any says_memory answers || end.printed.memory_missed) ≡ None = ap (λ (h : Closing). message_of_end (list_any says_fault answers) h (list_any says_memory answers || end.printed.memory_missed)) ends.1 in
       let text = whole end.printed end.printed.put answers old end.between new found.1 end.lines (subst (λ (m : Option Message). IsPutBehind end.printed.put m end.between new) no_message end.message) ends.3 in
-      record { answered = all_answered size 1 es lines answers history (one_by_one size 1 lines answers history (of_first lines are) served) are why ends.0 found.0; text = text.0; are_lines = text.1; taken = text.2 }
+      record { answered = all_answered size 1 lines answers history (one_by_one size 1 lines answers history (of_first lines are) served) why ends.0 found.0; text = text.0; are_lines = text.1; taken = text.2 }
 
   pub closed_whole : status ≡ 0 → how ≡ closing.Done
   closed_whole is = (none _ how _ _ (sym end.ends ∙ is)).1
 
   -- the device failed in this run
-  pub device_failed : (setup : Setup) (lines : List Line) (events : List Event) (pass : Pass) (after : DiskFacts) → HasRun setup lines answers how events pass after → status ≡ 6 → HasRisen setup.backing.faults after.faults
-  device_failed setup lines events pass after run is =
-      let some = failed (six (list_any says_fault answers) how (list_any says_memory answers || end.printed.memory_missed) (is_err end.printed.put) (sym end.ends ∙ is)) in
-      subst (HasRisen setup.backing.faults) (sym run.device.faults) (rises setup (opened setup) events some.0 some.1)
+  pub device_failed : {C B : Type 0} (cache_facts : C → DiskFacts) (backing_facts : B → DiskFacts)
+      (backing left : BackingPart B) (lines : List Line) (events : List Event) (pass : Pass)
+      → HasRun cache_facts backing_facts backing left lines answers how events pass → status ≡ 6
+      → HasRisen (backing_facts backing.disk).faults (backing_facts left.disk).faults
+  device_failed cache_facts backing_facts backing left lines events pass run is =
+      run_rises cache_facts backing_facts backing left lines answers how events pass run
+      (failed (six (list_any says_fault answers) how (list_any says_memory answers || end.printed.memory_missed)
+      (is_err end.printed.put) (sym end.ends ∙ is)))
     where
-      failed : (list_any says_fault answers ≡ true) ⊎ (has_failed how ≡ true) → SomeFailed events
-      failed (inl said) = said_failed events answers run.caused said
-      failed (inr closed) = closed_failed events run.closed.0 run.closed.1 how 0 run.closed.2 run.closed.3 closed
+      failed : (list_any says_fault answers ≡ true) ⊎ (has_failed how ≡ true) → failed_in events ≡ true
+      failed (inl said) = subst (λ (es : List Event). failed_in es ≡ true) (sym run.closing)
+          (failed_left run.seen _ (said_failed backing.size 16 1 lines answers [] run.seen run.by_line said))
+      failed (inr closed) = closed_failed how run.last run.seen events run.closing run.closed closed

@@ -13,15 +13,15 @@ use Rattle.bc_script.specs.Expected.{AllAnswered, answers_of}
 use Rattle.bc_script.specs.Proper.{IsLine}
 use Rattle.bc_script.proofs.Marks.{of_first, one_by_one}
 use Rattle.bc_script.proofs.Outcomes.{outcome_from, answers_same}
-use Rattle.bc_core.specs.declared.pass.Pass.{Pass}
 use Rattle.bc_super.specs.Reading.{ReadsSuper}
 use Rattle.bc_super.specs.declared.backing.BackingSuper.{BackingSuper}
-use Rattle.bc_top.specs.Run.{Survives}
+use Rattle.bc_plain_laws.specs.Promises.{Survives}
 use Rattle.bc_top.specs.Opened.{SameImage}
 
 -- what holds of the image that it held then, from where its superblock says that the data begins
-pub told_before : (d : DiskFacts) (old new : Option Image) (s : BackingSuper) (P : ℕ → Image → Type 0) → BothTold SameImage old new → ReadsSuper d s → IfTold new (P s.data_offset)
-    → IfTold old (λ held. (s : BackingSuper) × ReadsSuper d s × ((image : Image) × SameImage held image × P s.data_offset image))
+pub told_before : (d : DiskFacts) (old new : Option Image) (s : BackingSuper) (P : BackingSuper → Image → Type 0)
+    → BothTold SameImage old new → ReadsSuper d s → IfTold new (P s)
+    → IfTold old (λ held. (s : BackingSuper) × ReadsSuper d s × ((image : Image) × SameImage held image × P s image))
 told_before d None None s P both reads h = tt
 told_before d None (Some image) s P both reads h = absurd both
 told_before d (Some held) None s P both reads h = absurd both
@@ -37,6 +37,8 @@ expected (Some held) (Some image) offset size lines answers history both legal a
     outcome_from size 1 lines answers history (λ s. image (offset + s)) (one_by_one size 1 lines answers history (of_first lines are) served) ((legal_agrees (λ s. image (offset + s)) history).1 legal) all
     ∙ answers_same size lines (λ s. image (offset + s)) (λ s. held (offset + s)) (λ s. both (offset + s))
 
-pub legal_of : (o : Option Image) (offset : ℕ) (pass : Pass) (after : DiskFacts) → IfTold o (λ image. Survives offset image pass after) → IfTold o (λ image. IsLegal (λ s. image (offset + s)) (reverse pass.entries.items))
-legal_of None offset pass after h = tt
-legal_of (Some image) offset pass after h = h.0
+pub legal_of : (o : Option Image) (offset : ℕ) (entries : List Entry) (after : DiskFacts)
+    → IfTold o (λ image. Survives offset image entries after)
+    → IfTold o (λ image. IsLegal (λ s. image (offset + s)) (reverse entries))
+legal_of None offset entries after h = tt
+legal_of (Some image) offset entries after h = h.0

@@ -18,8 +18,8 @@ use Rattle.bc_output.specs.declared.put.WriteFault.{WriteFault}
 use Rattle.bc_output.specs.Lines.{AreLines, StandForAll, IsCut}
 use Rattle.bc_output.specs.Message.{message_text}
 use Rattle.bc_output.specs.Put.{Takes, IsWriteFault}
-use Rattle.bc_top.specs.declared.closing.Closing.{Closing}
-use Rattle.bc_top.specs.declared.closing.Closing.TheVariants as closing
+use Rattle.bc_serve.specs.declared.closing.Closing.{Closing}
+use Rattle.bc_serve.specs.declared.closing.Closing.TheVariants as closing
 
 -- an answer says that a device failed, or had failed before
 abbrev pub says_fault : Answer → Bool

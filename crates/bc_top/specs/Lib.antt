@@ -1,7 +1,4 @@
-pub mod Refusals
 pub mod Run
-pub mod Closed
-pub mod Causes
 pub mod Ended
 pub mod Opened
 pub mod Stops

@@ -5,7 +5,7 @@ use Rattle.bc_disk.specs.Device.{HasRisen, next_count}
 use Rattle.bc_disk.specs.Disk.{DiskFacts, BothTold}
 use Rattle.bc_disk.specs.declared.disk.Device.TheVariants as device
 use Rattle.bc_image.specs.Pair.{Pair}
-use Rattle.bc_replay.specs.Causes.{OfHeld, RefusesBacking}
+use Rattle.bc_replay.specs.Causes.{EndsAtSupers, IsReadOnce, OfHeld, RefusesBacking}
 use Rattle.bc_replay.specs.Survey.{CanBeOpened, IsFirst}
 use Rattle.bc_replay.specs.declared.error.OpenError.{OpenError}
 use Rattle.bc_replay.specs.declared.error.OpenError.TheVariants as errors
@@ -57,10 +57,10 @@ AsksForCache d = (s : BackingSuper) × ReadsSuper d s × (IsPassThrough s → �
 
 -- ---- why a pair isn't served
 
--- a call of the backing device failed, or its superblock has this fault, the first in order
+-- a call of the backing device failed, or its superblock, which was read once behind a barrier, has this fault, the first in order
 abbrev pub IsLoneCause : OpenError → DiskFacts → DiskFacts → Type 0
 IsLoneCause (errors.Fault device.Backing) old new = HasRisen old.faults new.faults
-IsLoneCause (errors.Super device.Backing why) old new = RefusesBacking new why × (new.faults ≡ old.faults)
+IsLoneCause (errors.Super device.Backing why) old new = RefusesBacking new why × (new.faults ≡ old.faults) × IsReadOnce new.sectors (next_count old.calls) new.calls
 IsLoneCause error old new = ⊥
 
 module _ (cache cache' backing backing' : DiskFacts) where
@@ -68,18 +68,27 @@ module _ (cache cache' backing backing' : DiskFacts) where
   abbrev pub AreQuiet : Type 0
   AreQuiet = (cache'.faults ≡ cache.faults) × (backing'.faults ≡ backing.faults)
 
-  -- why a pair is refused of which the backing device asks for a cache: a call of that device failed; or memory ran out; or the
-  -- refusal is the first of the pair, and no call failed
-  abbrev pub IsPairCause : OpenError → Type 0
-  IsPairCause (errors.Fault device.Cache) = HasRisen cache.faults cache'.faults
-  IsPairCause (errors.Fault device.Backing) = HasRisen backing.faults backing'.faults
-  IsPairCause errors.Memory = Unit {0}
-  IsPairCause error = OfHeld (λ p. IsFirst p error) cache backing × AreQuiet
+  -- the backing device had been called so often, and once more since: its superblock is read with the pair
+  abbrev pub IsReadAgain : ℕ → Type 0
+  IsReadAgain calls = backing'.calls ≡ next_count calls
+
+  -- Why a pair is refused of which the backing device asks for a cache: a call of that device failed; or memory ran out; or the
+  -- refusal is the first of the pair, and no call failed. A superblock's is told of what was read, and with how many calls of the
+  -- cache device behind its barrier; the backing device had been called so often before.
+  abbrev pub IsPairCause : ℕ → OpenError → Type 0
+  IsPairCause calls (errors.Fault device.Cache) = HasRisen cache.faults cache'.faults
+  IsPairCause calls (errors.Fault device.Backing) = HasRisen backing.faults backing'.faults
+  IsPairCause calls errors.Memory = Unit {0}
+  IsPairCause calls error = OfHeld (λ p. IsFirst p error) cache backing × AreQuiet × IsReadAgain calls × EndsAtSupers cache backing (next_count cache.calls) cache'.calls error
+
+  -- the calls of the opening until then: a barrier of the backing device and a read
+  abbrev pub opening_calls : ℕ
+  opening_calls = next_count (next_count backing.calls)
 
   -- such a pair is refused, or it isn't and its cache isn't served yet
   abbrev pub IsPairStop : Stop → Type 0
-  IsPairStop why = ((error : OpenError) × (why ≡ stop_of error) × IsPairCause error)
-      ⊎ ((why ≡ stop.Unserved) × OfHeld CanBeOpened cache backing × AreQuiet)
+  IsPairStop why = ((error : OpenError) × (why ≡ stop_of error) × IsPairCause opening_calls error)
+      ⊎ ((why ≡ stop.Unserved) × OfHeld CanBeOpened cache backing × AreQuiet × IsReadAgain opening_calls)
 
   -- The first of these: a cause of the backing device, with which the cache device isn't called, or one of a pair.
   abbrev pub IsOpeningCause : Stop → Type 0

@@ -11,7 +11,7 @@ use Rattle.bc_pair.specs.Found.{FindsAdopted, FindsNew}
 use Rattle.bc_pair.specs.declared.error.PairError.{PairError}
 use Rattle.bc_pair.specs.declared.error.PairError.TheVariants as errors
 use Rattle.bc_pair.specs.declared.pair.NewPair.{NewPair}
-use Rattle.bc_check.specs.Calls.{BothKept, CountsFault, NoneFailed}
+use Rattle.bc_check.specs.Calls.{BothKept, CountsFault, EndsAlone, EndsAtSuper, NoneFailed}
 use Rattle.bc_check.specs.Text.{IsTold}
 use Rattle.bc_check.specs.Verdict.{IsCheckCause}
 use Rattle.bc_check.specs.declared.text.Told.{Told}
@@ -100,6 +100,8 @@ module _ {C B : Type 0} (cache_facts : C → DiskFacts) (backing_facts : B → D
     pub answer : Result Told CheckError
     pub told : IfOk answer (λ r. OfHeld (λ p. IsTold list p r.verdict (string_bytes r.text)) (cache_facts cache) (backing_facts backing))
     pub cause : IfErr answer (IsCheckCause (cache_facts cache) (backing_facts backing))
+    pub supers : IfErr answer (EndsAtSuper (cache_facts cache) (cache_facts cache') (backing_facts backing) (backing_facts backing'))
+    pub alone : IfOk answer (λ r. EndsAlone (cache_facts cache) (cache_facts cache') (backing_facts backing) (backing_facts backing') r.verdict)
     pub kept : BothKept (cache_facts cache) (cache_facts cache') (backing_facts backing) (backing_facts backing')
     pub faults : IfErr answer (λ e. CountsFault e (cache_facts cache) (cache_facts cache') (backing_facts backing) (backing_facts backing'))
     pub good : OnOk answer (NoneFailed (cache_facts cache) (cache_facts cache') (backing_facts backing) (backing_facts backing'))

@@ -1,42 +1,65 @@
--- What the run of a trace over a backing device promises.
-use Rattle.std.specs.Prelude.{◌≡◌, ℕ, ◌+◌, List, ◌++◌, All, reverse}
+-- What a call that served a trace promises.
+use Rattle.std.specs.Prelude.{◌≡◌, List}
+use Rattle.bc_book.specs.declared.pass.Pass.{Pass}
+use Rattle.bc_disk.specs.Disk.{DiskFacts, IfTold}
+use Rattle.bc_disk.specs.Stream.{StreamFacts}
+use Rattle.bc_events.specs.declared.event.Event.{Event}
+use Rattle.bc_machine.specs.declared.part.BackingPart.{BackingPart}
 use Rattle.bc_model.specs.Sector.{Image}
-use Rattle.bc_model.specs.History.{now, IsLegal, Allowed}
-use Rattle.bc_disk.specs.Disk.{DiskFacts, StandsFor}
-use Rattle.bc_disk.specs.Stands.{settled_model}
-use Rattle.bc_core.specs.State.{Setup, opened}
-use Rattle.bc_core.specs.Step.{IsRun, fold}
-use Rattle.bc_core.specs.Pass.{entries_of, events_in}
-use Rattle.bc_core.specs.declared.event.Event.{Event}
-use Rattle.bc_core.specs.declared.pass.Pass.{Pass}
-use Rattle.bc_script.specs.declared.line.Line.{Line}
+use Rattle.bc_plain_laws.specs.Promises.{IsStable, IsUntouched, Survives}
+use Rattle.bc_script.specs.Trace.{IsTrace, IsWhole}
 use Rattle.bc_script.specs.declared.answer.Answer.{Answer}
-use Rattle.bc_script.specs.Served.{Served}
-use Rattle.bc_top.specs.Causes.{IsCausedBy}
-use Rattle.bc_top.specs.Closed.{ClosedBy}
-use Rattle.bc_top.specs.declared.closing.Closing.{Closing}
+use Rattle.bc_script.specs.declared.line.Line.{Line}
+use Rattle.bc_serve.specs.Run.{HasRun}
+use Rattle.bc_serve.specs.declared.closing.Closing.{Closing}
+use Rattle.bc_super.specs.Division.{IsPassThrough}
+use Rattle.bc_super.specs.Reading.{ReadsSuper}
+use Rattle.bc_super.specs.Super.{data_sectors}
+use Rattle.bc_super.specs.declared.backing.BackingSuper.{BackingSuper}
+use Rattle.bc_top.specs.Ended.{AreExpected, IsDone, IsEnd}
+use Rattle.bc_top.specs.Opened.{IsOpened, SameImage}
 
--- what a run over this device stands on, as it begins
-abbrev pub setup_on : DiskFacts → ℕ → ℕ → Setup
-setup_on d offset size = record { backing = settled_model d; offset = offset; size = size }
+-- The pass is that of a run over the device as it was opened, whose answers serve the trace. What
+-- they say, the closing and the sink give the status, and the lines and the message that were put.
+pub record HasServed {C B : Type 0} (cache_facts : C → DiskFacts) (backing_facts : B → DiskFacts)
+    (status : Rattle.std.specs.Prelude.ℕ) (source source' : StreamFacts) (backing backing' : B)
+    (old new : StreamFacts) (pass : Pass) : Type 0 where
+  pub opened : BackingPart B
+  pub left : BackingPart B
+  pub super : BackingSuper
+  pub lines : List Line
+  pub answers : List Answer
+  pub how : Closing
+  pub events : List Event
+  pub alone : IsPassThrough super
+  pub is_opened : IsOpened super (backing_facts backing) (backing_facts opened.disk)
+  pub offset : opened.offset ≡ super.data_offset
+  pub size : opened.size ≡ data_sectors (backing_facts opened.disk).sectors super
+  pub trace : IsTrace lines
+  pub whole : IsWhole source source' lines
+  pub run : HasRun cache_facts backing_facts opened left lines answers how events pass
+  pub left_is : left.disk ≡ backing'
+  pub ends : IsEnd status answers how old new
+  pub done : status ≡ Rattle.std.specs.Prelude.zero → IsDone opened.size lines answers old new
+  pub expected : AreExpected super.data_offset opened.size lines answers (backing_facts backing)
 
--- the pass tells the events of a run from the opening state, the device stands for the state that they leave, the
--- answers and the history serve the lines, each answer that says of a failure has its cause, and the last events closed the run
-pub record HasRun (setup : Setup) (lines : List Line) (answers : List Answer) (how : Closing) (events : List Event) (pass : Pass) (after : DiskFacts) : Type 0 where
-  pub run : IsRun setup (opened setup) events
-  pub told : events_in pass.entries.items pass.beside.items pass.records.items ≡ events
-  pub history : pass.entries.items ≡ entries_of events
-  pub device : StandsFor after (fold setup (opened setup) events).backing
-  pub served : Served setup.size lines answers pass.entries.items
-  pub caused : All (IsCausedBy events) answers
-  pub closed : (before : List Event) × (last : List Event) × (events ≡ before ++ last) × ClosedBy how 0 last events
+-- where the device told what it held: its superblock, and that of the sectors as the run began
+abbrev pub OverHeld : DiskFacts → (BackingSuper → Image → Type 0) → Type 0
+OverHeld d P = IfTold d.holds (λ held. (s : BackingSuper) × ReadsSuper d s
+    × ((image : Image) × SameImage held image × P s image))
 
--- where the device told that it held this image as the run began: the history is legal, and whatever a crash leaves now
--- shows for each sector a value no older than the last acknowledged flush
-abbrev pub Survives : ℕ → Image → Pass → DiskFacts → Type 0
-Survives offset image pass after = IsLegal (λ s. image (offset + s)) (reverse pass.entries.items)
-    × ((left : Image) → after.may_leave left → (s : ℕ) → Allowed (λ s. image (offset + s)) (reverse pass.entries.items) s (left (offset + s)))
+-- The history is legal, and whatever a crash leaves shows for each sector a value no older than the
+-- last acknowledged flush.
+abbrev pub HasSurvived : DiskFacts → DiskFacts → Pass → Type 0
+HasSurvived old new pass = OverHeld old (λ s image.
+    Survives s.data_offset image pass.entries.items new)
 
--- the same where the run was closed: a crash leaves the last writes
-abbrev pub IsStable : ℕ → Image → Pass → DiskFacts → Type 0
-IsStable offset image pass after = (left : Image) → after.may_leave left → (s : ℕ) → left (offset + s) ≡ now (λ s. image (offset + s)) (reverse pass.entries.items) s
+-- It shows each sector's last write.
+abbrev pub HasSettled : DiskFacts → DiskFacts → Pass → Type 0
+HasSettled old new pass = OverHeld old (λ s image.
+    IsStable s.data_offset image pass.entries.items new)
+
+-- Before the data and behind them the device is as it was.
+abbrev pub HasSpared : DiskFacts → DiskFacts → Type 0
+HasSpared old new = OverHeld old (λ s image.
+    IsUntouched s.data_offset (data_sectors old.sectors s) image new)

@@ -4,7 +4,7 @@ ghost use Rattle.std.specs.List.{list_any};
 ghost use Rattle.bc_script.specs.Answer.{IsPrintable};
 ghost use Rattle.bc_top.specs.Ended.{IsEnd, IsPutBehind, status_of_end, message_of_end, says_fault, says_memory};
 
-use crate::closing::Closing;
+use bc_serve::closing::Closing;
 use bc_disk::stream::Sink;
 use bc_output::answers::put_answers;
 use bc_output::message::{Message, Origin, print_message};

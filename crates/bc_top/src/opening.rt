@@ -1,11 +1,11 @@
 //! How a pair is opened.
-ghost use Rattle.std.specs.Prelude.{◌↔◌, IsTrue, IfOk, IfErr, OnOk};
+ghost use Rattle.std.specs.Prelude.{◌↔◌, ◌≤◌, IsTrue, IfOk, IfErr, OnOk};
 ghost use Rattle.bc_disk.specs.Disk.{StandsFor};
 ghost use Rattle.bc_disk.specs.Stands.{settled_model};
 ghost use Rattle.bc_replay.specs.Causes.{OfHeld};
 ghost use Rattle.bc_replay.specs.Survey.{CanBeOpened};
 ghost use Rattle.bc_super.specs.Division.{IsPassThrough};
-ghost use Rattle.bc_top.specs.Opened.{AreQuiet, IsLoneCause, IsOpened, IsPairCause, IsSameDevice};
+ghost use Rattle.bc_top.specs.Opened.{AreQuiet, IsLoneCause, IsOpened, IsPairCause, IsReadAgain, IsSameDevice};
 
 use bc_disk::disk::{Device, Disk};
 use bc_mode::Mode;
@@ -48,13 +48,16 @@ pub fn test_pair<C: Disk, B: Disk>(
     cache: &mut C,
     backing: &mut B,
 ) -> Result<(), OpenError>
+    requires large { 16 ≤ (B.facts backing.old).sectors }
     ensures opened { OnOk result (OfHeld CanBeOpened (C.facts cache.old) (B.facts backing.old)) }
     ensures quiet { OnOk result (AreQuiet (C.facts cache.old) (C.facts cache.new)
         (B.facts backing.old) (B.facts backing.new)) }
+    ensures again { OnOk result (IsReadAgain (C.facts cache.old) (C.facts cache.new)
+        (B.facts backing.old) (B.facts backing.new) (B.facts backing.old).calls) }
     ensures settled { OnOk result
         (StandsFor (C.facts cache.new) (settled_model (C.facts cache.new))) }
     ensures cause { IfErr result (IsPairCause (C.facts cache.old) (C.facts cache.new)
-        (B.facts backing.old) (B.facts backing.new)) }
+        (B.facts backing.old) (B.facts backing.new) (B.facts backing.old).calls) }
     ensures cache_same { IsSameDevice (C.facts cache.old) (C.facts cache.new) }
     ensures backing_same { IsSameDevice (B.facts backing.old) (B.facts backing.new) }
 {

@@ -1,6 +1,6 @@
 //! What a call leaves.
 
-use bc_core::pass::Pass;
+use bc_book::pass::Pass;
 
 /// How a call ended, and the devices that it was given.
 #[derive(Drop)]

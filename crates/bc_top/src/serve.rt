@@ -1,37 +1,29 @@
 //! The command that serves a trace.
-ghost use Rattle.std.specs.Prelude.{◌≡◌, ◌⊎◌, ◌<◌, List, IfOk, IfErr, IfSome, IsNone};
-ghost use Rattle.bc_core.specs.declared.event.Event.{Event};
+ghost use Rattle.std.specs.Prelude.{◌≡◌, ◌⊎◌, ◌<◌, IfOk, IfErr, IfSome, IsNone};
 ghost use Rattle.bc_disk.specs.Device.{HasRisen};
-ghost use Rattle.bc_disk.specs.Disk.{IfTold, StandsFor};
+ghost use Rattle.bc_disk.specs.Disk.{StandsFor};
 ghost use Rattle.bc_disk.specs.Stands.{settled_model};
-ghost use Rattle.bc_model.specs.Sector.{Image};
 ghost use Rattle.bc_output.specs.Message.{message_text};
 ghost use Rattle.bc_script.specs.Trace.{IsTrace, IsWhole};
-ghost use Rattle.bc_script.specs.declared.line.Line.{Line};
-ghost use Rattle.bc_script.specs.declared.answer.Answer.{Answer};
-ghost use Rattle.bc_super.specs.Reading.{ReadsSuper};
-ghost use Rattle.bc_super.specs.Super.{data_sectors};
-ghost use Rattle.bc_super.specs.declared.backing.BackingSuper.{BackingSuper};
-ghost use Rattle.bc_top.specs.Ended.{IsEnd, IsDone, AreExpected, IsPutOf, HasStopped};
+ghost use Rattle.bc_top.specs.Ended.{HasStopped, IsPutOf};
 ghost use Rattle.bc_super.specs.Division.{IsPassThrough};
-ghost use Rattle.bc_top.specs.Opened.{IsOpeningCause, IsOpened, SameImage, AsksForNone};
-ghost use Rattle.bc_top.specs.Run.{HasRun, Survives, IsStable, setup_on};
+ghost use Rattle.bc_top.specs.Opened.{AsksForNone, IsOpened, IsOpeningCause};
+ghost use Rattle.bc_top.specs.Run.{HasServed, HasSettled, HasSpared, HasSurvived};
 ghost use Rattle.bc_top.specs.Stops.{IsRefusal, IsStatus, message_of, status_of};
 ghost use Rattle.bc_top.specs.Top.{AnswersPair, AreSame, IsServeCause, OneHasRisen, SpellsTrace};
-ghost use Rattle.bc_top.specs.declared.closing.Closing.{Closing};
 ghost use Rattle.bc_top.specs.declared.stop.Stop.{Stop};
 
 use crate::ending::report;
 use crate::opening::{is_pass_through, open_backing, test_pair};
 use crate::ran::Ran;
-use crate::running::run_trace;
 use crate::stop::{Stop, tell};
 use bc_disk::disk::Disk;
 use bc_disk::stream::{Sink, Source};
 use bc_script::line::Line;
 use bc_script::script::TraceError;
 use bc_script::trace::read_trace;
-use bc_step::part::Backing;
+use bc_serve::running::run_trace;
+use bc_machine::part::BackingPart;
 use bc_super::backing::BackingSuper;
 use bc_worker::gate::NoGate;
 use std::alloc::Global;
@@ -119,12 +111,8 @@ pub fn serve<R: Wait, C: Disk + Drop, B: Disk + Drop, S: Source, K: Sink>(
 
     // The pass is that of a run over the device as it was opened, whose answers serve the trace. What
     // they say, the closing and the sink give the status, and the lines and the message that were put.
-    ensures run { IfSome result.pass (λ pass. (opened : B) × (s : BackingSuper) × (lines : List Line) × (answers : List Answer) × (how : Closing) × (events : List Event)
-        × IsPassThrough s × IsOpened s (B.facts backing) (B.facts opened) × IsTrace lines × IsWhole (S.facts trace.old) (S.facts trace.new) lines
-        × HasRun (setup_on (B.facts opened) s.data_offset (data_sectors (B.facts opened).sectors s)) lines answers how events pass (B.facts result.backing)
-        × IsEnd result.status answers how (K.facts out.old) (K.facts out.new)
-        × (result.status ≡ 0 → IsDone (data_sectors (B.facts opened).sectors s) lines answers (K.facts out.old) (K.facts out.new))
-        × AreExpected s.data_offset (data_sectors (B.facts opened).sectors s) lines answers (B.facts backing)) }
+    ensures run { IfSome result.pass (HasServed C.facts B.facts result.status (S.facts trace.old)
+        (S.facts trace.new) backing result.backing (K.facts out.old) (K.facts out.new)) }
 
     // No other status than these, and 9 alone without a cause in the devices, the source and the sink.
     ensures known { IsStatus result.status }
@@ -144,10 +132,12 @@ pub fn serve<R: Wait, C: Disk + Drop, B: Disk + Drop, S: Source, K: Sink>(
 
     // Over a device that tells what it holds the history is legal, and whatever a crash leaves shows
     // for each sector a value no older than the last acknowledged flush; at status 0, its last write.
-    ensures survives { IfSome result.pass (λ pass. IfTold (B.facts backing).holds
-        (λ held. (s : BackingSuper) × ReadsSuper (B.facts backing) s × ((image : Image) × SameImage held image × Survives s.data_offset image pass (B.facts result.backing)))) }
-    ensures stable { result.status ≡ 0 → IfSome result.pass (λ pass. IfTold (B.facts backing).holds
-        (λ held. (s : BackingSuper) × ReadsSuper (B.facts backing) s × ((image : Image) × SameImage held image × IsStable s.data_offset image pass (B.facts result.backing)))) }
+    ensures survives { IfSome result.pass (HasSurvived (B.facts backing) (B.facts result.backing)) }
+    ensures stable { result.status ≡ 0
+        → IfSome result.pass (HasSettled (B.facts backing) (B.facts result.backing)) }
+
+    // No sector outside of the data is written.
+    ensures spared { IfSome result.pass (λ _. HasSpared (B.facts backing) (B.facts result.backing)) }
 {
     let mut cache = cache;
     let mut backing = backing;
@@ -164,7 +154,7 @@ pub fn serve<R: Wait, C: Disk + Drop, B: Disk + Drop, S: Source, K: Sink>(
     };
     let offset = prepared.superblock.data_offset;
     let size = (backing.sectors() - offset).min(1 << 40);
-    let backing = Backing {
+    let backing = BackingPart {
         disk: backing,
         offset,
         size,

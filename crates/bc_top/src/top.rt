@@ -1,24 +1,13 @@
 //! The program but for its two files: from the words of a command to what is printed.
-ghost use Rattle.std.specs.Prelude.{◌≡◌, ◌⊎◌, ◌<◌, List, IsTrue, IfSome, IsNone};
-ghost use Rattle.bc_core.specs.declared.event.Event.{Event};
+ghost use Rattle.std.specs.Prelude.{◌≡◌, ◌⊎◌, ◌<◌, IsTrue, IfSome, IsNone};
 ghost use Rattle.bc_disk.specs.Device.{HasRisen};
-ghost use Rattle.bc_disk.specs.Disk.{IfTold};
-ghost use Rattle.bc_model.specs.Sector.{Image};
 ghost use Rattle.bc_output.specs.Message.{message_text};
 ghost use Rattle.bc_output.specs.declared.message.Message.{Message};
-ghost use Rattle.bc_script.specs.Trace.{IsTrace, IsWhole};
-ghost use Rattle.bc_script.specs.declared.line.Line.{Line};
-ghost use Rattle.bc_script.specs.declared.answer.Answer.{Answer};
-ghost use Rattle.bc_super.specs.Reading.{ReadsSuper};
-ghost use Rattle.bc_super.specs.Super.{data_sectors};
-ghost use Rattle.bc_super.specs.declared.backing.BackingSuper.{BackingSuper};
-ghost use Rattle.bc_top.specs.Ended.{IsEnd, IsDone, AreExpected, IsPutOf, HasStopped};
-ghost use Rattle.bc_super.specs.Division.{IsPassThrough};
-ghost use Rattle.bc_top.specs.Opened.{IsOpened, SameImage, AsksForNone};
-ghost use Rattle.bc_top.specs.Run.{HasRun, Survives, IsStable, setup_on};
+ghost use Rattle.bc_top.specs.Ended.{HasStopped, IsPutOf};
+ghost use Rattle.bc_top.specs.Opened.{AsksForNone};
+ghost use Rattle.bc_top.specs.Run.{HasServed, HasSettled, HasSpared, HasSurvived};
 ghost use Rattle.bc_top.specs.Stops.{IsRefusal, IsStatus, message_of, status_of};
 ghost use Rattle.bc_top.specs.Top.{AnswersPair, AreSame, Does, IsCheck, IsServe, LacksMemory, IsServeCause, OneHasRisen, Says, SpellsTrace, words_stop};
-ghost use Rattle.bc_top.specs.declared.closing.Closing.{Closing};
 ghost use Rattle.bc_top.specs.declared.stop.Stop.{Stop};
 ghost use Rattle.bc_pair.specs.Causes.{KeepsOthers};
 ghost use Rattle.bc_words.specs.declared.command.Command.{Command};
@@ -84,12 +73,8 @@ pub fn bcache<R: Wait, C: Disk + Drop, B: Disk + Drop, S: Source, K: Sink>(
 
     // The pass is that of a run over the device as it was opened, whose answers serve the trace. What
     // they say, the closing and the sink give the status, and the lines and the message that were put.
-    ensures run { IfSome result.pass (λ pass. (opened : B) × (s : BackingSuper) × (lines : List Line) × (answers : List Answer) × (how : Closing) × (events : List Event)
-        × IsPassThrough s × IsOpened s (B.facts backing) (B.facts opened) × IsTrace lines × IsWhole (S.facts trace.old) (S.facts trace.new) lines
-        × HasRun (setup_on (B.facts opened) s.data_offset (data_sectors (B.facts opened).sectors s)) lines answers how events pass (B.facts result.backing)
-        × IsEnd result.status answers how (K.facts out.old) (K.facts out.new)
-        × (result.status ≡ 0 → IsDone (data_sectors (B.facts opened).sectors s) lines answers (K.facts out.old) (K.facts out.new))
-        × AreExpected s.data_offset (data_sectors (B.facts opened).sectors s) lines answers (B.facts backing)) }
+    ensures run { IfSome result.pass (HasServed C.facts B.facts result.status (S.facts trace.old)
+        (S.facts trace.new) backing result.backing (K.facts out.old) (K.facts out.new)) }
 
     // No other status than these, and 9 alone without a cause in the devices, the source and the sink.
     ensures known { IsStatus result.status }
@@ -114,10 +99,12 @@ pub fn bcache<R: Wait, C: Disk + Drop, B: Disk + Drop, S: Source, K: Sink>(
 
     // Over a device that tells what it holds the history is legal, and whatever a crash leaves shows
     // for each sector a value no older than the last acknowledged flush; at status 0, its last write.
-    ensures survives { IfSome result.pass (λ pass. IfTold (B.facts backing).holds
-        (λ held. (s : BackingSuper) × ReadsSuper (B.facts backing) s × ((image : Image) × SameImage held image × Survives s.data_offset image pass (B.facts result.backing)))) }
-    ensures stable { result.status ≡ 0 → IfSome result.pass (λ pass. IfTold (B.facts backing).holds
-        (λ held. (s : BackingSuper) × ReadsSuper (B.facts backing) s × ((image : Image) × SameImage held image × IsStable s.data_offset image pass (B.facts result.backing)))) }
+    ensures survives { IfSome result.pass (HasSurvived (B.facts backing) (B.facts result.backing)) }
+    ensures stable { result.status ≡ 0
+        → IfSome result.pass (HasSettled (B.facts backing) (B.facts result.backing)) }
+
+    // No sector outside of the data is written.
+    ensures spared { IfSome result.pass (λ _. HasSpared (B.facts backing) (B.facts result.backing)) }
 {
     match read_words(alloc, words) {
         Ok(Command::Serve(_)) => serve(rt, alloc, trace, cache, backing, out),

@@ -2,9 +2,10 @@ use Rattle.std.proofs.Common.{◌≡◌, [], rules}
 use Rattle.bc_image.specs.Pair.{Pair}
 use Rattle.bc_prio.proofs.Chains.{kept_all, kept_both}
 use Rattle.bc_replay.specs.Survey.{HasSurvey}
-use Rattle.bc_check.specs.Calls.{check_of}
+use Rattle.bc_check.specs.Calls.{EndsAtSuper, check_of}
 use Rattle.bc_check.specs.Verdict.{IsCheckCause, IsVerdict, ListsIf}
 use Rattle.bc_check.proofs.Checked.{passes, cause_so, through_so, verdict_so, with_lines}
+use Rattle.bc_check.proofs.Calls.{surveyed_end}
 use Rattle.bc_check.proofs.Pairs.{passed_on}
 use Rattle.bc_check.proofs.pair.examine.Goals as goal
 
@@ -40,3 +41,14 @@ returns-clause-found g c =
     verdict_so cache backing cache mid (record { cache_kept = kept_all cache; backing_kept = first }) last left (record { cache_kept = read.cache_kept; backing_kept = kept_both backing mid left first read.backing_kept }) Has read.found
     (λ p. IsVerdict p verdict × ListsIf c.args.list p verdict lines)
     (with_lines Has (λ p. IsVerdict p verdict) (λ p. ListsIf c.args.list p verdict lines) last left c.in_ok-lines.ensures c.in_ok-verdict.ensures.found)
+
+pub returns-in_err-s-clause-supers : goal.returns-in_err-s-clause-supers
+returns-in_err-s-clause-supers g c =
+    let cache = g.C.Disk.facts c.args.cache.now in
+    let cache' = g.C.Disk.facts c.survey.new.cache in
+    let backing = g.B.Disk.facts c.args.backing.now in
+    let mid = g.B.Disk.facts c.serves_alone.new.backing in
+    let backing' = g.B.Disk.facts c.survey.new.backing in
+    let why = c.in_err-s.field-0.0 in
+    passed_on c.from_residual-in_err-s.result (check_of why) (EndsAtSuper cache cache' backing backing') c.from_residual-in_err-s.ensures.1
+    (surveyed_end cache cache' backing mid backing' c.in_ok-serves_alone.ensures.kept c.in_ok-serves_alone.ensures.called c.in_err-s.ensures.backing_called why c.in_err-s.ensures.supers)

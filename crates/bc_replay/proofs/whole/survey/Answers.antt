@@ -4,12 +4,14 @@ use Rattle.bc_key.specs.declared.key.Key.{Key}
 use Rattle.bc_super.specs.Super.{data_sectors}
 use Rattle.bc_walk.specs.Rule.{Rule}
 use Rattle.bc_walk.specs.declared.visit.Visit.{Visit}
+use Rattle.bc_replay.specs.Causes.{EndsAtSupers}
 use Rattle.bc_replay.specs.Index.{rule_by}
 use Rattle.bc_replay.specs.Judge.{IsJudgedCause, IsJudged, IsKnown, held_of}
 use Rattle.bc_replay.specs.Limits.{rule_in}
 use Rattle.bc_replay.specs.Replay.{HasIndex}
 use Rattle.bc_replay.specs.Survey.{IsSurveyCause}
 use Rattle.bc_replay.proofs.Behind.{newest_at}
+use Rattle.bc_replay.proofs.Ends.{index_end, judged_end}
 use Rattle.bc_replay.proofs.Pairs.{passed_on}
 use Rattle.bc_replay.proofs.Refuses.{index_cause, judged_cause, survey_held}
 use Rattle.bc_replay.proofs.whole.survey.Goals as goal
@@ -67,3 +69,24 @@ returns-clause-found g c =
     let here = subst (λ (vs : List Visit). (keys : List Key) → IsKnown (rule_by geo (data_sectors backing.sectors b)) f.gens uuid vs keys index.keys.keys index.word
     → IsJudged (rule_by geo (data_sectors backing.sectors b)) (held_of (rule_by geo (data_sectors backing.sectors b)) f.gens uuid vs keys) us) c.deref.ensures.value one in
     survey_held cache backing mid b f.supers.cache geo j f.gens c.in_ok-front.ensures.cache_kept c.in_ok-front.ensures.found newest (λ image has. newest_at geo image j has newest at) c.in_ok-seen.seen.items index.keys.keys index.word found us here
+
+pub returns-in_err-seen-clause-supers : goal.returns-in_err-seen-clause-supers
+returns-in_err-seen-clause-supers g c =
+    let cache = g.C.Disk.facts c.args.cache.now in
+    let backing = g.B.Disk.facts c.args.backing.now in
+    let mid = g.C.Disk.facts c.read_heads.new.cache in
+    let new = (g.C.Disk.facts c.read_index.new.cache).calls in
+    let f = c.in_ok-front.front in
+    let e = c.in_err-seen.field-0.0 in
+    passed_on c.from_residual-in_err-seen.result e (EndsAtSupers cache backing cache.calls new) c.from_residual-in_err-seen.ensures.1
+    (index_end cache backing cache.calls new mid f.supers.geometry f.journal e c.in_err-seen.ensures.refused)
+
+pub returns-in_err-uses-clause-supers : goal.returns-in_err-uses-clause-supers
+returns-in_err-uses-clause-supers g c =
+    let cache = g.C.Disk.facts c.args.cache.now in
+    let backing = g.B.Disk.facts c.args.backing.now in
+    let new = (g.C.Disk.facts c.read_index.new.cache).calls in
+    let index = c.in_ok-seen.index in
+    let e = c.in_err-uses.field-0.0 in
+    passed_on c.from_residual-in_err-uses.result e (EndsAtSupers cache backing cache.calls new) c.from_residual-in_err-uses.ensures.1
+    (judged_end cache backing cache.calls new (rule_in index.limits) c.in_ok-front.front.gens c.entry.result.now.item.uuid_bucket c.deref.result.now index.keys.keys index.word e c.in_err-uses.ensures.refused)

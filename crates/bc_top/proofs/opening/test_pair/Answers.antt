@@ -3,7 +3,7 @@ use Rattle.bc_replay.proofs.Opens.{survey_opens}
 use Rattle.bc_replay.proofs.Pairs.{passed_on}
 use Rattle.bc_top.specs.Opened.{IsPairCause}
 use Rattle.bc_top.proofs.Judging.{held_settled, survey_cause}
-use Rattle.bc_top.proofs.Settled.{stands}
+use Rattle.bc_top.proofs.Settled.{same_kept, same_settled, stands}
 use Rattle.bc_top.proofs.opening.test_pair.Goals as goal
 
 pub returns-clause-opened : goal.returns-clause-opened
@@ -20,8 +20,19 @@ returns-in_err-survey-clause-cause g c =
     let backing = g.B.Disk.facts c.args.backing.now in
     let backing' = g.B.Disk.facts c.survey.new.backing in
     let e = c.in_err-survey.field-0.0 in
-    passed_on c.from_residual.result e (IsPairCause cache cache' backing backing') c.from_residual.ensures.1
-    (survey_cause cache (g.C.Disk.facts c.barrier.new.self) cache' backing backing' c.in-Ok.ensures.ok.sectors c.in-Ok.ensures.ok.holds c.in-Ok.ensures.counted.1 e c.in_err-survey.ensures.refused c.in_err-survey.ensures.faults)
+    passed_on c.from_residual.result e (IsPairCause cache cache' backing backing' backing.calls) c.from_residual.ensures.1
+    (survey_cause cache (g.C.Disk.facts c.barrier.new.self) cache' backing backing' c.in-Ok.ensures.ok.sectors c.in-Ok.ensures.ok.holds c.in-Ok.ensures.counted.1 c.in-Ok.ensures.counted.0
+    e c.in_err-survey.ensures.refused c.in_err-survey.ensures.faults c.in_err-survey.ensures.supers (c.in_err-survey.ensures.backing_called.0 c.requires.large))
 
 pub returns-clause-settled : goal.returns-clause-settled
 returns-clause-settled g c = stands (g.C.Disk.facts c.args.cache.now) (g.C.Disk.facts c.barrier.new.self) (g.C.Disk.facts c.survey.new.cache) c.in-Ok.ensures.ok c.in_ok-survey.ensures.cache_kept
+
+pub returns-clause-again : goal.returns-clause-again
+returns-clause-again g c = c.in_ok-survey.ensures.backing_called.0 c.requires.large
+
+pub returns-in_err-survey-clause-cache_same : goal.returns-in_err-survey-clause-cache_same
+returns-in_err-survey-clause-cache_same g c =
+    same_settled (g.C.Disk.facts c.args.cache.now) (g.C.Disk.facts c.barrier.new.self) (g.C.Disk.facts c.survey.new.cache) c.in-Ok.ensures.ok c.in_err-survey.ensures.cache_kept
+
+pub returns-in_err-survey-clause-backing_same : goal.returns-in_err-survey-clause-backing_same
+returns-in_err-survey-clause-backing_same g c = same_kept (g.B.Disk.facts c.args.backing.now) (g.B.Disk.facts c.survey.new.backing) c.in_err-survey.ensures.backing_kept

@@ -1,6 +1,6 @@
 use Rattle.std.proofs.Common.{inl, refl}
 use Rattle.bc_top.specs.Opened.{IsOpeningCause}
-use Rattle.bc_top.proofs.Judging.{opening_refused, opening_unserved, turned}
+use Rattle.bc_top.proofs.Judging.{has_room, opening_refused, opening_unserved, turned}
 use Rattle.bc_top.proofs.Settled.{same_self}
 use Rattle.bc_top.proofs.serve.open.Goals as goal
 
@@ -12,6 +12,9 @@ returns-in_err-superblock-clause-cause g c =
 
 pub returns-in_err-superblock-clause-same : goal.returns-in_err-superblock-clause-same
 returns-in_err-superblock-clause-same g c = (same_self (g.C.Disk.facts c.args.cache.now), c.in_err-superblock.ensures.same)
+
+pub test_pair-requires : goal.test_pair-requires
+test_pair-requires g c = record { large = has_room (g.B.Disk.facts c.open_backing.new.backing) c.in_ok-superblock.superblock c.in_ok-superblock.ensures.ok.reads }
 
 pub returns-in_err-test_pair-clause-cause : goal.returns-in_err-test_pair-clause-cause
 returns-in_err-test_pair-clause-cause g c =
@@ -31,7 +34,7 @@ returns-then-not-is_pass_through-clause-cause g c =
     let backing = g.B.Disk.facts c.args.backing.now in
     let opened = g.B.Disk.facts c.open_backing.new.backing in
     let backing' = g.B.Disk.facts c.test_pair.new.backing in
-    opening_unserved cache cache' backing opened backing' c.in_ok-superblock.superblock c.in_ok-superblock.ensures.ok (λ is. let yes = c.is_pass_through.ensures.1 is in let no = c.if-not-is_pass_through.ensures in absurd (cc)) c.in_ok-test_pair.ensures.opened c.in_ok-test_pair.ensures.quiet
+    opening_unserved cache cache' backing opened backing' c.in_ok-superblock.superblock c.in_ok-superblock.ensures.ok (λ is. let yes = c.is_pass_through.ensures.1 is in let no = c.if-not-is_pass_through.ensures in absurd (cc)) c.in_ok-test_pair.ensures.opened c.in_ok-test_pair.ensures.quiet c.in_ok-test_pair.ensures.again
 
 pub returns-clause-same : goal.returns-clause-same
 returns-clause-same g c = (same_self (g.C.Disk.facts c.args.cache.now), c.in_ok-superblock.ensures.same)

@@ -1,18 +1,18 @@
-use Rattle.std.proofs.Common.{◌≡◌, inr, ◌-◌, ◌^◌, List, sym, ap, ◌∙◌, subst}
+use Rattle.std.proofs.Common.{◌≡◌, inr, ◌-◌, ◌^◌, List, sym, ap, ◌∙◌, subst, refl}
 use Rattle.std.specs.Prelude.{min}
 use Rattle.bc_disk.specs.Device.{HasRisen}
 use Rattle.bc_disk.specs.Disk.{DiskFacts}
+use Rattle.bc_machine.specs.declared.part.BackingPart.{BackingPart}
+use Rattle.bc_plain_laws.specs.Promises.{IsStable, IsUntouched, Survives}
 use Rattle.bc_script.specs.declared.line.Line.{Line}
 use Rattle.bc_script.specs.declared.answer.Answer.{Answer}
 use Rattle.bc_super.specs.Super.{data_sectors}
 use Rattle.bc_super.proofs.Told.{reads_before}
-use Rattle.bc_top.specs.Run.{HasRun, Survives, IsStable, setup_on}
-use Rattle.bc_step.specs.declared.part.Backing.{Backing}
 use Rattle.bc_top.specs.Ended.{IsEnd}
 use Rattle.bc_top.specs.Opened.{IsSameDevice}
 use Rattle.bc_top.specs.declared.stop.Stop.TheVariants as stop
 use Rattle.bc_top.proofs.Telling.{told_before, expected, legal_of}
-use Rattle.bc_top.proofs.Statuses.{closed_whole, device_failed, sink_stopped, done, ended_otherwise, only_done}
+use Rattle.bc_top.proofs.Statuses.{all_plain, closed_whole, device_failed, sink_stopped, done, ended_otherwise, of_lines, only_done}
 use Rattle.bc_top.proofs.Completing.{only_memory}
 use Rattle.bc_top.proofs.Judging.{alone_answers, nine_answers, stopped_answers}
 use Rattle.bc_top.proofs.serve.serve.Goals as goal
@@ -24,7 +24,9 @@ returns-in-Ok-run_trace-clause-survives g c =
     let old = g.B.Disk.facts c.args.backing in
     let opened = g.B.Disk.facts c.prepare.new.backing in
     let is = c.in-Ok.ensures.opened.1 in
-    told_before old old.holds opened.holds s (λ offset image. Survives offset image outcome.pass (g.B.Disk.facts outcome.backing.disk)) is.holds (reads_before old opened is.sectors is.holds s is.reads) c.in-Ok-run_trace.ensures.survives
+    told_before old old.holds opened.holds s (λ s image. Survives s.data_offset image outcome.pass.entries.items
+    (g.B.Disk.facts outcome.backing.disk)) is.holds
+    (reads_before old opened is.sectors is.holds s is.reads) c.in-Ok-run_trace.ensures.survives
 
 pub returns-in-Ok-run_trace-clause-stable : goal.returns-in-Ok-run_trace-clause-stable
 returns-in-Ok-run_trace-clause-stable g c = λ zero.
@@ -33,19 +35,41 @@ returns-in-Ok-run_trace-clause-stable g c = λ zero.
     let old = g.B.Disk.facts c.args.backing in
     let opened = g.B.Disk.facts c.prepare.new.backing in
     let is = c.in-Ok.ensures.opened.1 in
-    told_before old old.holds opened.holds s (λ offset image. IsStable offset image outcome.pass (g.B.Disk.facts outcome.backing.disk)) is.holds (reads_before old opened is.sectors is.holds s is.reads)
-    (c.in-Ok-run_trace.ensures.stable (closed_whole c.report.result c.deref-in-Ok-run_trace.result.now outcome.closing (g.K.Sink.facts c.args.out.now) (g.K.Sink.facts c.report.new.out) c.report.ensures zero))
+    told_before old old.holds opened.holds s (λ s image. IsStable s.data_offset image outcome.pass.entries.items
+    (g.B.Disk.facts outcome.backing.disk)) is.holds
+    (reads_before old opened is.sectors is.holds s is.reads)
+    (c.in-Ok-run_trace.ensures.stable (closed_whole c.report.result c.deref-in-Ok-run_trace.result.now
+    outcome.closing (g.K.Sink.facts c.args.out.now) (g.K.Sink.facts c.report.new.out) c.report.ensures zero))
+
+pub returns-in-Ok-run_trace-clause-spared : goal.returns-in-Ok-run_trace-clause-spared
+returns-in-Ok-run_trace-clause-spared g c =
+    let outcome = c.in-Ok-run_trace.outcome in
+    let s = c.in-Ok.prepared.superblock in
+    let old = g.B.Disk.facts c.args.backing in
+    let opened = g.B.Disk.facts c.prepare.new.backing in
+    let is = c.in-Ok.ensures.opened.1 in
+    let size : c.min-size.result ≡ data_sectors old.sectors s = c.min-size.ensures
+    ∙ ap (λ k. min (k - s.data_offset) (2 ^ 40)) (c.sectors.ensures ∙ is.sectors) in
+    told_before old old.holds opened.holds s (λ s image. IsUntouched s.data_offset (data_sectors old.sectors s) image
+    (g.B.Disk.facts outcome.backing.disk)) is.holds
+    (reads_before old opened is.sectors is.holds s is.reads)
+    (subst (λ n. Rattle.bc_disk.specs.Disk.IfTold opened.holds (λ image. IsUntouched s.data_offset n image
+    (g.B.Disk.facts outcome.backing.disk))) size c.in-Ok-run_trace.ensures.outside)
 
 pub returns-in-Ok-run_trace-clause-device : goal.returns-in-Ok-run_trace-clause-device
 returns-in-Ok-run_trace-clause-device g c = λ six.
     let outcome = c.in-Ok-run_trace.outcome in
     let run = c.in-Ok-run_trace.ensures.run in
-    let end = subst (λ (l : List Answer). IsEnd c.report.result l outcome.closing (g.K.Sink.facts c.args.out.now) (g.K.Sink.facts c.report.new.out)) c.deref-in-Ok-run_trace.ensures.value c.report.ensures in
+    let end = subst (λ (l : List Answer). IsEnd c.report.result l outcome.closing (g.K.Sink.facts c.args.out.now)
+    (g.K.Sink.facts c.report.new.out)) c.deref-in-Ok-run_trace.ensures.value c.report.ensures in
     inr (subst (λ n. HasRisen n (g.B.Disk.facts outcome.backing.disk).faults) c.in-Ok.ensures.opened.1.faults
-    (device_failed c.report.result outcome.answers.items outcome.closing (g.K.Sink.facts c.args.out.now) (g.K.Sink.facts c.report.new.out) end _ c.deref.result.now run.0 outcome.pass (g.B.Disk.facts outcome.backing.disk) run.1 six))
+    (device_failed c.report.result outcome.answers.items outcome.closing (g.K.Sink.facts c.args.out.now)
+    (g.K.Sink.facts c.report.new.out) end g.C.Disk.facts g.B.Disk.facts _ outcome.backing c.deref.result.now run.0
+    outcome.pass run.1 six))
 
 pub returns-in-Ok-run_trace-clause-sink : goal.returns-in-Ok-run_trace-clause-sink
-returns-in-Ok-run_trace-clause-sink g c = sink_stopped c.report.result c.deref-in-Ok-run_trace.result.now c.in-Ok-run_trace.outcome.closing (g.K.Sink.facts c.args.out.now) (g.K.Sink.facts c.report.new.out) c.report.ensures
+returns-in-Ok-run_trace-clause-sink g c = sink_stopped c.report.result c.deref-in-Ok-run_trace.result.now
+    c.in-Ok-run_trace.outcome.closing (g.K.Sink.facts c.args.out.now) (g.K.Sink.facts c.report.new.out) c.report.ensures
 
 pub returns-in-Ok-run_trace-clause-run : goal.returns-in-Ok-run_trace-clause-run
 returns-in-Ok-run_trace-clause-run g c =
@@ -54,26 +78,39 @@ returns-in-Ok-run_trace-clause-run g c =
     let d = g.B.Disk.facts c.prepare.new.backing in
     let s = c.in-Ok.prepared.superblock in
     let n = data_sectors d.sectors s in
-    let end = subst (λ (l : List Answer). IsEnd c.report.result l outcome.closing (g.K.Sink.facts c.args.out.now) (g.K.Sink.facts c.report.new.out)) c.deref-in-Ok-run_trace.ensures.value c.report.ensures in
-    let size : c.min-size.result ≡ n = c.min-size.ensures ∙ ap (λ k. min (k - s.data_offset) (2 ^ 40)) c.sectors.ensures in
-    let has = subst (λ k. HasRun (setup_on d s.data_offset k) c.in-Ok.prepared.lines.items outcome.answers.items outcome.closing run.0 outcome.pass (g.B.Disk.facts outcome.backing.disk)) size
-    (subst (λ (ls : List Line). HasRun (setup_on d s.data_offset c.min-size.result) ls outcome.answers.items outcome.closing run.0 outcome.pass (g.B.Disk.facts outcome.backing.disk)) c.deref.ensures.value run.1) in (
-      c.prepare.new.backing,
-      s,
-      c.in-Ok.prepared.lines.items,
-      outcome.answers.items,
-      outcome.closing,
-      run.0,
-      c.in-Ok.ensures.opened.0,
-      c.in-Ok.ensures.opened.1,
-      c.in-Ok.ensures.lines.0,
-      c.in-Ok.ensures.lines.1,
-      has,
-      end,
-      done c.report.result outcome.answers.items outcome.closing (g.K.Sink.facts c.args.out.now) (g.K.Sink.facts c.report.new.out) end n run.0 c.in-Ok.prepared.lines.items outcome.pass.entries.items c.in-Ok.ensures.lines.0.proper has.caused has.served,
-      expected (g.B.Disk.facts c.args.backing).holds d.holds s.data_offset n c.in-Ok.prepared.lines.items outcome.answers.items outcome.pass.entries.items c.in-Ok.ensures.opened.1.holds
-          (legal_of d.holds s.data_offset outcome.pass (g.B.Disk.facts outcome.backing.disk) c.in-Ok-run_trace.ensures.survives) c.in-Ok.ensures.lines.0.proper has.served,
-    )
+    let end = subst (λ (l : List Answer). IsEnd c.report.result l outcome.closing (g.K.Sink.facts c.args.out.now)
+    (g.K.Sink.facts c.report.new.out)) c.deref-in-Ok-run_trace.ensures.value c.report.ensures in
+    let size : c.min-size.result ≡ n = c.min-size.ensures
+    ∙ ap (λ k. min (k - s.data_offset) (2 ^ 40)) c.sectors.ensures in
+    let has = of_lines g.C.Disk.facts g.B.Disk.facts _ outcome.backing _ _ outcome.answers.items outcome.closing
+    run.0 outcome.pass c.deref.ensures.value run.1 in
+    record {
+      opened = _;
+      left = outcome.backing;
+      super = s;
+      lines = c.in-Ok.prepared.lines.items;
+      answers = outcome.answers.items;
+      how = outcome.closing;
+      events = run.0;
+      alone = c.in-Ok.ensures.opened.0;
+      is_opened = c.in-Ok.ensures.opened.1;
+      offset = refl;
+      size = size;
+      trace = c.in-Ok.ensures.lines.0;
+      whole = c.in-Ok.ensures.lines.1;
+      run = has;
+      left_is = refl;
+      ends = end;
+      done = done c.report.result outcome.answers.items outcome.closing (g.K.Sink.facts c.args.out.now)
+          (g.K.Sink.facts c.report.new.out) end c.min-size.result c.in-Ok.prepared.lines.items outcome.pass.entries.items
+          c.in-Ok.ensures.lines.0.proper (all_plain c.min-size.result 16 1 c.in-Ok.prepared.lines.items
+          outcome.answers.items _ has.seen has.by_line) has.served;
+      expected = expected (g.B.Disk.facts c.args.backing).holds d.holds s.data_offset c.min-size.result
+          c.in-Ok.prepared.lines.items outcome.answers.items outcome.pass.entries.items
+          c.in-Ok.ensures.opened.1.holds
+          (legal_of d.holds s.data_offset outcome.pass.entries.items (g.B.Disk.facts outcome.backing.disk)
+          c.in-Ok-run_trace.ensures.survives) c.in-Ok.ensures.lines.0.proper has.served;
+    }
 
 pub returns-in-Err-clause-complete : goal.returns-in-Err-clause-complete
 returns-in-Err-clause-complete g c = λ spells asks quiet still takes.
@@ -87,7 +124,8 @@ returns-in-Ok-run_trace-clause-complete g c = λ spells asks quiet still takes.
     let run = c.in-Ok-run_trace.ensures.run in
     let end = subst (λ (l : List Answer). IsEnd c.report.result l outcome.closing (g.K.Sink.facts c.args.out.now) (g.K.Sink.facts c.report.new.out)) c.deref-in-Ok-run_trace.ensures.value c.report.ensures in
     still (subst (λ n. HasRisen n (g.B.Disk.facts outcome.backing.disk).faults) c.in-Ok.ensures.opened.1.faults
-    (device_failed c.report.result outcome.answers.items outcome.closing (g.K.Sink.facts c.args.out.now) (g.K.Sink.facts c.report.new.out) end _ c.deref.result.now run.0 outcome.pass (g.B.Disk.facts outcome.backing.disk) run.1 six))) takes
+    (device_failed c.report.result outcome.answers.items outcome.closing (g.K.Sink.facts c.args.out.now) (g.K.Sink.facts c.report.new.out) end
+    g.C.Disk.facts g.B.Disk.facts _ outcome.backing c.deref.result.now run.0 outcome.pass run.1 six))) takes
 
 pub returns-in-Ok-run_trace-clause-unwritten : goal.returns-in-Ok-run_trace-clause-unwritten
 returns-in-Ok-run_trace-clause-unwritten g c = λ refused. absurd (ended_otherwise c.report.result c.deref-in-Ok-run_trace.result.now c.in-Ok-run_trace.outcome.closing (g.K.Sink.facts c.args.out.now) (g.K.Sink.facts c.report.new.out) c.report.ensures refused)
@@ -100,7 +138,7 @@ returns-clause-stopped g c = λ none. (
   c.tell-in-Err-run_trace.ensures.put,
   (
     c.in-Ok.ensures.same.0,
-    subst (λ (d : DiskFacts). IsSameDevice (g.B.Disk.facts c.args.backing) d) (sym (ap (λ (b : Backing _). g.B.Disk.facts b.disk) c.in-Err-run_trace.ensures.err)) c.in-Ok.ensures.same.1,
+    subst (λ (d : DiskFacts). IsSameDevice (g.B.Disk.facts c.args.backing) d) (sym (ap (λ (b : BackingPart _). g.B.Disk.facts b.disk) c.in-Err-run_trace.ensures.err)) c.in-Ok.ensures.same.1,
   ),
 )
 

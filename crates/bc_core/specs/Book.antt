@@ -1,8 +1,0 @@
--- What a book is seen as.
-use Rattle.std.specs.Prelude.{ℕ, List}
-use Rattle.bc_core.specs.declared.event.Event.{Event}
-
-pub record BookView : Type 0 where
-  pub events : List Event
-  -- how many more events it has room for
-  pub room : ℕ

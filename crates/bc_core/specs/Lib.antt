@@ -1,9 +1,0 @@
-pub mod State
-pub mod Step
-pub mod Laws
-pub mod Pass
-pub mod Book
-pub mod StateView
-pub mod Known
-pub mod Sectors
-pub mod Enabled

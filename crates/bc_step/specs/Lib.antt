@@ -1,4 +1,0 @@
-pub mod World
-pub mod Frame
-pub mod Notes
-pub mod Seats
