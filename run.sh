@@ -26,8 +26,10 @@ serve() {
 
 serve "A run that writes sectors 0 to 7 with stamp 7, reads sectors 0 to 9 and flushes, and what it answers line by line:" \
     '1 w 0 8 7' '1 r 0 10' '1 f'
-serve "A second run over the same files, which reads what the first one wrote and then beyond the last of the 64 data sectors:" \
-    '1 r 0 10' '1 r 63 2'
+serve "A forced write, which is durable once it says done, and a range that isn't there:" \
+    '1 W 10 2 8' '1 W 63 2 9'
+serve "One more run over the same files, which reads what the first one wrote and then beyond the last of the 64 data sectors:" \
+    '1 r 0 12' '1 r 63 2'
 
 # command WORD.. shows a run of a command over a second pair of files.
 command() {

@@ -1,27 +1,24 @@
 -- Claims, as their part has them and as the core has them.
-use Rattle.std.proofs.Common.{◌≡◌, ◌≢◌, ◌⊎◌, inl, inr, ℕ, ◌+◌, ◌<◌, ◌≤◌, Bool, true, false, List, [], ◌∷◌, ◌++◌, Option, Some, None, refl, sym, ap, ◌∙◌, subst, arith}
+use Rattle.std.proofs.Common.{◌≡◌, ◌≢◌, inl, inr, ℕ, ◌+◌, ◌≤◌, Bool, true, false, List, [], ◌∷◌, ◌++◌, Option, Some, None, refl, sym, ap, ◌∙◌, subst, arith}
 use Rattle.std.specs.Prelude.{◌==◌, ◌&&◌, ◌||◌, nat_lt, if◌then◌else◌}
 use Rattle.std.proofs.lemmas.Bool.{lt-ltb}
 use Rattle.bc_disk.specs.Disk.{DiskFacts}
-use Rattle.bc_flight.specs.Claims.{is_exclusive as alone, overlaps, conflicts, conflicts_any}
+use Rattle.bc_flight.specs.Claims.{is_exclusive as alone, conflicts, conflicts_any}
 use Rattle.bc_flight.specs.Flight.{InFlight, claim_at, claim_of, without}
 use Rattle.bc_flight.specs.declared.claim.Claim.{Claim as FlightClaim}
 use Rattle.bc_flight.specs.declared.claim.Share.{Share}
 use Rattle.bc_flight.specs.declared.claim.Share.TheVariants.{Shared, Exclusive}
 use Rattle.bc_parts.specs.Seat.{Holds}
 use Rattle.bc_books.specs.Index.{Index}
-use Rattle.bc_data.specs.Seats.{Claim, Covers, Apart, new_claim}
+use Rattle.bc_data.specs.Seats.{Claim, Apart, new_claim}
 use Rattle.bc_data.specs.Data as flow
-use Rattle.bc_known.specs.Acts.{Alone}
-use Rattle.bc_known.specs.Acts as known
 use Rattle.bc_events.specs.Acts.{is_exclusive, claimed}
 use Rattle.bc_events.specs.Run.{Opening, CanDo}
 use Rattle.bc_events.specs.declared.event.Deed.{Deed}
 use Rattle.bc_events.specs.declared.event.Deed.TheVariants as deed
-use Rattle.bc_machine.specs.declared.part.CorePart.{CorePart}
 use Rattle.bc_machine.specs.declared.part.CorePart.TheVariants as part
-use Rattle.bc_machine.specs.World.{World, after, data_of, is_told, opening, claim_in, share_of, IsFlight}
-use Rattle.bc_machine.specs.Frame.{Range, range_of, by_test, frames}
+use Rattle.bc_machine.specs.World.{World, after, data_of, claim_in, share_of, IsFlight}
+use Rattle.bc_machine.specs.Frame.{Range, by_test, frames}
 use Rattle.bc_machine.specs.Note.{note_of, note_after, IsFirmer}
 use Rattle.bc_machine.proofs.Noting.{note_event, other_event}
 use Rattle.bc_seats.proofs.Knowing.{held}

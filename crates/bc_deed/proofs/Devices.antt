@@ -1,9 +1,9 @@
 -- The backing device behind each of its calls, of whose sectors the data are a part.
-use Rattle.std.proofs.Common.{◌≡◌, ◌≢◌, inl, inr, ◌⊎◌, ℕ, suc, ◌+◌, ◌-◌, ◌<◌, ◌≤◌, Bool, true, false, List, [], ◌∷◌, length, Option, Some, None, refl, sym, ap, ◌∙◌, subst, arith}
+use Rattle.std.proofs.Common.{◌≡◌, inl, inr, ◌⊎◌, ℕ, suc, ◌+◌, ◌-◌, ◌<◌, ◌≤◌, Bool, true, false, List, [], ◌∷◌, Option, Some, None, refl, sym, ap, ◌∙◌, subst, arith}
 use Rattle.std.specs.Prelude.{◌==◌, ◌&&◌, nat_lt, if◌then◌else◌}
 use Rattle.std.proofs.lemmas.Bool.{cases_lt, lt-ltb, le-ltb}
 use Rattle.bc_model.specs.Sector.{Value, Image, Gives, at_run}
-use Rattle.bc_disk.specs.Device.{Content, Among, MayLeave, DeviceModel, instead, besides, written, failed, settled, after_read, after_write, after_barrier, after_fault, after_failed_write}
+use Rattle.bc_disk.specs.Device.{Content, Among, instead, besides, written, failed, settled, after_write, after_barrier, after_failed_write}
 use Rattle.bc_disk.specs.Disk.{DiskFacts, IsRead, IsKept, IsSettled, IsWritten, IsFailedWrite, Allows, StandsFor}
 use Rattle.bc_disk.specs.Stands.{MayRead}
 use Rattle.bc_disk.specs.declared.disk.Device.TheVariants as device

@@ -1,5 +1,5 @@
 -- The parts of a run as it begins and ends.
-use Rattle.std.proofs.Common.{◌≡◌, ℕ, List, [], ◌∷◌, ◌++◌, length, sym, ap, ◌∙◌, subst, refl, arith}
+use Rattle.std.proofs.Common.{◌≡◌, List, [], ◌∷◌, ◌++◌, length, ap, ◌∙◌, subst, refl, arith}
 use Rattle.bc_disk.specs.Disk.{DiskFacts}
 use Rattle.bc_machine.specs.declared.part.BackingPart.{BackingPart}
 use Rattle.bc_machine.specs.declared.part.CorePart.{CorePart}

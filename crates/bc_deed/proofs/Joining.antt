@@ -1,17 +1,15 @@
 -- Seats cut in two, and joined again.
-use Rattle.std.proofs.Common.{◌≡◌, ℕ, ◌<◌, ◌≤◌, [], List, Option, Some, None, inl, refl, sym, ap, ◌∙◌, subst, arith}
+use Rattle.std.proofs.Common.{◌≡◌, ℕ, ◌<◌, ◌≤◌, [], List, Option, Some, None, refl, sym, ap, ◌∙◌, subst, arith}
 use Rattle.std.specs.Prelude.{length}
 use Rattle.std.specs.Option.{option_or}
 use Rattle.bc_disk.specs.Disk.{DiskFacts}
-use Rattle.bc_disk.specs.declared.disk.Device.{Device}
 use Rattle.bc_parts.specs.Later.{SeesLater}
 use Rattle.bc_parts.specs.Seat.{PartsView, Run}
 use Rattle.bc_seats.specs.Seats.{state_seen}
 use Rattle.bc_seats.proofs.Knowing.{since_later}
 use Rattle.bc_machine.specs.declared.part.CorePart.{CorePart}
-use Rattle.bc_machine.specs.World.{World, data_of, opening}
-use Rattle.bc_machine.specs.Bare.{IsBareRun}
-use Rattle.bc_hand.specs.Seats.{world, IsCoreSeat, Works, empty}
+use Rattle.bc_machine.specs.World.{data_of, opening}
+use Rattle.bc_hand.specs.Seats.{world, Works, empty}
 use Rattle.bc_hand.proofs.Knowing.{View, m, knew, bare_since}
 use Rattle.bc_deed.specs.Begun.{HasJoined}
 

@@ -1,22 +1,20 @@
 -- When the core allows a deed: from what the seat noted, and what its parts stand for.
 use Rattle.std.proofs.Common.{◌≡◌, ◌⊎◌, inl, inr, ℕ, ◌+◌, ◌<◌, ◌≤◌, Bool, true, false, List, [], ◌∷◌, length, Option, Some, None, refl, sym, ap, ◌∙◌, subst, arith}
-use Rattle.std.specs.Prelude.{◌&&◌, ◌||◌, ◌==◌, fold, Result, Ok, Err, IfOk, IfErr}
+use Rattle.std.specs.Prelude.{◌&&◌, ◌||◌, fold, Result, Ok, Err, IfOk, IfErr}
 use Rattle.std.proofs.lemmas.Bool.{lt-ltb}
 use Rattle.std.proofs.lemmas.List.{append-nil}
-use Rattle.bc_model.specs.Sector.{Value, Gives, at_run}
+use Rattle.bc_model.specs.Sector.{Value, Gives}
 use Rattle.bc_model.proofs.Runs.{at_range}
 use Rattle.bc_disk.specs.Disk.{DiskFacts}
 use Rattle.bc_parts.specs.Seat.{PartsView, Run, Holds}
-use Rattle.bc_seats.specs.Seats.{Since, Waited, Kept}
+use Rattle.bc_seats.specs.Seats.{Waited, Kept}
 use Rattle.bc_books.specs.Index.{Pointer}
-use Rattle.bc_data.specs.Seats.{Covers}
 use Rattle.bc_data.specs.Data as flow
 use Rattle.bc_data.specs.Enabled as flow_ask
 use Rattle.bc_data.specs.Enabled.{IsBacked}
 use Rattle.bc_whole.specs.Together.{is_quiet}
-use Rattle.bc_known.specs.Acts.{Act, Alone}
+use Rattle.bc_known.specs.Acts.{Alone}
 use Rattle.bc_events.specs.Acts.{acts_of}
-use Rattle.bc_events.specs.Run as core_run
 use Rattle.bc_events.specs.Run.{Opening, IsSome, CanDo, IsFit, IsOf, line_of}
 use Rattle.bc_events.specs.declared.event.Line.{Line}
 use Rattle.bc_events.specs.declared.event.Deed.{Deed}
@@ -27,10 +25,10 @@ use Rattle.bc_events.specs.declared.event.Event.{Event}
 use Rattle.bc_machine.specs.declared.part.CorePart.{CorePart}
 use Rattle.bc_machine.specs.declared.part.CorePart.TheVariants as part
 use Rattle.bc_machine.specs.Plain.{worker_of}
-use Rattle.bc_machine.specs.World.{World, IsEnabled, data_of, is_told, opening, after, changes, IsFlight, IsCache, IsBacking}
-use Rattle.bc_machine.specs.Note.{Note, note_of, IsFirmer}
+use Rattle.bc_machine.specs.World.{World, IsEnabled, data_of, is_told, opening, after, IsBacking}
+use Rattle.bc_machine.specs.Note.{note_of}
 use Rattle.bc_hand.specs.declared.hand.Hand.{Hand}
-use Rattle.bc_hand.specs.Seats.{by, world, note, IsCoreSeat, AtDeed, MayDo, Did, numbers, StandIn, Works}
+use Rattle.bc_hand.specs.Seats.{by, world, note, IsCoreSeat, AtDeed, MayDo, Did, Works}
 use Rattle.bc_hand.proofs.Knowing.{View, m, note_waited}
 use Rattle.bc_hand.proofs.Lending.{if_some, holds_flight, holds_cache, holds_backing}
 use Rattle.bc_machine.specs.Frame.{Range}

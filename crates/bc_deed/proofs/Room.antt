@@ -1,13 +1,13 @@
 -- Room for deeds: a seat that has more of it has waited, but for what it was promised.
-use Rattle.std.proofs.Common.{◌≡◌, ℕ, Bool, false, List, [], None, sym, ◌∙◌, refl}
+use Rattle.std.proofs.Common.{◌≡◌, ℕ, Bool, [], sym, ◌∙◌, refl}
 use Rattle.std.proofs.lemmas.List.{append-nil}
 use Rattle.bc_disk.specs.Disk.{DiskFacts}
 use Rattle.bc_parts.specs.Seat.{PartsView}
-use Rattle.bc_seats.specs.Seats.{IsSeat, Since, Waited, Kept, Went, own_events, state_seen}
+use Rattle.bc_seats.specs.Seats.{Since, Waited, Kept, Went, own_events, state_seen}
 use Rattle.bc_machine.specs.declared.part.CorePart.{CorePart}
 use Rattle.bc_machine.specs.Note.{IsFirmer}
 use Rattle.bc_hand.specs.declared.hand.Hand.{Hand}
-use Rattle.bc_hand.specs.Seats.{world, note, IsCoreSeat, Works}
+use Rattle.bc_hand.specs.Seats.{note, IsCoreSeat, Works}
 use Rattle.bc_hand.proofs.Knowing.{View, m, note_waited}
 use Rattle.bc_hand.proofs.Lending.{works_waited}
 

@@ -1,16 +1,16 @@
 -- Steps one behind the other.
-use Rattle.std.proofs.Common.{◌≡◌, ◌⊎◌, inl, inr, ℕ, List, [], ◌∷◌, ◌++◌, Option, Some, None, true, refl, sym, ap, ◌∙◌, subst}
+use Rattle.std.proofs.Common.{◌≡◌, inl, inr, ℕ, List, [], ◌∷◌, ◌++◌, Option, Some, None, true, refl, sym, ap, subst}
 use Rattle.std.specs.Prelude.{map, Result, Ok, Err, OnErr, IfErr}
 use Rattle.bc_disk.specs.Disk.{DiskFacts}
 use Rattle.bc_disk.specs.declared.disk.Device.TheVariants.{Backing}
-use Rattle.bc_seats.specs.Seats.{Waited, Committed, Went}
+use Rattle.bc_seats.specs.Seats.{Went}
 use Rattle.bc_seats.proofs.Knowing.{waited, committed, both}
 use Rattle.bc_events.specs.declared.event.Line.{Line}
 use Rattle.bc_events.specs.declared.event.Deed.{Deed}
 use Rattle.bc_events.specs.declared.event.Deed.TheVariants.{FlushFrom, BackingBarrier, FlushDone, DeviceFault}
 use Rattle.bc_events.specs.declared.event.Failure.TheVariants.{Barrier}
 use Rattle.bc_events.specs.declared.event.Event.{Event}
-use Rattle.bc_hand.specs.Seats.{by, did, note, IsCoreSeat, Did}
+use Rattle.bc_hand.specs.Seats.{by, note, IsCoreSeat, Did}
 use Rattle.bc_hand.specs.declared.error.StepError.{StepError}
 use Rattle.bc_hand.specs.declared.error.StepError.TheVariants as error
 use Rattle.bc_hand.proofs.Knowing.{View, m, note_committed}

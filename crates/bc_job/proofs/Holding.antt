@@ -1,6 +1,6 @@
 -- A hand without parts, and what a halt leaves.
-use Rattle.std.proofs.Common.{◌≡◌, ℕ, false, List, [], ◌∷◌, ◌++◌, Option, Some, None, append-nil, append_assoc, refl, sym, ap, ◌∙◌, subst}
-use Rattle.std.specs.Prelude.{Bool, is_some}
+use Rattle.std.proofs.Common.{◌≡◌, false, List, [], ◌∷◌, ◌++◌, Option, Some, None, append-nil, append_assoc, refl, sym, ap, ◌∙◌, subst}
+use Rattle.std.specs.Prelude.{is_some}
 use Rattle.bc_disk.specs.Disk.{DiskFacts}
 use Rattle.bc_disk.specs.declared.disk.Device.{Device}
 use Rattle.bc_parts.specs.Seat.{PartsView}

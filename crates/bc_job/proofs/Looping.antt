@@ -7,7 +7,6 @@ use Rattle.bc_model.specs.Pieces.{Piece, piece_in, pieces_from, ServedUpTo, piec
 use Rattle.bc_disk.specs.Disk.{DiskFacts}
 use Rattle.bc_parts.specs.Seat.{Run}
 use Rattle.bc_events.specs.declared.event.Line.{Line}
-use Rattle.bc_events.specs.declared.event.Event.{Event}
 use Rattle.bc_events.specs.declared.event.Deed.{Deed}
 use Rattle.bc_machine.specs.Plain.{worker_of}
 use Rattle.bc_machine.specs.declared.part.CorePart.{CorePart}
@@ -21,8 +20,8 @@ use Rattle.bc_job.specs.declared.job.Job.{Job}
 use Rattle.bc_job.specs.declared.error.RequestError.{RequestError}
 use Rattle.bc_job.specs.declared.error.RequestError.TheVariants as request
 use Rattle.bc_job.specs.Asked.{IsFor, line_of}
-use Rattle.bc_job.specs.Deeds.{IsHaltOf, AreReadDeeds, ReadStop, WriteStop, read_deeds, write_deeds, writes_deeds}
-use Rattle.bc_job.specs.Requests.{WhereOutside, IsRefusedRead, IsRefusedWrite, HasStoppedBy, HasNotRead, HasNotWritten}
+use Rattle.bc_job.specs.Deeds.{AreReadDeeds, ReadStop, WriteStop, read_deeds, write_deeds, writes_deeds}
+use Rattle.bc_job.specs.Requests.{WhereOutside, HasStoppedBy, HasNotRead, HasNotWritten}
 
 -- so many pieces and then others
 cut : (first count q n m : ℕ) → pieces_from first count q (n + suc m) ≡ pieces_from first count q n ++ piece_in first count (q + n) ∷ pieces_from first count (suc (q + n)) m

@@ -1,5 +1,5 @@
 -- The deeds under a claim, one behind the other.
-use Rattle.std.proofs.Common.{◌≡◌, ◌⊎◌, inl, inr, ℕ, ◌+◌, ◌≤◌, Bool, true, false, List, [], ◌∷◌, ◌++◌, Option, Some, None, refl, sym, ap, ◌∙◌, subst}
+use Rattle.std.proofs.Common.{◌≡◌, ◌⊎◌, inl, inr, ℕ, ◌≤◌, Bool, true, false, List, [], ◌∷◌, ◌++◌, Some, None, refl, sym, ap, ◌∙◌, subst}
 use Rattle.std.specs.Prelude.{length}
 use Rattle.bc_model.specs.Sector.{Value}
 use Rattle.bc_disk.specs.Disk.{DiskFacts}
@@ -27,7 +27,7 @@ use Rattle.bc_deed.specs.Flushed.{HasDone, HasStopped}
 use Rattle.bc_deed.proofs.Sequence.{done_both, done_first, done_then}
 use Rattle.bc_deed.proofs.May.{did_nothing}
 use Rattle.bc_job.specs.Refusals.{refusal}
-use Rattle.bc_job.specs.Deeds.{under, read_deeds, written, write_deeds, flush_deeds, HasBegunRead, ReadStop, WriteStop, FlushStop, HasClaimedOnly}
+use Rattle.bc_job.specs.Deeds.{under, read_deeds, written, write_deeds, flush_deeds, HasBegunRead, ReadStop, WriteStop, FlushStop}
 use Rattle.bc_job.specs.Pieces.{HasMadeClaim, MayHaveRead, ReadUnder, WriteUnder, FailedUnder, HaltedUnder}
 use Rattle.bc_job.specs.Requests.{HasStoppedBy, HasNotFlushed}
 use Rattle.bc_job.specs.declared.error.RequestError.{RequestError}

@@ -1,12 +1,11 @@
 -- What the steps under a claim come to, and what the seat notes of them.
-use Rattle.std.specs.Prelude.{Result, Ok, Err, OnOk, OnErr, IfErr}
-use Rattle.std.proofs.Common.{◌≡◌, ◌⊎◌, inl, inr, ℕ, ◌+◌, ◌/◌, ◌≤◌, Bool, true, false, List, [], ◌∷◌, length, Some, None, refl, sym, ap, ◌∙◌, subst, arith}
+use Rattle.std.specs.Prelude.{Result, Ok, Err, OnErr, IfErr}
+use Rattle.std.proofs.Common.{◌≡◌, inl, inr, ℕ, Bool, true, false, List, [], ◌∷◌, length, Some, None, refl, sym, ap, ◌∙◌, subst, arith}
 use Rattle.bc_model.specs.Sector.{Value}
 use Rattle.bc_disk.specs.Disk.{DiskFacts}
 use Rattle.bc_disk.specs.declared.disk.Device.TheVariants.{Backing}
 use Rattle.bc_flight.specs.declared.claim.Share.{Share}
-use Rattle.bc_flight.specs.declared.claim.Share.TheVariants.{Shared, Exclusive}
-use Rattle.bc_events.specs.Acts.{is_exclusive}
+use Rattle.bc_flight.specs.declared.claim.Share.TheVariants.{Exclusive}
 use Rattle.bc_events.specs.declared.event.Line.{Line}
 use Rattle.bc_events.specs.declared.event.Deed.{Deed}
 use Rattle.bc_events.specs.declared.event.Deed.TheVariants as deed
@@ -16,12 +15,11 @@ use Rattle.bc_machine.specs.Note.{Note, IsFirmer}
 use Rattle.bc_hand.specs.Seats.{note, IsCoreSeat, Did}
 use Rattle.bc_hand.specs.declared.error.StepError.{StepError}
 use Rattle.bc_hand.specs.declared.error.StepError.TheVariants as step
-use Rattle.bc_hand.proofs.Knowing.{View, note_waited, note_committed}
+use Rattle.bc_hand.proofs.Knowing.{View, note_committed}
 use Rattle.bc_deed.specs.Asked.{HasFailed, HasFailedOr, IsHalted, IsHaltedOr, IsLast, IsWithin, MayWrite}
 use Rattle.bc_deed.specs.Flushed.{HasDone}
 use Rattle.bc_deed.proofs.Sequence.{done_first, done_then}
 use Rattle.bc_deed.proofs.May.{plain_seen}
-use Rattle.bc_deed.proofs.Noting.{still_claimed}
 use Rattle.bc_job.specs.Deeds.{written}
 use Rattle.bc_job.specs.Pieces.{IsFresh, ReadUnder, WriteUnder}
 

@@ -1,5 +1,5 @@
 -- What a request asks of its seat.
-use Rattle.std.specs.Prelude.{◌≡◌, ℕ, ◌+◌, ◌<◌, ◌≤◌, ◌^◌}
+use Rattle.std.specs.Prelude.{◌≡◌, ◌+◌, ◌<◌, ◌≤◌, ◌^◌}
 use Rattle.bc_disk.specs.Disk.{DiskFacts}
 use Rattle.bc_parts.specs.Seat.{PartsView}
 use Rattle.bc_events.specs.declared.event.Line.{Line}

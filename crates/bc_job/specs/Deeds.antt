@@ -1,5 +1,5 @@
 -- The deeds of requests, piece by piece.
-use Rattle.std.specs.Prelude.{◌≡◌, ◌⊎◌, ℕ, ◌+◌, ◌<◌, ◌≤◌, Bool, true, false, List, [], ◌∷◌, ◌++◌, length, Some}
+use Rattle.std.specs.Prelude.{◌≡◌, ◌⊎◌, ℕ, Bool, true, false, List, [], ◌∷◌, ◌++◌, length, Some}
 use Rattle.bc_model.specs.Sector.{Value}
 use Rattle.bc_model.specs.Pieces.{Piece, piece_of}
 use Rattle.bc_disk.specs.declared.disk.Device.TheVariants.{Backing}

@@ -1,5 +1,5 @@
 -- What the steps of one piece tell each other.
-use Rattle.std.specs.Prelude.{◌≡◌, ◌⊎◌, ℕ, ◌+◌, Bool, true, false, List, [], ◌∷◌, length, Some}
+use Rattle.std.specs.Prelude.{◌≡◌, ◌⊎◌, ℕ, ◌+◌, Bool, true, false, List, [], ◌∷◌, Some}
 use Rattle.bc_model.specs.Sector.{Value}
 use Rattle.bc_disk.specs.Disk.{DiskFacts}
 use Rattle.bc_disk.specs.declared.disk.Device.TheVariants.{Backing}
@@ -9,9 +9,7 @@ use Rattle.bc_events.specs.Acts.{is_exclusive}
 use Rattle.bc_events.specs.Columns.{halt_of}
 use Rattle.bc_events.specs.declared.event.Line.{Line}
 use Rattle.bc_events.specs.declared.event.Failure.TheVariants as failure
-use Rattle.bc_events.specs.declared.event.Deed.{Deed}
 use Rattle.bc_events.specs.declared.event.Deed.TheVariants as deed
-use Rattle.bc_machine.specs.Frame.{Range}
 use Rattle.bc_machine.specs.Note.{Note}
 use Rattle.bc_hand.specs.Seats.{View, note}
 use Rattle.bc_hand.specs.declared.error.StepError.{StepError}

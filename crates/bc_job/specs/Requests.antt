@@ -1,5 +1,5 @@
 -- What requests promise, by the deeds of their seat.
-use Rattle.std.specs.Prelude.{◌≡◌, ℕ, ◌+◌, ◌<◌, ◌≤◌, List, [], ◌++◌}
+use Rattle.std.specs.Prelude.{◌≡◌, ◌+◌, ◌<◌, ◌≤◌, List, ◌++◌}
 use Rattle.bc_model.specs.Sector.{Value}
 use Rattle.bc_model.specs.Pieces.{Piece, pieces, piece_of, ServedUpTo}
 use Rattle.bc_disk.specs.Disk.{DiskFacts}

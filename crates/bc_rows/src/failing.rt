@@ -18,7 +18,8 @@ use std::test::Fail;
 
 /// Writes, flushes and reads that cross the end of a piece, and a forced write that does. They make
 /// 17 calls of the device.
-const TRACE: &str = "1 w 250 12 1\n1 f\n1 w 0 4 2\n1 r 248 16\n1 W 254 4 4\n1 w 252 6 3\n1 f\n1 r 0 8\n";
+const TRACE: &str =
+    "1 w 250 12 1\n1 f\n1 w 0 4 2\n1 r 248 16\n1 W 254 4 4\n1 w 252 6 3\n1 f\n1 r 0 8\n";
 
 /// The sectors before the data.
 const OFFSET: usize = 16;

@@ -20,9 +20,30 @@ fn test_left<R: Abort + Wait>(
     trace: &str,
     text: &str,
 ) -> Result<(), Fail> {
-    test_serve(rt, alloc, ("serve", trace), device.crash(Pick::Stable)?, text, 0)?;
-    test_serve(rt, alloc, ("serve", trace), device.crash(Pick::Newest)?, text, 0)?;
-    test_serve(rt, alloc, ("serve", trace), device.crash(Pick::Mixed(1))?, text, 0)?;
+    test_serve(
+        rt,
+        alloc,
+        ("serve", trace),
+        device.crash(Pick::Stable)?,
+        text,
+        0,
+    )?;
+    test_serve(
+        rt,
+        alloc,
+        ("serve", trace),
+        device.crash(Pick::Newest)?,
+        text,
+        0,
+    )?;
+    test_serve(
+        rt,
+        alloc,
+        ("serve", trace),
+        device.crash(Pick::Mixed(1))?,
+        text,
+        0,
+    )?;
     Ok(())
 }
 
@@ -48,7 +69,14 @@ fn its_barrier_fails(rt: HostRuntime) -> Result<(), Fail> {
     let ran = test_serve(&rt, alloc, ("serve", trace), backing, text, 6)?;
     test_calls(&rt, &ran, 0, 4);
     let newest = ran.backing.crash(Pick::Newest)?;
-    test_serve(&rt, alloc, ("serve", "1 r 0 2\n"), newest, "2x1 zerox1\n", 0)?;
+    test_serve(
+        &rt,
+        alloc,
+        ("serve", "1 r 0 2\n"),
+        newest,
+        "2x1 zerox1\n",
+        0,
+    )?;
     let stable = ran.backing.crash(Pick::Stable)?;
     test_serve(&rt, alloc, ("serve", "1 r 0 2\n"), stable, "zerox2\n", 0)?;
     Ok(())

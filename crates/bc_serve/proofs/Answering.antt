@@ -10,7 +10,6 @@ use Rattle.bc_disk.specs.declared.disk.Device.{Device}
 use Rattle.bc_disk.specs.declared.disk.Device.TheVariants as device
 use Rattle.bc_events.specs.declared.event.Line.{Line}
 use Rattle.bc_events.specs.declared.event.Deed.{Deed}
-use Rattle.bc_events.specs.declared.event.Event.{Event}
 use Rattle.bc_hand.specs.Seats.{IsCoreSeat}
 use Rattle.bc_hand.proofs.Knowing.{View}
 use Rattle.bc_deed.specs.Flushed.{HasDone}
@@ -24,7 +23,7 @@ use Rattle.bc_job.proofs.Looping.{done_none, served_up_to}
 use Rattle.bc_script.specs.declared.answer.Answer.{Answer}
 use Rattle.bc_script.specs.declared.answer.Answer.TheVariants.{Done, Runs, Refused}
 use Rattle.bc_script.specs.declared.answer.Refusal.TheVariants as refusal
-use Rattle.bc_script.specs.Served.{MayTry, MayBegin, ServesFlush, ServesRead, forced_writes, writes}
+use Rattle.bc_script.specs.Served.{MayTry, ServesFlush, ServesRead, forced_writes, writes}
 use Rattle.bc_serve.specs.Causes.{CallsBacking, HasAnswered, IsCaused, WritingServes, entries_by, has_failed}
 use Rattle.bc_serve.specs.Refusals.{refusal_of}
 use Rattle.bc_serve.proofs.Lists.{calls_both, caused_behind, entries_both}
@@ -109,8 +108,16 @@ last_written (request.Fault d) false of size first count stamp served refused va
     by : (entries_by last ≡ entry.Tried refused.first values ∷ [])
         ⊎ ((false ≡ true) × (entries_by last ≡ entry.Write of.worker of.line refused.first values ∷ []))
         → WritingServes false size of.worker of.line first count stamp (Refused (refusal.Fault d)) entries
-    by (inl tried) = (inside, served, refused, entries_by last, up_to, may_try d stop.0 stamp refused (entries_by last)
-        (tried ∙ ap (λ (vs : List Value). entry.Tried refused.first vs ∷ []) is), all)
+    by (inl tried) = (
+      inside,
+      served,
+      refused,
+      entries_by last,
+      up_to,
+      may_try d stop.0 stamp refused (entries_by last)
+          (tried ∙ ap (λ (vs : List Value). entry.Tried refused.first vs ∷ []) is),
+      all,
+    )
     by (inr (on, wrote)) = absurd (cc)
 last_written (request.Fault d) true of size first count stamp served refused values last entries is inside
     up_to stop all = by (failed_entries true of refused.first values last stop.1)
@@ -118,32 +125,78 @@ last_written (request.Fault d) true of size first count stamp served refused val
     by : (entries_by last ≡ entry.Tried refused.first values ∷ [])
         ⊎ ((true ≡ true) × (entries_by last ≡ entry.Write of.worker of.line refused.first values ∷ []))
         → WritingServes true size of.worker of.line first count stamp (Refused (refusal.Fault d)) entries
-    by (inl tried) = (inside, served, refused, entries_by last, up_to, inl (may_try d stop.0 stamp refused (entries_by last)
-        (tried ∙ ap (λ (vs : List Value). entry.Tried refused.first vs ∷ []) is)), all)
-    by (inr (on, wrote)) = (inside, served, refused, entries_by last, up_to,
-        inr (wrote ∙ ap (λ (vs : List Value). entry.Write of.worker of.line refused.first vs ∷ []) is), all)
+    by (inl tried) = (
+      inside,
+      served,
+      refused,
+      entries_by last,
+      up_to,
+      inl (may_try d stop.0 stamp refused (entries_by last)
+          (tried ∙ ap (λ (vs : List Value). entry.Tried refused.first vs ∷ []) is)),
+      all,
+    )
+    by (inr (on, wrote)) = (
+      inside,
+      served,
+      refused,
+      entries_by last,
+      up_to,
+      inr (wrote ∙ ap (λ (vs : List Value). entry.Write of.worker of.line refused.first vs ∷ []) is),
+      all,
+    )
 last_written (request.Halted d) false of size first count stamp served refused values last entries is inside
     up_to (inl claimed) all =
-    let quiet = claimed_only refused.first (length values) last claimed in
-    (inside, served, refused, up_to, all ∙ ap (λ (es : List Entry). writes of.worker of.line stamp served ++ es) quiet.entries
-    ∙ append-nil (writes of.worker of.line stamp served))
+    let quiet = claimed_only refused.first (length values) last claimed in (
+      inside,
+      served,
+      refused,
+      up_to,
+      all ∙ ap (λ (es : List Entry). writes of.worker of.line stamp served ++ es) quiet.entries
+          ∙ append-nil (writes of.worker of.line stamp served),
+    )
 last_written (request.Halted d) false of size first count stamp served refused values last entries is inside
     up_to (inr (on, wrote)) all = absurd (cc)
 last_written (request.Halted d) true of size first count stamp served refused values last entries is inside
-    up_to (inl claimed) all = (inside, served, refused, entries_by last, up_to,
-    inl (claimed_only refused.first (length values) last claimed).entries, all)
+    up_to (inl claimed) all = (
+      inside,
+      served,
+      refused,
+      entries_by last,
+      up_to,
+      inl (claimed_only refused.first (length values) last claimed).entries,
+      all,
+    )
 last_written (request.Halted d) true of size first count stamp served refused values last entries is inside
-    up_to (inr (on, wrote)) all = (inside, served, refused, entries_by last, up_to,
-    inr ((written_only of refused.first values last wrote).entries
-    ∙ ap (λ (vs : List Value). entry.Write of.worker of.line refused.first vs ∷ []) is), all)
+    up_to (inr (on, wrote)) all = (
+      inside,
+      served,
+      refused,
+      entries_by last,
+      up_to,
+      inr ((written_only of refused.first values last wrote).entries
+          ∙ ap (λ (vs : List Value). entry.Write of.worker of.line refused.first vs ∷ []) is),
+      all,
+    )
 last_written request.Memory false of size first count stamp served refused values last entries is inside
     up_to stop all =
-    let quiet = claimed_only refused.first (length values) last stop in
-    (inside, served, refused, up_to, all ∙ ap (λ (es : List Entry). writes of.worker of.line stamp served ++ es) quiet.entries
-    ∙ append-nil (writes of.worker of.line stamp served))
+    let quiet = claimed_only refused.first (length values) last stop in (
+      inside,
+      served,
+      refused,
+      up_to,
+      all ∙ ap (λ (es : List Entry). writes of.worker of.line stamp served ++ es) quiet.entries
+          ∙ append-nil (writes of.worker of.line stamp served),
+    )
 last_written request.Memory true of size first count stamp served refused values last entries is inside
-    up_to stop all = (inside, served, refused, entries_by last, up_to,
-    (claimed_only refused.first (length values) last stop).entries, all)
+    up_to stop all = (
+      inside,
+      served,
+      refused,
+      entries_by last,
+      up_to,
+      (claimed_only refused.first (length values) last stop).entries,
+      all,
+    )
 
 -- ---- reading
 

@@ -1,14 +1,11 @@
 -- A call that failed raises the count of the backing device's faults, to the end of the run.
 use Rattle.std.proofs.Common.{◌≡◌, ◌⊎◌, inl, inr, ℕ, suc, ◌≤◌, Bool, true, false, ◌||◌, List, [], ◌∷◌, ◌++◌, Option, Some, None, refl, sym, ap, ◌∙◌, subst, arith}
-use Rattle.std.specs.Prelude.{filter, fold, map, if◌then◌else◌}
+use Rattle.std.specs.Prelude.{fold, map, if◌then◌else◌}
 use Rattle.bc_model.proofs.Cases.{by_test}
 use Rattle.bc_disk.specs.Device.{HasRisen, next_count, count_end}
-use Rattle.bc_disk.specs.Disk.{DiskFacts}
 use Rattle.bc_disk.specs.declared.disk.Device.{Device}
 use Rattle.bc_disk.specs.declared.disk.Device.TheVariants as device
 use Rattle.bc_events.specs.Columns.{Call, call_by, halt_after, halt_by, halt_of, first_halt}
-use Rattle.bc_events.specs.declared.event.Failure.{Failure}
-use Rattle.bc_events.specs.declared.event.Failure.TheVariants as failure
 use Rattle.bc_events.specs.declared.event.Deed.{Deed}
 use Rattle.bc_events.specs.declared.event.Deed.TheVariants as deed
 use Rattle.bc_events.specs.declared.event.Event.{Event}

@@ -14,7 +14,7 @@ use Rattle.bc_script.specs.Served.{Served, ServesLine}
 use Rattle.bc_script.specs.declared.answer.Answer.{Answer}
 use Rattle.bc_script.specs.declared.line.Line.{Line}
 use Rattle.bc_script.proofs.Marks.{is_served, one_more}
-use Rattle.bc_serve.specs.Causes.{HasAnswered, IsCaused, entries_by}
+use Rattle.bc_serve.specs.Causes.{HasAnswered, entries_by}
 use Rattle.bc_serve.specs.Run.{AreServedBy, HaveAnswered, IsServedBy, own}
 use Rattle.bc_serve.proofs.Lists.{calls_both, entries_both}
 

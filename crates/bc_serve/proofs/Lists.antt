@@ -1,5 +1,5 @@
 -- Deeds one behind the other.
-use Rattle.std.proofs.Common.{◌≡◌, ℕ, Bool, true, false, ◌||◌, List, [], ◌∷◌, ◌++◌, append_assoc, refl, sym, ap, ◌∙◌, subst}
+use Rattle.std.proofs.Common.{◌≡◌, ℕ, Bool, true, false, ◌||◌, List, [], ◌∷◌, ◌++◌, append_assoc, refl, sym, ap, ◌∙◌}
 use Rattle.std.specs.Prelude.{map, option_to_list}
 use Rattle.bc_model.specs.declared.history.Entry.{Entry}
 use Rattle.bc_events.specs.Columns.{call_by, entry_by, entries_of}

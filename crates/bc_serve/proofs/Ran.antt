@@ -1,5 +1,5 @@
 -- From the steps of a run to what it promises.
-use Rattle.std.proofs.Common.{◌≡◌, ℕ, List, [], ◌∷◌, ◌++◌, Option, Some, None, append-nil, append_assoc, refl, sym, ap, ◌∙◌, subst}
+use Rattle.std.proofs.Common.{◌≡◌, List, [], ◌∷◌, ◌++◌, Option, Some, None, append-nil, append_assoc, refl, sym, ap, ◌∙◌, subst}
 use Rattle.std.specs.Prelude.{fold, map, option_to_list}
 use Rattle.bc_model.specs.Sector.{Image}
 use Rattle.bc_model.specs.declared.history.Entry.{Entry}
@@ -8,11 +8,10 @@ use Rattle.bc_parts.specs.Machine.{IsRun}
 use Rattle.bc_parts.specs.Seat.{PartsView, Run}
 use Rattle.bc_events.specs.Columns.{entries_of, entry_by}
 use Rattle.bc_events.specs.declared.event.Deed.{Deed}
-use Rattle.bc_events.specs.declared.event.Deed.TheVariants as deed
 use Rattle.bc_events.specs.declared.event.Event.{Event}
 use Rattle.bc_book.specs.Pass.{events_in}
 use Rattle.bc_book.specs.declared.pass.Pass.{Pass}
-use Rattle.bc_machine.specs.World.{World, IsBacking, after, opening}
+use Rattle.bc_machine.specs.World.{IsBacking, after, opening}
 use Rattle.bc_machine.specs.declared.part.BackingPart.{BackingPart}
 use Rattle.bc_machine.specs.declared.part.CorePart.{CorePart}
 use Rattle.bc_hand.specs.Seats.{by, world}

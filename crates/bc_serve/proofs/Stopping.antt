@@ -1,7 +1,6 @@
 -- What was done of a piece that was refused.
-use Rattle.std.proofs.Common.{◌≡◌, ◌⊎◌, inl, inr, ℕ, Bool, true, false, List, [], ◌∷◌, ◌++◌, length, Some, refl, sym, ap, ◌∙◌, subst}
+use Rattle.std.proofs.Common.{◌≡◌, ◌⊎◌, inl, inr, ℕ, Bool, true, false, List, [], ◌∷◌, length, Some, refl, sym, ap, subst}
 use Rattle.bc_model.specs.Sector.{Value}
-use Rattle.bc_model.specs.declared.history.Entry.{Entry}
 use Rattle.bc_model.specs.declared.history.Entry.TheVariants as entry
 use Rattle.bc_disk.specs.declared.disk.Device.TheVariants.{Backing}
 use Rattle.bc_flight.specs.declared.claim.Share.TheVariants.{Shared, Exclusive}

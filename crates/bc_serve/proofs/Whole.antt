@@ -1,13 +1,10 @@
 -- What a run of two seats comes to, of which one serves the lines and the other closes the run.
-use Rattle.std.proofs.Common.{◌≡◌, ◌≢◌, ◌⊎◌, inl, inr, ℕ, ◌+◌, ◌<◌, ◌≤◌, Bool, true, false, List, [], ◌∷◌, ◌++◌, append-nil, refl, sym, ap, ◌∙◌, subst, arith}
-use Rattle.std.specs.Prelude.{fold, map, filter, nat_lt, if◌then◌else◌}
+use Rattle.std.proofs.Common.{◌≡◌, ◌≢◌, ◌⊎◌, inl, inr, ℕ, ◌<◌, ◌≤◌, List, [], ◌∷◌, ◌++◌, refl, sym, ap, ◌∙◌, subst, arith}
+use Rattle.std.specs.Prelude.{map, if◌then◌else◌}
 use Rattle.std.proofs.lemmas.Bool.{cases_lt, ltb-true}
 use Rattle.bc_model.proofs.Cases.{by_test}
-use Rattle.bc_model.specs.declared.history.Entry.{Entry}
-use Rattle.bc_disk.specs.Device.{HasRisen}
 use Rattle.bc_disk.specs.Disk.{DiskFacts}
 use Rattle.bc_parts.specs.Machine.{IsRun}
-use Rattle.bc_events.specs.Columns.{entries_of}
 use Rattle.bc_events.specs.declared.event.Deed.{Deed}
 use Rattle.bc_events.specs.declared.event.Deed.TheVariants as deed
 use Rattle.bc_events.specs.declared.event.Event.{Event}
@@ -21,7 +18,6 @@ use Rattle.bc_serve.specs.Closed.{ClosedBy}
 use Rattle.bc_serve.specs.Run.{own}
 use Rattle.bc_serve.specs.declared.closing.Closing.{Closing}
 use Rattle.bc_serve.specs.declared.closing.Closing.TheVariants as closing
-use Rattle.bc_serve.proofs.Lists.{entries_map}
 
 -- ---- events of seats
 
@@ -33,8 +29,10 @@ AreBySeats (e ∷ es) = (e.seat < 320) × AreBySeats es
 module _ {C B : Type 0} (cache_facts : C → DiskFacts) (backing_facts : B → DiskFacts) where
   run_by_seats : (es : List Event) (x : World) → IsRun (m cache_facts backing_facts) x es → AreBySeats es
   run_by_seats [] x run = tt
-  run_by_seats (e ∷ es) x run = (ltb-true e.seat 320 run.0.seat,
-      run_by_seats es (Rattle.bc_machine.specs.World.after x e) run.1)
+  run_by_seats (e ∷ es) x run = (
+    ltb-true e.seat 320 run.0.seat,
+    run_by_seats es (Rattle.bc_machine.specs.World.after x e) run.1,
+  )
 
 by_behind : (xs ys : List Event) → AreBySeats (xs ++ ys) → AreBySeats ys
 by_behind [] ys h = h
@@ -113,7 +111,7 @@ module _ {C B : Type 0} (cache_facts : C → DiskFacts) (backing_facts : B → D
       let low_o : (n : ℕ) → n < 16 → own n o.seen ≡ [] = λ n low. nil_front (own n o.seen) (own n joined.seen.0)
       (sym (own_both n o.seen joined.seen.0) ∙ ap (λ (l : List Event). own n l) (sym joined.seen.1) ∙ none_x n (omega arith) (λ is. omega (arith, is))) in
       let alone_o : o.seen ≡ own 16 o.seen = sole 16 o.seen seats_o (λ n low other. elim (at_sixteen n other) [
-        inl less ↦ low_o n less
+        | inl less ↦ low_o n less
         | inr more ↦ high_o n more low
       ]) in
       let same : x.seen ≡ o.seen = alone_x ∙ own_x ∙ sym alone_o in
@@ -142,7 +140,7 @@ module _ {C B : Type 0} (cache_facts : C → DiskFacts) (backing_facts : B → D
 
       at_sixteen : (n : ℕ) → n ≢ 16 → (n < 16) ⊎ (16 < n)
       at_sixteen n other = elim (cases_lt n 16) [
-        inl less ↦ inl less
+        | inl less ↦ inl less
         | inr more ↦ inr (above n other more)
       ]
 
@@ -159,7 +157,7 @@ module _ {C B : Type 0} (cache_facts : C → DiskFacts) (backing_facts : B → D
 
       none_x : (n : ℕ) → n < 320 → n ≢ 16 → own n x.seen ≡ []
       none_x n high other = elim (at_sixteen n other) [
-        inl less ↦ (let a = vf in let b = ve in
+        | inl less ↦ (let a = vf in let b = ve in
             joined.own n (omega arith) (omega arith) ∙ ap (λ (l : List Event). own n l) vs)
         | inr more ↦ (let a = uf in let b = ue in let c = served.same.first in let d = served.same.end in
             joined.others n (omega arith) (omega arith) ∙ high_o n more high)

@@ -67,7 +67,8 @@ module _ (a b c : DiskFacts) where
   pub rose : (b.faults ≡ a.faults) → (c.faults ≡ next_count b.faults) → HasRisen a.faults c.faults
   rose quiet next = subst (HasRisen a.faults) (ap (λ n. next_count n) (sym quiet) ∙ sym next) (next_rises a.faults)
 
-  pub lone_told : (e : SuperError) → (e ≡ fault.Fault → HasRisen a.faults c.faults) → (e ≢ fault.Fault → RefusesBacking c e × (c.faults ≡ a.faults) × IsReadOnce c.sectors (next_count a.calls) c.calls) → IsLoneCause (refusal device.Backing e) a c
+  pub lone_told : (e : SuperError) → (e ≡ fault.Fault → HasRisen a.faults c.faults) → (e ≢ fault.Fault → RefusesBacking c e × (c.faults ≡ a.faults)
+      × IsReadOnce c.sectors (next_count a.calls) c.calls × StandsFor c (settled_model c)) → IsLoneCause (refusal device.Backing e) a c
   lone_told fault.Fault rises still = rises refl
   lone_told e rises still = still (λ is. absurd (cc))
 
@@ -86,15 +87,16 @@ module _ (a b c : DiskFacts) where
   }
 
   -- or it was read and refused
-  pub open_failed : (e : SuperError) → IsCounted {E = Failed} (Ok tt) a b → IsKept b c → (16 ≤ b.sectors → IsCounted (call_of {T = BackingSuper} (Err e)) b c) → (b.sectors < 16 → (c.faults ≡ b.faults) × (c.calls ≡ b.calls)) → (b.sectors < 16 → e ≡ fault.DeviceSmall) → IsCause b e
+  pub open_failed : (e : SuperError) → IsSettled a b → IsCounted {E = Failed} (Ok tt) a b → IsKept b c → (16 ≤ b.sectors → IsCounted (call_of {T = BackingSuper} (Err e)) b c) → (b.sectors < 16 → (c.faults ≡ b.faults) × (c.calls ≡ b.calls)) → (b.sectors < 16 → e ≡ fault.DeviceSmall) → IsCause b e
       → IsLoneCause (refusal device.Backing e) a c
-  open_failed e good kept counted untouched small cause = lone_told e
+  open_failed e settled good kept counted untouched small cause = lone_told e
       (λ is. fault_rises BackingSuper e good (counted (subst (λ (x : SuperError). IsCause b x) is cause)) is)
       (λ other. (
         (other, cause_after b c kept.sectors kept.holds e cause, (λ few. small (subst (λ n. n < 16) kept.sectors few))),
         elim (cases_lt b.sectors 16) [ inl few ↦ (untouched few).0 | inr many ↦ quiet_call BackingSuper e b c other (counted many) ] ∙ good.1,
         subst (λ n. IsReadOnce n (next_count a.calls) c.calls) (sym kept.sectors)
             (subst (λ n. IsReadOnce b.sectors n c.calls) good.0 (once BackingSuper (Err e) b c (λ few. (untouched few).1) counted)),
+        stands settled kept,
       ))
 
 -- after a call that changed nothing

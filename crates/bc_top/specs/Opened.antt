@@ -2,7 +2,8 @@
 use Rattle.std.specs.Prelude.{◌≡◌, ◌⊎◌, ℕ, Option, Some, None}
 use Rattle.bc_model.specs.Sector.{Image}
 use Rattle.bc_disk.specs.Device.{HasRisen, next_count}
-use Rattle.bc_disk.specs.Disk.{DiskFacts, BothTold}
+use Rattle.bc_disk.specs.Disk.{DiskFacts, BothTold, StandsFor}
+use Rattle.bc_disk.specs.Stands.{settled_model}
 use Rattle.bc_disk.specs.declared.disk.Device.TheVariants as device
 use Rattle.bc_image.specs.Pair.{Pair}
 use Rattle.bc_replay.specs.Causes.{EndsAtSupers, IsReadOnce, OfHeld, RefusesBacking}
@@ -57,10 +58,12 @@ AsksForCache d = (s : BackingSuper) × ReadsSuper d s × (IsPassThrough s → �
 
 -- ---- why a pair isn't served
 
--- a call of the backing device failed, or its superblock, which was read once behind a barrier, has this fault, the first in order
+-- a call of the backing device failed, or its superblock, which was read once behind a barrier, has
+-- this fault, the first in order, and a crash would leave exactly what the device holds
 abbrev pub IsLoneCause : OpenError → DiskFacts → DiskFacts → Type 0
 IsLoneCause (errors.Fault device.Backing) old new = HasRisen old.faults new.faults
-IsLoneCause (errors.Super device.Backing why) old new = RefusesBacking new why × (new.faults ≡ old.faults) × IsReadOnce new.sectors (next_count old.calls) new.calls
+IsLoneCause (errors.Super device.Backing why) old new = RefusesBacking new why × (new.faults ≡ old.faults)
+    × IsReadOnce new.sectors (next_count old.calls) new.calls × StandsFor new (settled_model new)
 IsLoneCause error old new = ⊥
 
 module _ (cache cache' backing backing' : DiskFacts) where

@@ -1,6 +1,5 @@
-use Rattle.std.proofs.Common.{ℕ, ◌+◌, ◌≤◌, List, length, Some, refl, sym, ap, ◌∙◌, subst}
+use Rattle.std.proofs.Common.{◌+◌, ◌≤◌, List, length, Some, refl, sym, subst}
 use Rattle.bc_model.specs.Sector.{Value}
-use Rattle.bc_disk.specs.declared.disk.Device.TheVariants as device
 use Rattle.bc_events.specs.declared.event.Deed.TheVariants as deed
 use Rattle.bc_events.specs.declared.event.Failure.TheVariants as failure
 use Rattle.bc_hand.specs.Seats.{note}

@@ -1,4 +1,4 @@
-use Rattle.std.proofs.Common.{◌≡◌, ◌++◌, ◌∷◌, [], false, sym, ap, ◌∙◌, subst}
+use Rattle.std.proofs.Common.{◌≡◌, ◌++◌, ◌∷◌, [], false, ap, ◌∙◌, subst}
 use Rattle.bc_flight.specs.Claims.{conflicts_any}
 use Rattle.bc_flight.specs.Flight.{claim_at, without}
 use Rattle.bc_flight.specs.declared.claim.Claim.{Claim as FlightClaim}

@@ -1,6 +1,5 @@
 use Rattle.std.specs.Prelude.{◌==◌}
-use Rattle.std.proofs.Common.{List, sym, subst}
-use Rattle.bc_model.specs.Sector.{Value}
+use Rattle.std.proofs.Common.{sym, subst}
 use Rattle.bc_events.specs.declared.event.Deed.TheVariants as deed
 use Rattle.bc_hand.specs.Seats.{MayDo}
 use Rattle.bc_deed.proofs.May.{may_answer, none_changed, works_kept}

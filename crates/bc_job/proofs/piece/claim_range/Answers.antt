@@ -1,7 +1,6 @@
-use Rattle.std.proofs.Common.{[], refl, sym, ap, ◌∙◌}
-use Rattle.bc_hand.specs.Seats.{note}
+use Rattle.std.proofs.Common.{refl, ap, ◌∙◌}
 use Rattle.bc_hand.proofs.Knowing.{note_waited}
-use Rattle.bc_job.proofs.Holding.{still_empty, in_order}
+use Rattle.bc_job.proofs.Holding.{still_empty}
 use Rattle.bc_job.proofs.Sequence.{none_yet, still_waiting, made_claim, has_claimed, has_waited}
 use Rattle.bc_job.proofs.piece.claim_range.Goals as goal
 

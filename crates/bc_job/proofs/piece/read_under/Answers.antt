@@ -5,9 +5,7 @@ use Rattle.bc_events.specs.declared.event.Deed.TheVariants as deed
 use Rattle.bc_events.specs.declared.event.Failure.TheVariants as failure
 use Rattle.bc_disk.specs.declared.disk.Device.TheVariants.{Backing}
 use Rattle.bc_hand.proofs.Knowing.{map_ok}
-use Rattle.bc_deed.proofs.May.{map_if_err}
 use Rattle.bc_deed.proofs.Sequence.{done_first}
-use Rattle.bc_job.proofs.Holding.{still_empty}
 use Rattle.bc_deed.proofs.Noting.{range_failed, range_either}
 use Rattle.bc_job.proofs.Under.{read_failed, read_noted, read_there, read_answered, answer_stopped, within_same}
 use Rattle.bc_job.proofs.piece.read_under.Goals as goal

@@ -1,4 +1,4 @@
-use Rattle.std.proofs.Common.{◌≡◌, ℕ, ◌+◌, ◌-◌, ◌*◌, ◌/◌, ◌<◌, ◌≤◌, min, max, List, [], ◌∷◌, ◌++◌, refl, sym, ap, ◌∙◌, subst, arith}
+use Rattle.std.proofs.Common.{◌≡◌, ℕ, ◌+◌, ◌-◌, ◌*◌, ◌/◌, ◌<◌, ◌≤◌, min, max, List, [], ◌++◌, refl, sym, ap, ◌∙◌, subst, arith}
 use Rattle.bc_model.specs.Sector.{Value, sectors}
 use Rattle.bc_model.specs.Pieces.{Piece, piece_in, pieces_from}
 use Rattle.bc_events.specs.declared.event.Deed.{Deed}

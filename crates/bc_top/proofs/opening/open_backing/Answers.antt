@@ -21,7 +21,7 @@ returns-in-Err-clause-cause g c =
     let old = g.B.Disk.facts c.args.backing.now in
     let new = g.B.Disk.facts c.read_backing.new.disk in
     subst (λ (x : OpenError). IsLoneCause x old new) (sym c.refusal.ensures)
-    (open_failed old (g.B.Disk.facts c.barrier.new.self) new c.in-Err.error c.in-Ok.ensures.counted r.kept r.counted (λ few. (ap (λ d. (g.B.Disk.facts d).faults) (r.untouched few), ap (λ d. (g.B.Disk.facts d).calls) (r.untouched few))) (λ few. let is = r.small.1 few in cc) r.refused)
+    (open_failed old (g.B.Disk.facts c.barrier.new.self) new c.in-Err.error c.in-Ok.ensures.ok c.in-Ok.ensures.counted r.kept r.counted (λ few. (ap (λ d. (g.B.Disk.facts d).faults) (r.untouched few), ap (λ d. (g.B.Disk.facts d).calls) (r.untouched few))) (λ few. let is = r.small.1 few in cc) r.refused)
 
 pub returns-in-Err-clause-same : goal.returns-in-Err-clause-same
 returns-in-Err-clause-same g c = same_settled (g.B.Disk.facts c.args.backing.now) (g.B.Disk.facts c.barrier.new.self) (g.B.Disk.facts c.read_backing.new.disk) c.in-Ok.ensures.ok c.in-Err.ensures.kept
