@@ -16,8 +16,19 @@ returns-in-Ok-clause-unknown g c = λ other. unknown _ (c.bcache.ensures.unknown
 pub returns-in-Ok-clause-done : goal.returns-in-Ok-clause-done
 returns-in-Ok-clause-done g c = λ serves zero.
     let run = (began _ _ (λ none. let it = c.bcache.ensures.stopped (subst IsServe (sym (to_end 2 c.args.words.now)) serves) none in (it.0, it.1)) c.bcache.ensures.run zero).1 in
-    let done = run.12 zero in
-    record { lines = run.2; trace = run.8; whole = run.9; size = _; answers = run.3; history = _; served = run.10.served; text = done.text; printed = done.are_lines; taken = done.taken }
+    let done = run.done zero in
+    record {
+      lines = run.lines;
+      trace = run.trace;
+      whole = run.whole;
+      size = _;
+      answers = run.answers;
+      history = _;
+      served = run.run.served;
+      text = done.text;
+      printed = done.are_lines;
+      taken = done.taken;
+    }
 
 pub returns-in-Ok-clause-usage : goal.returns-in-Ok-clause-usage
 returns-in-Ok-clause-usage g c = λ two command says. c.bcache.ensures.usage two command (subst (λ (words : List (String Global)). Says words command) (sym (to_end 2 c.args.words.now)) says)
