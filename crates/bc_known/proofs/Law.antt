@@ -44,10 +44,10 @@ is_run_join w st (x ∷ xs) ys a b =
     (a.0, is_run_join w (whole_run.after w st x.seat x.act) xs ys a.1 b)
 
 -- a state of a run of the whole machine, and one act more
-record AtWhole (w : Opening) (x : parts.State) (st : whole.State) : Type 0 where
-  events : List whole.Event
-  run : whole_run.IsRun w (whole_run.start w x) events
-  is : st ≡ whole_run.run w (whole_run.start w x) events
+pub record AtWhole (w : Opening) (x : parts.State) (st : whole.State) : Type 0 where
+  pub events : List whole.Event
+  pub run : whole_run.IsRun w (whole_run.start w x) events
+  pub is : st ≡ whole_run.run w (whole_run.start w x) events
 
 one_more : (w : Opening) (x : parts.State) (st : whole.State) (seat : ℕ) (act : whole.Act)
     → AtWhole w x st → whole_run.IsEnabled w st seat act
@@ -61,17 +61,17 @@ one_more w x st seat act h on =
           ∙ sym (run_join w (whole_run.start w x) h.events (e ∷ []));
     }
 
-inv_at : (w : Opening) (x : parts.State) (st : whole.State) → IsSound w x → AtWhole w x st
+pub inv_at : (w : Opening) (x : parts.State) (st : whole.State) → IsSound w x → AtWhole w x st
     → Inv w st
 inv_at w x st sound h = subst (λ y. Inv w y) (sym h.is) (reached w x h.events sound.whole h.run)
 
-order_at : (w : Opening) (x : parts.State) (st : whole.State) → IsSound w x → AtWhole w x st
+pub order_at : (w : Opening) (x : parts.State) (st : whole.State) → IsSound w x → AtWhole w x st
     → IsInOrder w.flow.books st.flow.books
 order_at w x st sound h = (truthful w x st.flow sound.whole (inv_at w x st sound h).flow).books
 
-record At (w : Opening) (x : parts.State) (st : State) : Type 0 where
-  at : AtWhole w x st.whole
-  known : IsKnown w st
+pub record At (w : Opening) (x : parts.State) (st : State) : Type 0 where
+  pub at : AtWhole w x st.whole
+  pub known : IsKnown w st
 
 module _ (w : Opening) (x : parts.State) (sound : IsSound w x) (st : State) (seat : ℕ)
     (h : At w x st) where
@@ -81,7 +81,7 @@ module _ (w : Opening) (x : parts.State) (sound : IsSound w x) (st : State) (sea
   f : IsInOrder w.flow.books st.whole.flow.books
   f = order_at w x st.whole sound h.at
 
-  keep : (act : Act) → IsEnabled w st seat act → At w x (after w st seat act)
+  pub keep : (act : Act) → IsEnabled w st seat act → At w x (after w st seat act)
   keep (Alone act) on = record {
     at = one_more w x st.whole seat (whole.Alone act) h.at
         (record { together = on.asks; flow = on.data_allows; store = tt });
@@ -207,7 +207,7 @@ opened w x next_seq sound = record {
   };
 }
 
-at_end : (w : Opening) (x : parts.State) (next_seq : ℕ) (es : List Event) → IsSound w x
+pub at_end : (w : Opening) (x : parts.State) (next_seq : ℕ) (es : List Event) → IsSound w x
     → IsRun w (start w x next_seq) es → At w x (run w (start w x next_seq) es)
 at_end w x next_seq es sound on =
     keep_run w x sound (start w x next_seq) es on (opened w x next_seq sound)

@@ -1,0 +1,5 @@
+mod Acts
+mod Nodes
+mod Parts
+mod Rows
+pub mod Law
