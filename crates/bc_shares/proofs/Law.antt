@@ -22,7 +22,7 @@ use Rattle.bc_shares.proofs.Acts.{AllActs, IsKept, kept_run, journal_act, journa
 use Rattle.bc_shares.proofs.Parts.{IsKeptAt, kept_at, not_either, leaf_act, SameLeaf, leaf_kept, install_leaf, spine_act, spine_kept}
 use Rattle.bc_shares.proofs.Rows.{journal_row, buckets_row, leaf_row, spine_row}
 
-in_order : (w : Opening) (st : State) (e : Event) (o : Option (List Act)) → IsSome o (CanDo w st e)
+pub in_order : (w : Opening) (st : State) (e : Event) (o : Option (List Act)) → IsSome o (CanDo w st e)
     → machine.IsRun w.machine st.machine (by e.seat (acts_or_none o))
 in_order w st e None on = absurd on
 in_order w st e (Some acts) on = on.course
@@ -49,7 +49,7 @@ law_buckets w st e on off = frame (λ act. buckets_act act ≡ false)
 -- ---- in states of a run
 
 -- the state after a run of events is one of the machine's
-at_state : (w : Opening) (x : parts.State) (n : ℕ) (es : List Event) → IsSound w.machine x
+pub at_state : (w : Opening) (x : parts.State) (n : ℕ) (es : List Event) → IsSound w.machine x
     → IsRun w (start w x n) es → At w.machine x (run w (start w x n) es).machine
 at_state w x n es sound on =
     let m = law_machine w (start w x n) es on in
