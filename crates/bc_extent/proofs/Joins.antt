@@ -16,11 +16,11 @@ joined-append = flat_map-append (λ (ring : List Key). ring)
 pub joined_one : (ring : List Key) → joined (ring ∷ []) ≡ ring
 joined_one ring = append-nil ring
 
-pub length-joined : (rings : List (List Key)) → AreFull rings → length (joined rings) ≡ 256 * length rings
+pub length-joined : (rings : List (List Key)) → AreFull rings → length (joined rings) ≡ 512 * length rings
 length-joined [] full = refl
 length-joined (ring ∷ rings) full =
-    let own = All-head (λ (r : List Key). length r ≡ 256) ring rings full in
-    let rest = length-joined rings (All-tail (λ (r : List Key). length r ≡ 256) ring rings full) in
+    let own = All-head (λ (r : List Key). length r ≡ 512) ring rings full in
+    let rest = length-joined rings (All-tail (λ (r : List Key). length r ≡ 512) ring rings full) in
     omega (arith, add-one, length-append ring (joined rings))
 
 -- ---- a key carried from ring to ring
@@ -68,7 +68,7 @@ pulled_first (n ∷ now) (first ∷ old) all ring place carried out here there i
 
 -- ---- full rings
 
-pub full_set : (rings : List (List Key)) (i : ℕ) (ring : List Key) → AreFull rings → length ring ≡ 256 → AreFull (set rings i ring)
+pub full_set : (rings : List (List Key)) (i : ℕ) (ring : List Key) → AreFull rings → length ring ≡ 512 → AreFull (set rings i ring)
 full_set rings i ring full long = λ k d inside.
     let within : k < length rings = omega (arith, length-set rings i ring) in
     elim (cases_eq k i) [
@@ -77,16 +77,16 @@ full_set rings i ring full long = λ k d inside.
     ]
 
 -- what goes in at one side comes out at the other
-pub same_long : (new old : List Key) (a b : Key) → new ++ a ∷ [] ≡ b ∷ old → length old ≡ 256 → length new ≡ 256
+pub same_long : (new old : List Key) (a b : Key) → new ++ a ∷ [] ≡ b ∷ old → length old ≡ 512 → length new ≡ 512
 same_long new old a b is long = let e = ap length is in omega (arith, add-one, length-append new (a ∷ []))
 
-pub same_long_back : (new old : List Key) (a b : Key) → a ∷ new ≡ old ++ b ∷ [] → length old ≡ 256 → length new ≡ 256
+pub same_long_back : (new old : List Key) (a b : Key) → a ∷ new ≡ old ++ b ∷ [] → length old ≡ 512 → length new ≡ 512
 same_long_back new old a b is long = let e = ap length is in omega (arith, add-one, length-append old (b ∷ []))
 
-pub same_long_at : (new old : List Key) (place : ℕ) (a b : Key) → new ++ a ∷ [] ≡ insert old place b → place < 256 → length old ≡ 256 → length new ≡ 256
+pub same_long_at : (new old : List Key) (place : ℕ) (a b : Key) → new ++ a ∷ [] ≡ insert old place b → place < 512 → length old ≡ 512 → length new ≡ 512
 same_long_at new old place a b is inside long = let e = ap length is in omega (arith, add-one, length-append new (a ∷ []), length-insert old place b (omega arith))
 
-pub same_long_out : (new old : List Key) (place : ℕ) (a b : Key) → insert new place a ≡ old ++ b ∷ [] → length old ≡ 256 → length new ≡ 256
+pub same_long_out : (new old : List Key) (place : ℕ) (a b : Key) → insert new place a ≡ old ++ b ∷ [] → length old ≡ 512 → length new ≡ 512
 same_long_out new old place a b is long =
     let e = ap length is in
     omega (arith, add-one, length-append old (b ∷ []), length-append (take place new) (a ∷ drop place new), ap length (take-append-drop place new), length-append (take place new) (drop place new))
@@ -139,35 +139,35 @@ module _ {X : Type 0} (before old new behind : List X) (place n : ℕ) (x out : 
 
 -- ---- one key of all rings
 
-pub joined_at : (rings : List (List Key)) (b o : ℕ) (d : Key) → AreFull rings → b < length rings → o < 256 → get_or (joined rings) (256 * b + o) d ≡ get_or (get_or rings b []) o d
+pub joined_at : (rings : List (List Key)) (b o : ℕ) (d : Key) → AreFull rings → b < length rings → o < 512 → get_or (joined rings) (512 * b + o) d ≡ get_or (get_or rings b []) o d
 joined_at [] b o d full inside low = absurd (omega arith)
 joined_at (ring ∷ rings) zero o d full inside low =
-    let own = All-head (λ (r : List Key). length r ≡ 256) ring rings full in
-    ap (λ k. get_or (ring ++ joined rings) k d) (let e : 256 * 0 + o ≡ o = omega arith in e) ∙ get_or_append_left ring (joined rings) d o (omega arith)
+    let own = All-head (λ (r : List Key). length r ≡ 512) ring rings full in
+    ap (λ k. get_or (ring ++ joined rings) k d) (let e : 512 * 0 + o ≡ o = omega arith in e) ∙ get_or_append_left ring (joined rings) d o (omega arith)
 joined_at (ring ∷ rings) (suc b) o d full inside low =
-    let own = All-head (λ (r : List Key). length r ≡ 256) ring rings full in
-    get_or-append_right ring (joined rings) 256 (256 * suc b + o) d own (omega arith)
-    ∙ ap (λ k. get_or (joined rings) k d) (let e : 256 * suc b + o - 256 ≡ 256 * b + o = omega arith in e)
-    ∙ joined_at rings b o d (All-tail (λ (r : List Key). length r ≡ 256) ring rings full) (omega arith) low
+    let own = All-head (λ (r : List Key). length r ≡ 512) ring rings full in
+    get_or-append_right ring (joined rings) 512 (512 * suc b + o) d own (omega arith)
+    ∙ ap (λ k. get_or (joined rings) k d) (let e : 512 * suc b + o - 512 ≡ 512 * b + o = omega arith in e)
+    ∙ joined_at rings b o d (All-tail (λ (r : List Key). length r ≡ 512) ring rings full) (omega arith) low
 
-pub joined_set : (rings : List (List Key)) (b o : ℕ) (x : Key) → AreFull rings → b < length rings → o < 256 → joined (set rings b (set (get_or rings b []) o x)) ≡ set (joined rings) (256 * b + o) x
+pub joined_set : (rings : List (List Key)) (b o : ℕ) (x : Key) → AreFull rings → b < length rings → o < 512 → joined (set rings b (set (get_or rings b []) o x)) ≡ set (joined rings) (512 * b + o) x
 joined_set [] b o x full inside low = absurd (omega arith)
 joined_set (ring ∷ rings) zero o x full inside low =
-    let own = All-head (λ (r : List Key). length r ≡ 256) ring rings full in
-    sym (ap (λ k. set (ring ++ joined rings) k x) (let e : 256 * 0 + o ≡ o = omega arith in e) ∙ set-append_left ring (joined rings) o x (omega arith))
+    let own = All-head (λ (r : List Key). length r ≡ 512) ring rings full in
+    sym (ap (λ k. set (ring ++ joined rings) k x) (let e : 512 * 0 + o ≡ o = omega arith in e) ∙ set-append_left ring (joined rings) o x (omega arith))
 joined_set (ring ∷ rings) (suc b) o x full inside low =
-    let own = All-head (λ (r : List Key). length r ≡ 256) ring rings full in
-    ap (λ xs. ring ++ xs) (joined_set rings b o x (All-tail (λ (r : List Key). length r ≡ 256) ring rings full) (omega arith) low)
-    ∙ sym (set-append_right ring (joined rings) 256 (256 * suc b + o) x own (omega arith) ∙ ap (λ k. ring ++ set (joined rings) k x) (let e : 256 * suc b + o - 256 ≡ 256 * b + o = omega arith in e))
+    let own = All-head (λ (r : List Key). length r ≡ 512) ring rings full in
+    ap (λ xs. ring ++ xs) (joined_set rings b o x (All-tail (λ (r : List Key). length r ≡ 512) ring rings full) (omega arith) low)
+    ∙ sym (set-append_right ring (joined rings) 512 (512 * suc b + o) x own (omega arith) ∙ ap (λ k. ring ++ set (joined rings) k x) (let e : 512 * suc b + o - 512 ≡ 512 * b + o = omega arith in e))
 
 -- ---- a part of the rings changed
 
 full_part : (rings : List (List Key)) (a k : ℕ) → AreFull rings → AreFull (take k (drop a rings))
-full_part rings a k full = All-take (λ (r : List Key). length r ≡ 256) k (drop a rings) (All-drop (λ (r : List Key). length r ≡ 256) a rings full)
+full_part rings a k full = All-take (λ (r : List Key). length r ≡ 512) k (drop a rings) (All-drop (λ (r : List Key). length r ≡ 512) a rings full)
 
 pub full_put : (rings mid : List (List Key)) (a k : ℕ) → AreFull rings → AreFull mid → AreFull (take a rings ++ (mid ++ drop k (drop a rings)))
 full_put rings mid a k full own =
-    let P = λ (r : List Key). length r ≡ 256 in
+    let P = λ (r : List Key). length r ≡ 512 in
     All-append P (take a rings) (mid ++ drop k (drop a rings)) (All-take P a rings full) (All-append P mid (drop k (drop a rings)) own (All-drop P k (drop a rings) (All-drop P a rings full)))
 
 module _ (rings mid : List (List Key)) (a k : ℕ) (full : AreFull rings) (within : a + k ≤ length rings) where
@@ -183,13 +183,13 @@ module _ (rings mid : List (List Key)) (a k : ℕ) (full : AreFull rings) (withi
   all_parts : joined rings ≡ joined (take a rings) ++ (joined part ++ joined rest)
   all_parts = ap joined (sym (take-append-drop a rings) ∙ ap (λ ys. take a rings ++ ys) (sym (take-append-drop k (drop a rings)))) ∙ joined_parts part
 
-  long_before : length (joined (take a rings)) ≡ 256 * a
-  long_before = length-joined (take a rings) (All-take (λ (r : List Key). length r ≡ 256) a rings full) ∙ ap (λ n. 256 * n) (length-take-le a rings (omega arith))
+  long_before : length (joined (take a rings)) ≡ 512 * a
+  long_before = length-joined (take a rings) (All-take (λ (r : List Key). length r ≡ 512) a rings full) ∙ ap (λ n. 512 * n) (length-take-le a rings (omega arith))
 
-  long_part : length (joined part) ≡ 256 * k
-  long_part = length-joined part (full_part rings a k full) ∙ ap (λ n. 256 * n) (length-take-le k (drop a rings) (omega (arith, length-drop a rings)))
+  long_part : length (joined part) ≡ 512 * k
+  long_part = length-joined part (full_part rings a k full) ∙ ap (λ n. 512 * n) (length-take-le k (drop a rings) (omega (arith, length-drop a rings)))
 
-  pub grown_part : (place i n : ℕ) (x out : Key) → i ≡ 256 * a + place → place < 256 → 0 < k → i ≤ n → n < 256 * (a + k) → joined mid ++ out ∷ [] ≡ insert (joined part) place x → take (n + 1) (joined (take a rings ++ (mid ++ rest))) ≡ insert (take n (joined rings)) i x
+  pub grown_part : (place i n : ℕ) (x out : Key) → i ≡ 512 * a + place → place < 512 → 0 < k → i ≤ n → n < 512 * (a + k) → joined mid ++ out ∷ [] ≡ insert (joined part) place x → take (n + 1) (joined (take a rings ++ (mid ++ rest))) ≡ insert (take n (joined rings)) i x
   grown_part place i n x out at low some inside room is =
       let before = long_before in
       let long = long_part in
@@ -199,7 +199,7 @@ module _ (rings mid : List (List Key)) (a k : ℕ) (full : AreFull rings) (withi
       ∙ ap (λ m. insert (take n (joined (take a rings) ++ (joined part ++ joined rest))) m x) place_is
       ∙ ap (λ ys. insert (take n ys) i x) (sym all_parts)
 
-  pub shrunk_part : (place i n : ℕ) (x out : Key) → i ≡ 256 * a + place → place < 256 → 0 < k → i < n → n ≤ 256 * (a + k) → AreFull mid → length mid ≡ k → insert (joined mid) place out ≡ joined part ++ x ∷ [] → take (n - 1) (joined (take a rings ++ (mid ++ rest))) ≡ remove (take n (joined rings)) i
+  pub shrunk_part : (place i n : ℕ) (x out : Key) → i ≡ 512 * a + place → place < 512 → 0 < k → i < n → n ≤ 512 * (a + k) → AreFull mid → length mid ≡ k → insert (joined mid) place out ≡ joined part ++ x ∷ [] → take (n - 1) (joined (take a rings ++ (mid ++ rest))) ≡ remove (take n (joined rings)) i
   shrunk_part place i n x out at low some inside room own same is =
       let before = long_before in
       let long = long_part in
@@ -212,35 +212,32 @@ module _ (rings mid : List (List Key)) (a k : ℕ) (full : AreFull rings) (withi
 
 -- ---- one of the first keys of all rings
 
-module _ (rings : List (List Key)) (n i : ℕ) (ring : List Key) (full : AreFull rings) (low : i < n) (room : n ≤ 256 * length rings) (own : ring ≡ get_or rings (i / 256) ring) where
-  inside : i / 256 < length rings
+module _ (rings : List (List Key)) (n i : ℕ) (ring : List Key) (full : AreFull rings) (low : i < n) (room : n ≤ 512 * length rings) (own : ring ≡ get_or rings (i / 512) ring) where
+  inside : i / 512 < length rings
   inside = omega arith
 
-  parts : 256 * (i / 256) + i % 256 ≡ i
+  parts : 512 * (i / 512) + i % 512 ≡ i
   parts = omega arith
 
-  own_is : get_or rings (i / 256) [] ≡ ring
-  own_is = get_or_default rings (i / 256) [] ring inside ∙ sym own
+  own_is : get_or rings (i / 512) [] ≡ ring
+  own_is = get_or_default rings (i / 512) [] ring inside ∙ sym own
 
-  long : length ring ≡ 256
-  long = ap length (sym own_is) ∙ full (i / 256) [] inside
+  long : length ring ≡ 512
+  long = ap length (sym own_is) ∙ full (i / 512) [] inside
 
-  pub row_at : (key d : Key) → key ≡ get_or ring (i % 256) key → key ≡ get_or (take n (joined rings)) i d
-  row_at key d is =
-      let within = long in
-      is
-      ∙ get_or_default ring (i % 256) key d (omega arith)
-      ∙ sym (
+  pub row_at : (d : Key) → get_or ring (i % 512) d ≡ get_or (take n (joined rings)) i d
+  row_at d =
+      sym (
       get_or-take n (joined rings) i d low
       ∙ ap (λ k. get_or (joined rings) k d) (sym parts)
-      ∙ joined_at rings (i / 256) (i % 256) d full inside (omega arith)
-      ∙ ap (λ r. get_or r (i % 256) d) own_is
+      ∙ joined_at rings (i / 512) (i % 512) d full inside (omega arith)
+      ∙ ap (λ r. get_or r (i % 512) d) own_is
       )
 
-  pub row_set : (x : Key) → take n (joined (set rings (i / 256) (set ring (i % 256) x))) ≡ set (take n (joined rings)) i x
+  pub row_set : (x : Key) → take n (joined (set rings (i / 512) (set ring (i % 512) x))) ≡ set (take n (joined rings)) i x
   row_set x =
-      ap (λ r. take n (joined (set rings (i / 256) (set r (i % 256) x)))) (sym own_is)
-      ∙ ap (take n) (joined_set rings (i / 256) (i % 256) x full inside (omega arith) ∙ ap (λ k. set (joined rings) k x) parts)
+      ap (λ r. take n (joined (set rings (i / 512) (set r (i % 512) x)))) (sym own_is)
+      ∙ ap (take n) (joined_set rings (i / 512) (i % 512) x full inside (omega arith) ∙ ap (λ k. set (joined rings) k x) parts)
       ∙ take_set n (joined rings) i x low
 
 -- ---- a key behind the last one in use
@@ -250,11 +247,11 @@ set_last [] n x inside = absurd (omega arith)
 set_last (y ∷ ys) zero x inside = refl
 set_last (y ∷ ys) (suc n) x inside = ap (λ zs. y ∷ zs) (set_last ys n x (omega arith))
 
-pub appended : (rings : List (List Key)) (n : ℕ) (ring now : List Key) (full : AreFull rings) → n < 256 * length rings → ring ≡ get_or rings (n / 256) ring → (key : Key) → now ≡ set ring (n % 256) key
-    → take (n + 1) (joined (set rings (n / 256) now)) ≡ insert (take n (joined rings)) n key
+pub appended : (rings : List (List Key)) (n : ℕ) (ring now : List Key) (full : AreFull rings) → n < 512 * length rings → ring ≡ get_or rings (n / 512) ring → (key : Key) → now ≡ set ring (n % 512) key
+    → take (n + 1) (joined (set rings (n / 512) now)) ≡ insert (take n (joined rings)) n key
 appended rings n ring now full room own key is =
     let next : n + 1 ≡ suc n = omega arith in
-    ap (λ r. take (n + 1) (joined (set rings (n / 256) r))) is
+    ap (λ r. take (n + 1) (joined (set rings (n / 512) r))) is
     ∙ row_set rings (n + 1) n ring full (omega arith) (omega (arith, room)) own key
     ∙ ap (λ k. set (take k (joined rings)) n key) next
     ∙ set_last (joined rings) n key (omega (arith, length-joined rings full, room))

@@ -1,6 +1,6 @@
 pub mod Looks
 pub mod Joins
-pub mod Slots
+pub mod Kept
 pub mod Turns
 pub mod LastKeys
 pub mod Example

@@ -113,3 +113,26 @@ module _ {X : Type 0} (n head from last a b : ℕ) (us vs : List X) (long_us : l
           result (moved_above order hn inside fh (a_high fh) (b_high lh))
           (turned_above n head from vs x long_vs hn (omega arith) fh ∙ ap (λ j. get_or vs j x) (let p = a_high fh in let e : head + from - n ≡ a = omega arith in e) ∙ first)
           (is ∙ ap (λ j. get_or us j x) (let q = b_high lh in let e : b ≡ head + last - n = omega arith in e) ∙ sym (turned_above n head last us x long_us hn inside lh))
+
+-- the same where the ring's end lies between the places: first the keys before the end move, then those behind it
+pub across : {X : Type 0} (n head from last a b : ℕ) (us vs ws : List X) (x y z : X) → length us ≡ n → length vs ≡ n → length ws ≡ n → from ≤ last → last < n → head < n
+    → (head + from < n → a ≡ head + from) → (n ≤ head + from → a + n ≡ head + from) → (head + last < n → b ≡ head + last) → (n ≤ head + last → b + n ≡ head + last) → b < a
+    → IsMoved a (n - 1) us vs → get_or vs a x ≡ x → y ≡ get_or us (n - 1) x → IsMoved 0 b vs ws → get_or ws 0 y ≡ y → z ≡ get_or vs b y
+    → insert (turned head ws) (last + 1) z ≡ insert (turned head us) from x
+across n head from last a b us vs ws x y z long_us long_vs long_ws order inside hn a_low a_high b_low b_high turns h first_in first_out k second_in second_out =
+    shifted n head (n - 1 - head + 1) last 0 b vs ws long_vs long_ws k y z (omega (arith, behind)) inside hn
+    (λ lt. absurd (omega arith)) (λ _. omega arith) b_low b_high (omega arith) second_in second_out
+    ∙ shifted n head from (n - 1 - head) a (n - 1) us vs long_us long_vs h x y (omega (arith, before)) (omega arith) hn
+    a_low a_high (λ _. omega arith) (λ le. absurd (omega arith)) (omega (arith, before, a_low before)) first_in first_out
+  where
+    before : head + from < n
+    before = elim (cases_lt (head + from) n) [
+      | inl lt ↦ lt
+      | inr le ↦ absurd (omega (arith, a_high le, b_high (omega arith)))
+    ]
+
+    behind : n ≤ head + last
+    behind = elim (cases_lt (head + last) n) [
+      | inl lt ↦ absurd (omega (arith, a_low before, b_low lt))
+      | inr le ↦ le
+    ]

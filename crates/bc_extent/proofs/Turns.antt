@@ -1,8 +1,8 @@
 -- A ring that turns by one place.
 use Rattle.std.proofs.Common.{◌≡◌, ◌⊎◌, inl, inr, ℕ, zero, suc, ◌+◌, ◌-◌, ◌<◌, ◌≤◌, List, [], ◌∷◌, ◌++◌, length, get_or, set, take, drop, refl, sym, ap, ◌∙◌, arith, length-append, length-drop, length-set}
-use Rattle.std.proofs.lemmas.List.{append_assoc, append-nil, same_lists, take_more, take_more_set, drop_more, drop-set, drop-set-lt, drop-set-add, take-set-le, take_all, drop_all, get_or_append_left, get_or-append_right, get_or-drop, get_or-take, set-append_left, set-append_right, length-take-le}
+use Rattle.std.proofs.lemmas.List.{append_assoc, append-nil, same_lists, take_more, take_more_set, drop_more, drop-set, drop-set-lt, drop-set-add, take-set-le, take_all, drop_all, get_or_append_left, get_or-append_right, get_or-drop, get_or-take, set-append_left, set-append_right, length-take-le, get_or-set_same, set-set, set-get_or}
 use Rattle.std.specs.Prelude.{insert}
-use Rattle.std.proofs.lemmas.List.Edits.{insert_end}
+use Rattle.std.proofs.lemmas.List.Edits.{insert_end, insert-append_left}
 use Rattle.bc_extent.specs.Turned.{turned}
 
 pub take_set : {X : Type 0} (m : ℕ) (xs : List X) (k : ℕ) (y : X) → k < m → take m (set xs k y) ≡ set (take m xs) k y
@@ -94,3 +94,31 @@ same_back xs ys n long same = same_lists (drop n xs) (drop n ys) (length-drop n 
 
 pub insert_last : {X : Type 0} (xs : List X) (n : ℕ) (x : X) → length xs ≡ n → insert xs n x ≡ xs ++ x ∷ []
 insert_last xs n x long = ap (λ k. insert xs k x) (sym long) ∙ insert_end xs x
+
+-- the place before the head becomes the head, from the first place on the last one, and what stood there goes
+pub turned_before : {X : Type 0} (n head next : ℕ) (ring new : List X) (x last : X) → length ring ≡ n → head < n → ((head ≡ 0) × (next + 1 ≡ n)) ⊎ (next + 1 ≡ head) → new ≡ set ring next x → last ≡ get_or ring next last → turned next new ++ last ∷ [] ≡ x ∷ turned head ring
+turned_before n head next ring new x last long inside place is was =
+    sym (turned_next n next head new last x (ap length is ∙ length-set ring next x ∙ long) (below place)
+    (sym (ap (λ ys. get_or ys next x) is ∙ get_or-set_same ring next x x (let b = below place in omega arith))) (turn place))
+    ∙ ap (λ ys. x ∷ turned head ys) (ap (λ ys. set ys next last) is ∙ set-set ring next x last ∙ ap (set ring next) was ∙ set-get_or ring next last)
+  where
+    below : ((head ≡ 0) × (next + 1 ≡ n)) ⊎ (next + 1 ≡ head) → next < n
+    below (inl first) = omega (arith, first.1)
+    below (inr other) = omega arith
+
+    turn : ((head ≡ 0) × (next + 1 ≡ n)) ⊎ (next + 1 ≡ head) → ((next + 1 ≡ n) × (head ≡ 0)) ⊎ (head ≡ next + 1)
+    turn (inl first) = inl (first.1, first.0)
+    turn (inr other) = inr (sym other)
+
+-- ---- a key that comes in at one end, and the keys before a place that move there
+
+insert_more : {X : Type 0} (y : X) (xs : List X) (k : ℕ) (x : X) → insert (y ∷ xs) (k + 1) x ≡ y ∷ insert xs k x
+insert_more y xs k x = let on : k + 1 ≡ suc k = omega arith in ap (λ n. insert (y ∷ xs) n x) on
+
+pub moved_front : {X : Type 0} (old mid new : List X) (place : ℕ) (x none last out : X) → place < length mid → mid ++ last ∷ [] ≡ none ∷ old → insert new 0 out ≡ insert mid (place + 1) x → new ++ last ∷ [] ≡ insert old place x
+moved_front old mid new place x none last out inside came moved =
+    ap (drop 1) (ap (λ ys. ys ++ last ∷ []) moved ∙ sym (insert-append_left mid (last ∷ []) (place + 1) x (omega arith)) ∙ ap (λ ys. insert ys (place + 1) x) came ∙ insert_more none old place x)
+
+pub moved_back : {X : Type 0} (old mid new : List X) (place : ℕ) (x none first out : X) → place < length mid → insert mid (place + 1) out ≡ insert old 0 none → first ∷ new ≡ mid ++ x ∷ [] → insert new place out ≡ old ++ x ∷ []
+moved_back old mid new place x none first out inside moved came =
+    ap (drop 1) (sym (insert_more first new place out) ∙ ap (λ ys. insert ys (place + 1) out) came ∙ insert-append_left mid (x ∷ []) (place + 1) out (omega arith) ∙ ap (λ ys. ys ++ x ∷ []) moved)

@@ -5,6 +5,7 @@ pub mod Inserts
 pub mod Calls
 pub mod PtrLaws
 pub mod PtrWord
+pub mod Ptrs
 pub mod Slot
 pub mod Turned
 pub mod Rings

@@ -1,45 +1,41 @@
--- How a key is kept: in three words where it has one pointer at most, and else in a box.
-use Rattle.std.specs.Prelude.{◌∷◌}
-use Rattle.std.proofs.Common.{replicate, refl, lit≤}
+-- How a key is kept: in a front of three words, and a tail with the pointers behind the first one.
+use Rattle.std.specs.Prelude.{◌≡◌, ◌⊎◌, ◌/◌, ◌%◌, List, [], ◌∷◌, length}
+use Rattle.std.proofs.Common.{refl}
 use Rattle.bc_key.specs.declared.key.Key.{Key}
-use Rattle.bc_key.specs.Ptr.{no_ptr}
-use Rattle.bc_extent.specs.declared.slot.Form.{Form}
-use Rattle.bc_extent.specs.declared.slot.Form.TheVariants.{Bare, One, Boxed}
-use Rattle.bc_extent.specs.PtrWord.{ptr_in}
-use Rattle.bc_extent.specs.PtrLaws.{none_from_0, none_from_1}
+use Rattle.bc_extent.specs.declared.slot.Front.{Front}
+use Rattle.bc_extent.specs.declared.slot.Tail.{Tail}
+use Rattle.bc_extent.specs.Ptrs.{ptrs_in, none_behind}
+use Rattle.bc_extent.specs.PtrLaws.{csum_small, count_small}
 
--- the key that a form stands for
-abbrev pub key_in : Form → Key
-key_in (Bare head) = record {
-  inode = head.inode;
-  end = head.end;
-  size = head.size;
-  dirty = head.dirty;
-  csum = head.csum;
-  count = 0;
-  ptrs = replicate 6 no_ptr;
-  inode_fits = head.inode_fits;
-  end_fits = head.end_fits;
-  size_fits = head.size_fits;
-  csum_fits = head.csum_fits;
-  count_fits = lit≤ tt;
+-- the key of a front and a tail
+abbrev pub key_in : Front → Tail → Key
+key_in front tail = record {
+  inode = front.inode;
+  end = front.end;
+  size = front.size;
+  dirty = front.dirty;
+  csum = front.tags % 4;
+  count = front.tags / 4;
+  ptrs = ptrs_in (front.tags / 4) front.word tail.second tail.third tail.fourth tail.fifth tail.sixth;
+  inode_fits = front.inode_fits;
+  end_fits = front.end_fits;
+  size_fits = front.size_fits;
+  csum_fits = csum_small front.tags;
+  count_fits = count_small front.tags front.tags_fit;
   six_places = refl;
-  no_more_ptrs = none_from_0;
+  no_more_ptrs = none_behind (front.tags / 4) front.word tail.second tail.third tail.fourth tail.fifth tail.sixth;
 }
-key_in (One head word) = record {
-  inode = head.inode;
-  end = head.end;
-  size = head.size;
-  dirty = head.dirty;
-  csum = head.csum;
-  count = 1;
-  ptrs = ptr_in word ∷ replicate 5 no_ptr;
-  inode_fits = head.inode_fits;
-  end_fits = head.end_fits;
-  size_fits = head.size_fits;
-  csum_fits = head.csum_fits;
-  count_fits = lit≤ tt;
-  six_places = refl;
-  no_more_ptrs = none_from_1 (ptr_in word);
-}
-key_in (Boxed key) = key.value
+
+-- the tail of a key that has one pointer at most
+abbrev pub no_tail : Tail
+no_tail = record { second = 0; third = 0; fourth = 0; fifth = 0; sixth = 0 }
+
+-- the keys of fronts, and of tails as far as there are any
+abbrev pub keys_in : List Front → List Tail → List Key
+keys_in [] tails = []
+keys_in (front ∷ fronts) [] = key_in front no_tail ∷ keys_in fronts []
+keys_in (front ∷ fronts) (tail ∷ tails) = key_in front tail ∷ keys_in fronts tails
+
+-- there are none, or there are those of all places
+abbrev pub AreAll : List Tail → Type 0
+AreAll tails = (tails ≡ []) ⊎ (length tails ≡ 512)

@@ -4,14 +4,15 @@
 ghost use Rattle.std.specs.Prelude.{◌≡◌, ◌+◌, ◌*◌, ◌-◌, ◌<◌, ◌≤◌, [], ◌∷◌, ◌++◌, length, take, insert, remove};
 ghost use Rattle.bc_extent.specs.Rings.{joined, AreFull};
 
-use crate::ring::{LENGTH, Ring};
+use crate::ring::Ring;
 use crate::slot::Slot;
+use crate::slots::LENGTH;
 
 /// Puts a key at a place of the first ring, moves all those behind it back by one, and takes out
 /// the last one.
 fn push_through(rings: &mut [Ring], place: usize, slot: Slot) -> Slot
     requires some { 0 < length rings.old }
-    requires place { place < 256 }
+    requires place { place < 512 }
     requires full { AreFull rings.old }
     ensures moved { joined rings.new ++ result ∷ [] ≡ insert (joined rings.old) place slot }
     ensures full { AreFull rings.new }
@@ -27,7 +28,7 @@ fn push_through(rings: &mut [Ring], place: usize, slot: Slot) -> Slot
 /// one, and puts a key at the end.
 fn pull_through(rings: &mut [Ring], place: usize, slot: Slot) -> Slot
     requires some { 0 < length rings.old }
-    requires place { place < 256 }
+    requires place { place < 512 }
     requires full { AreFull rings.old }
     ensures moved { insert (joined rings.new) place result ≡ joined rings.old ++ slot ∷ [] }
     ensures full { AreFull rings.new }
@@ -46,7 +47,7 @@ fn pull_through(rings: &mut [Ring], place: usize, slot: Slot) -> Slot
 pub fn insert_within(rings: &mut [Ring], count: usize, i: usize, slot: Slot)
     requires full { AreFull rings.old }
     requires within { i ≤ count }
-    requires room { count < 256 * length rings.old }
+    requires room { count < 512 * length rings.old }
     ensures keys { take (count + 1) (joined rings.new) ≡ insert (take count (joined rings.old)) i slot }
     ensures full { AreFull rings.new }
 {
@@ -63,7 +64,7 @@ pub fn insert_within(rings: &mut [Ring], count: usize, i: usize, slot: Slot)
 pub fn remove_within(rings: &mut [Ring], count: usize, i: usize)
     requires full { AreFull rings.old }
     requires within { i < count }
-    requires room { count ≤ 256 * length rings.old }
+    requires room { count ≤ 512 * length rings.old }
     ensures keys { take (count - 1) (joined rings.new) ≡ remove (take count (joined rings.old)) i }
     ensures full { AreFull rings.new }
 {

@@ -1,6 +1,6 @@
 //! A range of sectors that gets another key, or none.
 
-ghost use Rattle.std.specs.Prelude.{◌≡◌, ◌+◌, ◌-◌, ◌<◌, ◌≤◌, ◌++◌, length, take, drop, option_to_list, IfSome, vec_len};
+ghost use Rattle.std.specs.Prelude.{◌≡◌, ◌+◌, ◌-◌, ◌<◌, ◌≤◌, ◌++◌, length, take, drop, option_to_list, IfSome};
 ghost use Rattle.bc_key.specs.Key.{start_of};
 ghost use Rattle.bc_extent.specs.LastKey.{last_key};
 ghost use Rattle.bc_extent.specs.Extents.{IsRange, IsInOrder, Shows, overlaid};
@@ -12,16 +12,14 @@ use bc_key::Key;
 
 /// Gives the sectors from `first` on up to `end` this key, or none where there is no key. Takes no
 /// memory.
-pub fn overlay(rows: &mut Rows, boxes: &mut Vec<Box<Key>>, first: u64, end: u64, key: &Option<Key>)
+pub fn overlay(rows: &mut Rows, first: u64, end: u64, key: &Option<Key>)
     requires some { first < end }
     requires order { IsInOrder rows.old.keys }
     requires key { IfSome key.now (λ k. IsRange k × (start_of k ≡ first) × (k.end ≡ end)) }
     requires room { 1 + length (option_to_list key.now) ≤ rows.old.spare }
-    requires boxes { 2 + length (option_to_list key.now) ≤ vec_len boxes.old }
     ensures shows { Shows (overlaid first end key.now (last_key rows.old.keys)) rows.new.keys }
     ensures order { IsInOrder rows.new.keys }
     ensures room { rows.old.spare ≤ rows.new.spare + 1 + length (option_to_list key.now) }
-    ensures boxes { vec_len boxes.old ≤ vec_len boxes.new + 2 + length (option_to_list key.now) }
 {
     let left = side_below(rows, first);
     let right = side_above(rows, left.place, end);
@@ -29,8 +27,8 @@ pub fn overlay(rows: &mut Rows, boxes: &mut Vec<Box<Key>>, first: u64, end: u64,
         from: left.place,
         to: right.place,
     };
-    let gap = fill(rows, boxes, gap, &left.part);
-    let gap = fill(rows, boxes, gap, key);
-    let gap = fill(rows, boxes, gap, &right.part);
+    let gap = fill(rows, gap, &left.part);
+    let gap = fill(rows, gap, key);
+    let gap = fill(rows, gap, &right.part);
     close(rows, gap);
 }

@@ -1,4 +1,4 @@
-ghost use Rattle.std.specs.Prelude.{◌≡◌, ◌↔◌, ℕ, ◌+◌, ◌<◌, ◌≤◌, ◌++◌, [], ◌∷◌, ◌*◌, ◌^◌, length, slice_get, slice_set, slice_index_or, vec_len, All, Contains, IsTrue, IsNone, IfSome, OnOk, OnErr};
+ghost use Rattle.std.specs.Prelude.{◌≡◌, ◌↔◌, ℕ, ◌+◌, ◌<◌, ◌≤◌, ◌++◌, [], ◌∷◌, ◌^◌, length, slice_get, All, Contains, IsTrue, IsNone, IfSome, OnOk, OnErr};
 ghost use Rattle.std.specs.Bool.{OnTrue, OnFalse};
 ghost use Rattle.bc_key.specs.Key.{IsExtent, Covers};
 ghost use Rattle.bc_extent.specs.LastKey.{last_key};
@@ -12,71 +12,31 @@ use bc_key::Key;
 use std::alloc::{AllocError, Global};
 use std::marker::Model;
 
-/// Takes memory for boxes, so that there are so many at least.
-fn fill_boxes(boxes: &mut Vec<Box<Key>>, alloc: Global, count: usize) -> Result<(), AllocError>
-    ensures more { vec_len boxes.old ≤ vec_len boxes.new }
-    ensures ok { OnOk result (count ≤ vec_len boxes.new) }
-{
-    while boxes.len() < count {
-        let none = Key::new(0, 0, false, None);
-        let kept = Box::new(alloc, none)?;
-        boxes.push(kept)?;
-    }
-    Ok(())
-}
-
-/// For how many keys there is room yet, of those that there was room for: each needs a place, and
-/// two boxes, since a key that cuts another one may need three.
-fn kept_spare(spare: usize, rows: &Rows, boxes: usize) -> usize
-    ensures fewer { result ≤ spare }
-    ensures places { result ≤ rows.now.spare }
-    ensures boxes { 2 * result ≤ boxes }
-    ensures most { (n : ℕ) → n ≤ spare → n ≤ rows.now.spare → 2 * n ≤ boxes → n ≤ result }
-{
-    spare.min(rows.spare()).min(boxes / 2)
-}
-
-/// Puts another key in the place of one.
-fn replace_at(rows: &mut Rows, place: usize, key: &Key)
-    requires within { place < length rows.old.keys }
-    requires several { 1 < key.now.count → 1 < (slice_index_or rows.old.keys place key.now).count }
-    ensures keys { rows.new.keys ≡ slice_set rows.old.keys place key.now }
-    ensures spare { rows.new.spare ≡ rows.old.spare }
-{
-    if key.count <= 1 {
-        let _ = rows.swap_in(place, Slot::new(key));
-        return;
-    }
-    let mut slot = rows.swap_in(place, Slot::empty());
-    slot.put(key);
-    let _ = rows.swap_in(place, slot);
-}
-
 /// The keys of a backing device's sectors, in the order of their ranges, of which no two overlap. The
 /// inode plays no part.
 ///
 /// A place is found in a number of steps that is logarithmic in the number of keys. One key more or
-/// less moves at most 128 keys beside it, and one of each 256 behind them. A key of one pointer or
-/// none takes 33 bytes. What is reserved has room for keys of any pointers: each further key that
-/// `spare` counts takes two boxes of a `Key` besides, which stay for later ones.
+/// less moves at most 256 keys beside it, and one of each 512 behind them.
+///
+/// A key takes 64 bytes, of which the pointers behind the first one take 40. So a key of any
+/// pointers may come into the place of another one without memory. Of 512 keys with one pointer at
+/// most these 40 bytes are only set aside: nothing is written there until one of several comes.
 #[derive(Drop)]
 pub struct Extents {
     rows: Rows,
-    boxes: Vec<Box<Key>>,
     spare: usize,
     alloc: Global,
 }
 
 impl Model for Extents {
-    ghost use Rattle.std.specs.Prelude.{◌*◌, ◌≤◌, vec_len};
+    ghost use Rattle.std.specs.Prelude.{◌≤◌};
     ghost use Rattle.bc_extent.specs.Extents.{Extents, IsInOrder};
 
     ghost Value = { Extents };
 
     ghost view = { λ e. record { keys = e.rows.keys; spare = e.spare } };
 
-    ghost invariant = { λ e. IsInOrder e.rows.keys × (e.spare ≤ e.rows.spare)
-        × (2 * e.spare ≤ vec_len e.boxes) };
+    ghost invariant = { λ e. IsInOrder e.rows.keys × (e.spare ≤ e.rows.spare) };
 }
 
 impl Extents {
@@ -87,7 +47,6 @@ impl Extents {
     {
         Extents {
             rows: Rows::new(alloc),
-            boxes: Vec::new(alloc),
             spare: 0,
             alloc,
         }
@@ -135,7 +94,6 @@ impl Extents {
     {
         if self.spare < more {
             self.rows.reserve(self.alloc, more)?;
-            fill_boxes(&mut self.boxes, self.alloc, 2 * more)?;
             self.spare = more;
         }
         Ok(())
@@ -161,15 +119,8 @@ impl Extents {
         ensures spare { self.old.spare ≤ self.new.spare + 2 }
     {
         if key.size > 0 {
-            let spare = self.spare;
-            overlay(
-                &mut self.rows,
-                &mut self.boxes,
-                key.start(),
-                key.end,
-                &Some(*key),
-            );
-            self.spare = kept_spare(spare, &self.rows, self.boxes.len());
+            overlay(&mut self.rows, key.start(), key.end, &Some(*key));
+            self.spare = self.spare.min(self.rows.spare());
         }
     }
 
@@ -186,9 +137,8 @@ impl Extents {
         // A key ends at 2^64 - 1 at most, so none covers a sector from there on.
         let end = first.saturating_add(u64::from(count));
         if first < end {
-            let spare = self.spare;
-            overlay(&mut self.rows, &mut self.boxes, first, end, &None);
-            self.spare = kept_spare(spare, &self.rows, self.boxes.len());
+            overlay(&mut self.rows, first, end, &None);
+            self.spare = self.spare.min(self.rows.spare());
         }
     }
 
@@ -201,12 +151,10 @@ impl Extents {
     }
 
     /// Inserts a key in the place of one with the same range, and says whether that key, unchanged,
-    /// was there. Where it wasn't, nothing changes. Takes no memory, and so a key of several
-    /// pointers may only come in the place of another such key.
+    /// was there. Where it wasn't, nothing changes. Takes no memory.
     pub fn replace(&mut self, old: &Key, new: &Key) -> bool
         requires end { new.now.end ≡ old.now.end }
         requires size { new.now.size ≡ old.now.size }
-        requires several { 1 < new.now.count → 1 < old.now.count }
         ensures found { IsTrue result ↔ Contains self.old.keys old.now }
         ensures shows { OnTrue result (Shows (last_key (self.old.keys ++ new.now ∷ [])) self.new.keys) }
         ensures same { OnFalse result (self.new.keys ≡ self.old.keys) }
@@ -214,7 +162,7 @@ impl Extents {
         ensures spare { self.new.spare ≡ self.old.spare }
     {
         if let Some(place) = place_of(&self.rows, old) {
-            replace_at(&mut self.rows, place, new);
+            let _ = self.rows.swap_in(place, Slot::new(new));
             true
         } else {
             false

@@ -1,6 +1,6 @@
 //! A part of a row that gives way to other keys, one after another, within the memory that there is.
 
-ghost use Rattle.std.specs.Prelude.{◌≡◌, ◌+◌, ◌-◌, ◌<◌, ◌≤◌, ◌++◌, length, take, drop, option_to_list, vec_len};
+ghost use Rattle.std.specs.Prelude.{◌≡◌, ◌+◌, ◌-◌, ◌<◌, ◌≤◌, ◌++◌, length, take, drop, option_to_list};
 
 use crate::rows::Rows;
 use crate::slot::Slot;
@@ -12,24 +12,6 @@ pub struct Gap {
     pub from: usize,
     pub to: usize,
     pub ghost ordered: { from ≤ to },
-}
-
-/// Keeps a key, in one of the boxes where it has more pointers than one.
-fn kept(key: &Key, boxes: &mut Vec<Box<Key>>) -> Slot
-    requires { 0 < vec_len boxes.old }
-    ensures key { result ≡ key.now }
-    ensures boxes { vec_len boxes.old ≤ vec_len boxes.new + 1 }
-{
-    if key.count <= 1 {
-        return Slot::new(key);
-    }
-    match boxes.pop() {
-        Some(mut kept) => {
-            *kept = *key;
-            Slot::boxed(kept)
-        }
-        None => Slot::empty(),
-    }
 }
 
 /// Puts a key before the gap, in the place of one of the gap's where there is one.
@@ -58,24 +40,19 @@ fn put(rows: &mut Rows, gap: Gap, slot: Slot) -> Gap
 }
 
 /// Puts a key before the gap, if there is one.
-pub fn fill(rows: &mut Rows, boxes: &mut Vec<Box<Key>>, gap: Gap, key: &Option<Key>) -> Gap
+pub fn fill(rows: &mut Rows, gap: Gap, key: &Option<Key>) -> Gap
     requires within { gap.to ≤ length rows.old.keys }
     requires room { length (option_to_list key.now) ≤ rows.old.spare + (gap.to - gap.from) }
-    requires boxes { length (option_to_list key.now) ≤ vec_len boxes.old }
     ensures within { result.to ≤ length rows.new.keys }
     ensures before { take result.from rows.new.keys
         ≡ take gap.from rows.old.keys ++ option_to_list key.now }
     ensures behind { drop result.to rows.new.keys ≡ drop gap.to rows.old.keys }
     ensures room { rows.new.spare + (result.to - result.from) + length (option_to_list key.now)
         ≡ rows.old.spare + (gap.to - gap.from) }
-    ensures boxes { vec_len boxes.old ≤ vec_len boxes.new + length (option_to_list key.now) }
 {
     match key {
         None => gap,
-        Some(key) => {
-            let slot = kept(key, boxes);
-            put(rows, gap, slot)
-        }
+        Some(key) => put(rows, gap, Slot::new(key)),
     }
 }
 

@@ -12,5 +12,6 @@ mod ring;
 mod rows;
 mod sides;
 mod slot;
+mod slots;
 
 pub use extents::Extents;

@@ -2,22 +2,20 @@
 //! and one that goes out at the other, without being touched.
 
 ghost use Rattle.std.specs.Prelude.{◌≡◌, ℕ, ◌+◌, ◌<◌, ◌≤◌, List, ◌∷◌, ◌++◌, [], length, take, drop, insert, slice_set, slice_index_or, OnOk, IfOk};
-ghost use Rattle.bc_extent.specs.Moved.{IsMoved};
+ghost use Rattle.bc_key.specs.Key.{start_of};
 ghost use Rattle.bc_extent.specs.Turned.{turned};
 ghost use Rattle.bc_key.specs.declared.key.Key.{Key};
 
 use crate::slot::Slot;
+use crate::slots::{LENGTH, Slots};
+use bc_key::Key;
 use std::alloc::{AllocError, Global};
 use std::marker::Model;
-use std::mem;
-
-/// How many keys a ring has.
-pub const LENGTH: usize = 256;
 
 /// So many keys in order.
 #[derive(Drop)]
 pub struct Ring {
-    slots: Vec<Slot>,
+    slots: Slots,
     head: usize,
 }
 
@@ -28,21 +26,21 @@ impl Model for Ring {
 
     ghost Value = { List Key };
 
-    ghost view = { λ r. turned r.head r.slots.items };
+    ghost view = { λ r. turned r.head r.slots };
 
-    ghost invariant = { λ r. (r.head < 256) × (length r.slots.items ≡ 256) };
+    ghost invariant = { λ r. (r.head < 512) × (length r.slots ≡ 512) };
 }
 
 /// Where item `i` of a ring stands that begins at `head`.
 fn place(head: usize, i: usize) -> usize
-    requires head { head < 256 }
-    requires within { i < 256 }
-    ensures within { result < 256 }
-    ensures before_end { head + i < 256 → result ≡ head + i }
-    ensures behind_end { 256 ≤ head + i → result + 256 ≡ head + i }
-    ensures is { (slots : List Key) → length slots ≡ 256 → (d : Key)
+    requires head { head < 512 }
+    requires within { i < 512 }
+    ensures within { result < 512 }
+    ensures before_end { head + i < 512 → result ≡ head + i }
+    ensures behind_end { 512 ≤ head + i → result + 512 ≡ head + i }
+    ensures is { (slots : List Key) → length slots ≡ 512 → (d : Key)
         → slice_index_or (turned head slots) i d ≡ slice_index_or slots result d }
-    ensures set { (slots : List Key) → length slots ≡ 256 → (key : Key)
+    ensures set { (slots : List Key) → length slots ≡ 512 → (key : Key)
         → turned head (slice_set slots result key) ≡ slice_set (turned head slots) i key }
 {
     let place = head + i;
@@ -53,64 +51,48 @@ fn place(head: usize, i: usize) -> usize
     }
 }
 
-/// Puts a key at place `a`, moves those from there on back by one, and takes out what stood at `b`.
-fn shift_up(slots: &mut [Slot], a: usize, b: usize, slot: Slot) -> Slot
-    requires order { a ≤ b }
-    requires within { b < length slots.old }
-    ensures moved { IsMoved a b slots.old slots.new }
-    ensures first { (d : Key) → slice_index_or slots.new a d ≡ slot }
-    ensures out { (d : Key) → result ≡ slice_index_or slots.old b d }
-    ensures length { length slots.new ≡ length slots.old }
-{
-    let out = mem::replace(&mut slots[b], slot);
-    slots[a..b + 1].rotate_right(1);
-    out
-}
-
-/// Puts a key at place `b`, moves those up to there to the front by one, and takes out what stood at
-/// `a`.
-fn shift_down(slots: &mut [Slot], a: usize, b: usize, slot: Slot) -> Slot
-    requires order { a ≤ b }
-    requires within { b < length slots.old }
-    ensures moved { IsMoved a b slots.new slots.old }
-    ensures last { (d : Key) → slice_index_or slots.new b d ≡ slot }
-    ensures out { (d : Key) → result ≡ slice_index_or slots.old a d }
-    ensures length { length slots.new ≡ length slots.old }
-{
-    let out = mem::replace(&mut slots[a], slot);
-    slots[a..b + 1].rotate_left(1);
-    out
-}
-
 impl Ring {
     /// A ring of nothing.
     pub fn new(alloc: Global) -> Result<Ring, AllocError>
-        ensures { IfOk result (λ ring. length ring ≡ 256) }
+        ensures { IfOk result (λ ring. length ring ≡ 512) }
     {
-        let mut slots = Vec::with_capacity(alloc, LENGTH)?;
-        for _ in 0..LENGTH {
-            slots.push(Slot::empty())?;
-        }
+        let slots = Slots::new(alloc)?;
         Ok(Ring { slots, head: 0 })
     }
 
-    /// What stands at this place.
-    pub fn slot(&self, i: usize) -> &Slot
-        requires { i < 256 }
-        ensures { result.now ≡ slice_index_or self.now i result.now }
+    /// The key at this place.
+    pub fn key(&self, i: usize) -> Key
+        requires { i < 512 }
+        ensures { (d : Key) → result ≡ slice_index_or self.now i d }
     {
-        &self.slots[place(self.head, i)]
+        self.slots.key(place(self.head, i))
+    }
+
+    /// Where the key at this place ends.
+    pub fn end(&self, i: usize) -> u64
+        requires { i < 512 }
+        ensures { (d : Key) → result ≡ (slice_index_or self.now i d).end }
+    {
+        self.slots.end(place(self.head, i))
+    }
+
+    /// Where the key at this place begins.
+    pub fn start(&self, i: usize) -> u64
+        requires { i < 512 }
+        ensures { (d : Key) → result ≡ start_of (slice_index_or self.now i d) }
+    {
+        self.slots.start(place(self.head, i))
     }
 
     /// Puts another key at this place, and gives back what stood there.
     pub fn swap_in(&mut self, i: usize, slot: Slot) -> Slot
-        requires { i < 256 }
+        requires { i < 512 }
         ensures new { self.new ≡ slice_set self.old i slot }
         ensures old { (d : Key) → result ≡ slice_index_or self.old i d }
-        ensures length { (length self.old ≡ 256) × (length self.new ≡ 256) }
+        ensures length { (length self.old ≡ 512) × (length self.new ≡ 512) }
     {
         let at = place(self.head, i);
-        mem::replace(&mut self.slots[at], slot)
+        self.slots.swap_in(at, slot)
     }
 
     /// Puts a key before all of them, and takes out the last one.
@@ -123,7 +105,7 @@ impl Ring {
             self.head - 1
         };
         let head = self.head;
-        mem::replace(&mut self.slots[head], slot)
+        self.slots.swap_in(head, slot)
     }
 
     /// Puts a key behind all of them, and takes out the first one.
@@ -131,7 +113,7 @@ impl Ring {
         ensures { result ∷ self.new ≡ self.old ++ slot ∷ [] }
     {
         let head = self.head;
-        let first = mem::replace(&mut self.slots[head], slot);
+        let first = self.slots.swap_in(head, slot);
         self.head = if head == LENGTH - 1 { 0 } else { head + 1 };
         first
     }
@@ -140,70 +122,42 @@ impl Ring {
     /// last place.
     fn move_up(&mut self, from: usize, last: usize, slot: Slot) -> Slot
         requires order { from ≤ last }
-        requires within { last < 256 }
+        requires within { last < 512 }
         ensures moved { insert self.new (last + 1) result ≡ insert self.old from slot }
-        ensures length { (length self.old ≡ 256) × (length self.new ≡ 256) }
+        ensures length { (length self.old ≡ 512) × (length self.new ≡ 512) }
     {
         let a = place(self.head, from);
         let b = place(self.head, last);
-        if a > b {
-            return self.carry_up(from, last, slot);
+        if a <= b {
+            return self.slots.shift_up(a, b, slot);
         }
-        shift_up(&mut self.slots, a, b, slot)
-    }
-
-    /// The same across the end of the slots, one by one.
-    fn carry_up(&mut self, from: usize, last: usize, slot: Slot) -> Slot
-        requires order { from ≤ last }
-        requires within { last < 256 }
-        ensures moved { insert self.new (last + 1) result ≡ insert self.old from slot }
-        ensures length { (length self.old ≡ 256) × (length self.new ≡ 256) }
-    {
-        let _ = &self.slots;
-        let mut carried = slot;
-        for i in from..last + 1 {
-            carried = self.swap_in(i, carried);
-        }
-        carried
+        // Across the end of the slots.
+        let carried = self.slots.shift_up(a, LENGTH - 1, slot);
+        self.slots.shift_up(0, b, carried)
     }
 
     /// Takes out what stands at a place, moves those behind it to the front by one, and puts a key at
     /// the last place.
     fn move_down(&mut self, from: usize, last: usize, slot: Slot) -> Slot
         requires order { from ≤ last }
-        requires within { last < 256 }
+        requires within { last < 512 }
         ensures moved { insert self.new from result ≡ insert self.old (last + 1) slot }
-        ensures length { (length self.old ≡ 256) × (length self.new ≡ 256) }
+        ensures length { (length self.old ≡ 512) × (length self.new ≡ 512) }
     {
         let a = place(self.head, from);
         let b = place(self.head, last);
-        if a > b {
-            return self.carry_down(from, last, slot);
+        if a <= b {
+            return self.slots.shift_down(a, b, slot);
         }
-        shift_down(&mut self.slots, a, b, slot)
-    }
-
-    /// The same across the end of the slots, one by one.
-    fn carry_down(&mut self, from: usize, last: usize, slot: Slot) -> Slot
-        requires order { from ≤ last }
-        requires within { last < 256 }
-        ensures moved { insert self.new from result ≡ insert self.old (last + 1) slot }
-        ensures length { (length self.old ≡ 256) × (length self.new ≡ 256) }
-    {
-        let _ = &self.slots;
-        let mut carried = slot;
-        let mut i = last + 1;
-        while i > from {
-            i -= 1;
-            carried = self.swap_in(i, carried);
-        }
-        carried
+        // Across the end of the slots.
+        let carried = self.slots.shift_down(0, b, slot);
+        self.slots.shift_down(a, LENGTH - 1, carried)
     }
 
     /// Puts a key at this place, and takes out the last one. The others move by one place: those
     /// behind it or those before it, whichever are fewer.
     pub fn push_at(&mut self, place: usize, slot: Slot) -> Slot
-        requires { place < 256 }
+        requires { place < 512 }
         ensures { self.new ++ result ∷ [] ≡ insert self.old place slot }
     {
         if place >= LENGTH / 2 {
@@ -217,7 +171,7 @@ impl Ring {
     /// Takes out what stands at this place, and puts a key at the end. The others move by one place:
     /// those behind it or those before it, whichever are fewer.
     pub fn pull_at(&mut self, place: usize, slot: Slot) -> Slot
-        requires { place < 256 }
+        requires { place < 512 }
         ensures { insert self.new place result ≡ self.old ++ slot ∷ [] }
     {
         if place >= LENGTH / 2 {

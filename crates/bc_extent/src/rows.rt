@@ -8,14 +8,15 @@ ghost use Rattle.bc_key.specs.declared.key.Key.{Key};
 ghost use Rattle.bc_key.specs.Key.{start_of};
 
 use crate::carry::{insert_within, remove_within};
-use crate::ring::{LENGTH, Ring};
+use crate::ring::Ring;
 use crate::slot::Slot;
+use crate::slots::LENGTH;
 use bc_key::Key;
 use std::alloc::{AllocError, Global};
 use std::marker::Model;
 
 /// How many rings there are at most, so that their keys can be counted.
-const MOST: usize = 1 << 47;
+const MOST: usize = 1 << 46;
 
 /// Keys in a row.
 #[derive(Drop)]
@@ -33,7 +34,7 @@ impl Model for Rows {
 
     ghost view = { λ r. record {
       keys = take r.count (joined r.rings.items);
-      spare = 256 * vec_len r.rings - r.count;
+      spare = 512 * vec_len r.rings - r.count;
     } };
 
     ghost invariant = { λ r. HoldRoom r.count r.rings.items };
@@ -67,20 +68,12 @@ impl Rows {
         LENGTH * self.rings.len() - self.count
     }
 
-    /// What stands at this place.
-    pub fn slot(&self, i: usize) -> &Slot
-        requires { i < length self.now.keys }
-        ensures { (d : Key) → result.now ≡ slice_index_or self.now.keys i d }
-    {
-        self.rings[i / LENGTH].slot(i % LENGTH)
-    }
-
     /// Where the key at this place ends.
     pub fn end(&self, i: usize) -> u64
         requires { i < length self.now.keys }
         ensures { (d : Key) → result ≡ (slice_index_or self.now.keys i d).end }
     {
-        self.slot(i).end()
+        self.rings[i / LENGTH].end(i % LENGTH)
     }
 
     /// Where the key at this place begins.
@@ -88,7 +81,7 @@ impl Rows {
         requires { i < length self.now.keys }
         ensures { (d : Key) → result ≡ start_of (slice_index_or self.now.keys i d) }
     {
-        self.slot(i).start()
+        self.rings[i / LENGTH].start(i % LENGTH)
     }
 
     /// The key at this place.
@@ -96,7 +89,7 @@ impl Rows {
         requires { i < length self.now.keys }
         ensures { (d : Key) → result ≡ slice_index_or self.now.keys i d }
     {
-        self.slot(i).key()
+        self.rings[i / LENGTH].key(i % LENGTH)
     }
 
     /// Puts another key at this place, and gives back what stood there.
@@ -142,7 +135,7 @@ impl Rows {
     /// Takes memory for one more ring.
     fn grow(&mut self, alloc: Global) -> Result<(), AllocError>
         ensures keys { self.new.keys ≡ self.old.keys }
-        ensures ok { OnOk result (self.new.spare ≡ self.old.spare + 256) }
+        ensures ok { OnOk result (self.new.spare ≡ self.old.spare + 512) }
         ensures err { OnErr result (self.new.spare ≡ self.old.spare) }
     {
         if self.rings.len() >= MOST {

@@ -1,39 +1,47 @@
 //! A key in little memory. Nearly each key of a map has one pointer, and a `Key` has room for six:
-//! so a key is kept in 24 bytes where it has one pointer at most, and else in a box.
+//! so what is kept of a key is cut into a front of 24 bytes, with the first pointer, and a tail of
+//! 40 bytes, with the others. Of a key with one pointer or none, the tail says nothing.
 
-ghost use Rattle.std.specs.Prelude.{◌≡◌, ◌-◌, ◌^◌, ◌≤◌, ◌<◌};
+ghost use Rattle.std.specs.Prelude.{◌≡◌, ◌-◌, ◌^◌, ◌≤◌, ◌<◌, ◌/◌, ◌↔◌, IsTrue};
 ghost use Rattle.bc_key.specs.Key.{start_of};
 ghost use Rattle.bc_extent.specs.PtrWord.{ptr_in};
+ghost use Rattle.bc_extent.specs.Ptrs.{ptr_within};
 
 use bc_key::{Key, Ptr};
 use std::marker::Model;
 
-/// A key without its pointers.
+/// A key without the pointers behind its first one.
 #[derive(Clone, Copy, Drop)]
-pub struct Head {
+pub struct Front {
     end: u64,
+    /// The first pointer.
+    word: u64,
     inode: u32,
     size: u16,
     dirty: bool,
-    csum: u8,
+    /// The number of pointers times 4, and the kind of data checksum.
+    tags: u8,
     ghost end_fits: { end < 2 ^ 64 },
     ghost inode_fits: { inode < 2 ^ 20 },
     ghost size_fits: { size < 2 ^ 16 },
-    ghost csum_fits: { csum < 4 },
+    ghost tags_fit: { tags < 28 },
 }
 
-/// A key with no pointer, with one that is packed into a word, or with several.
-#[derive(Drop)]
-pub enum Form {
-    Bare(Head),
-    One(Head, u64),
-    Boxed(Box<Key>),
+/// The pointers of a key behind its first one.
+#[derive(Clone, Copy, Drop)]
+pub struct Tail {
+    second: u64,
+    third: u64,
+    fourth: u64,
+    fifth: u64,
+    sixth: u64,
 }
 
 /// A kept key.
 #[derive(Drop)]
 pub struct Slot {
-    form: Form,
+    pub front: Front,
+    pub tail: Tail,
 }
 
 impl Model for Slot {
@@ -43,7 +51,7 @@ impl Model for Slot {
 
     ghost use Rattle.bc_extent.specs.Slot.{key_in};
 
-    ghost view = { λ s. key_in s.form };
+    ghost view = { λ s. key_in s.front s.tail };
 }
 
 /// The word of a pointer.
@@ -64,133 +72,89 @@ fn ptr_of(word: u64) -> Ptr
     }
 }
 
-impl Head {
-    ghost use Rattle.bc_extent.specs.Slot.{key_in};
-
-    fn of(key: &Key) -> Head
-        ensures end { result.end ≡ key.now.end }
-        ensures inode { result.inode ≡ key.now.inode }
-        ensures size { result.size ≡ key.now.size }
-        ensures dirty { result.dirty ≡ key.now.dirty }
-        ensures csum { result.csum ≡ key.now.csum }
-    {
-        Head {
-            end: key.end,
-            inode: key.inode,
-            size: key.size,
-            dirty: key.dirty,
-            csum: key.csum,
-        }
-    }
-
-    fn start(&self) -> u64
-        ensures { result ≡ self.now.end - self.now.size }
-    {
-        self.end.saturating_sub(u64::from(self.size))
-    }
-
-    /// The key without pointers.
-    fn bare(&self) -> Key
-        ensures { result ≡ key_in (Form.Bare self.now) }
-    {
-        Key {
-            inode: self.inode,
-            end: self.end,
-            size: self.size,
-            dirty: self.dirty,
-            csum: self.csum,
-            count: 0,
-            ptrs: [Ptr::ZERO; 6],
-        }
-    }
-
-    /// The key with the pointer of this word.
-    fn with_one(&self, word: u64) -> Key
-        ensures { result ≡ key_in (Form.One self.now word) }
-    {
-        let none = Ptr::ZERO;
-        Key {
-            inode: self.inode,
-            end: self.end,
-            size: self.size,
-            dirty: self.dirty,
-            csum: self.csum,
-            count: 1,
-            ptrs: [ptr_of(word), none, none, none, none, none],
-        }
-    }
+/// The pointer in place `i` of a key that has so many, of which that place's word is kept.
+fn ptr_at(count: u8, i: u8, word: u64) -> Ptr
+    ensures { result ≡ ptr_within count i word }
+{
+    if i < count { ptr_of(word) } else { Ptr::ZERO }
 }
 
-impl Slot {
-    /// What stands in a place that keeps no key.
-    pub fn empty() -> Slot {
-        let head = Head {
-            end: 0,
-            inode: 0,
-            size: 0,
-            dirty: false,
-            csum: 0,
-        };
-        Slot {
-            form: Form::Bare(head),
-        }
-    }
-
-    /// Keeps a key that has one pointer at most.
-    pub fn new(key: &Key) -> Slot
-        requires { key.now.count ≤ 1 }
-        ensures { result ≡ key.now }
-    {
-        let head = Head::of(key);
-        if key.count == 0 {
-            Slot {
-                form: Form::Bare(head),
-            }
-        } else {
-            Slot {
-                form: Form::One(head, word_of(key.ptrs[0])),
-            }
-        }
-    }
-
-    /// Keeps any key, in its box.
-    pub fn boxed(key: Box<Key>) -> Slot
-        ensures { result ≡ key.value }
-    {
-        Slot {
-            form: Form::Boxed(key),
-        }
-    }
-
-    /// Keeps another key of several pointers, in the old one's box.
-    pub fn put(&mut self, key: &Key)
-        requires several { 1 < self.old.count }
-        ensures { self.new ≡ key.now }
-    {
-        if let Form::Boxed(kept) = &mut self.form {
-            **kept = *key;
-        }
-    }
+impl Front {
+    /// The front of a place that keeps no key.
+    pub const EMPTY: Front = Front {
+        end: 0,
+        word: 0,
+        inode: 0,
+        size: 0,
+        dirty: false,
+        tags: 0,
+    };
 
     /// The sector behind the key's last one.
     pub fn end(&self) -> u64
         ensures { result ≡ self.now.end }
     {
-        match &self.form {
-            Form::Bare(head) => head.end,
-            Form::One(head, _) => head.end,
-            Form::Boxed(key) => key.end,
-        }
+        self.end
     }
 
     /// The key's first sector.
     pub fn start(&self) -> u64
-        ensures { result ≡ start_of self.now }
+        ensures { result ≡ self.now.end - self.now.size }
     {
-        match &self.form {
-            Form::Bare(head) => head.start(),
-            Form::One(head, _) => head.start(),
-            Form::Boxed(key) => key.start(),
+        self.end.saturating_sub(u64::from(self.size))
+    }
+
+    /// Whether the key has pointers behind its first one.
+    pub fn has_more(&self) -> bool
+        ensures { IsTrue result ↔ (1 < self.now.tags / 4) }
+    {
+        self.tags / 4 > 1
+    }
+}
+
+impl Tail {
+    /// The tail of a key that has one pointer at most.
+    pub const NONE: Tail = Tail {
+        second: 0,
+        third: 0,
+        fourth: 0,
+        fifth: 0,
+        sixth: 0,
+    };
+}
+
+impl Slot {
+    ghost use Rattle.bc_extent.specs.Slot.{key_in};
+
+    /// What stands in a place that keeps no key.
+    pub fn empty() -> Slot {
+        Slot {
+            front: Front::EMPTY,
+            tail: Tail::NONE,
+        }
+    }
+
+    /// Keeps a key.
+    pub fn new(key: &Key) -> Slot
+        ensures { result ≡ key.now }
+    {
+        let [first, second, third, fourth, fifth, sixth] = key.ptrs;
+        Slot {
+            front: Front {
+                end: key.end,
+                word: word_of(first),
+                inode: key.inode,
+                size: key.size,
+                dirty: key.dirty,
+                tags: 4 * key.count + key.csum,
+            },
+            tail: Tail {
+                second: word_of(second),
+                third: word_of(third),
+                fourth: word_of(fourth),
+                fifth: word_of(fifth),
+                sixth: word_of(sixth),
+            },
         }
     }
 
@@ -198,10 +162,23 @@ impl Slot {
     pub fn key(&self) -> Key
         ensures { result ≡ self.now }
     {
-        match &self.form {
-            Form::Bare(head) => head.bare(),
-            Form::One(head, word) => head.with_one(*word),
-            Form::Boxed(key) => **key,
+        let Slot { front, tail } = self;
+        let count = front.tags / 4;
+        Key {
+            inode: front.inode,
+            end: front.end,
+            size: front.size,
+            dirty: front.dirty,
+            csum: front.tags % 4,
+            count,
+            ptrs: [
+                ptr_at(count, 0, front.word),
+                ptr_at(count, 1, tail.second),
+                ptr_at(count, 2, tail.third),
+                ptr_at(count, 3, tail.fourth),
+                ptr_at(count, 4, tail.fifth),
+                ptr_at(count, 5, tail.sixth),
+            ],
         }
     }
 }

@@ -120,13 +120,18 @@ fn change(
             Ok(true)
         }
         1 => {
-            if map.replace(&newest, &newest) {
+            // A key without pointers has nothing of its number, and so may be there.
+            if newest.count > 0 && map.replace(&newest, &newest) {
                 return Ok(false);
             }
             let Some(part) = map.lookup(first) else {
                 return Ok(true);
             };
-            let mut other = part;
+            // Of any number of pointers, whatever the key in its place has.
+            let size = u64::from(part.size);
+            let mut other = key(part.start(), size, random.below(7), number).ok_or("no key")?;
+            other.end = part.end;
+            other.size = part.size;
             other.dirty = !part.dirty;
             list.push(other)?;
             Ok(map.replace(&part, &other))

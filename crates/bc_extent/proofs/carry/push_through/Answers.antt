@@ -11,7 +11,7 @@ loop-i-init c =
     let some = c.requires.some in
     let ring = c.push_at-carried.new.self in
     let first : get_or old 0 c.index-rings-0.result ≡ get_or old 0 [] = get_or_default old 0 c.index-rings-0.result [] some in
-    let long : length (get_or old 0 []) ≡ 256 = c.requires.full 0 [] some in
+    let long : length (get_or old 0 []) ≡ 512 = c.requires.full 0 [] some in
     let is = subst (λ (r : List Key). ring ++ c.push_at-carried.result ∷ [] ≡ insert r c.args.place c.args.slot) first c.push_at-carried.ensures in
     record {
       moved = pushed_first old ring c.args.place c.args.slot c.push_at-carried.result some (omega (arith, c.requires.place)) is;

@@ -1,4 +1,4 @@
-use Rattle.std.proofs.Common.{◌≡◌, ◌+◌, ◌-◌, ◌^◌, List, ap, ◌∙◌, subst, arith}
+use Rattle.std.proofs.Common.{◌≡◌, ◌+◌, ◌-◌, ◌^◌, List, ap, ◌∙◌, subst}
 use Prim.Native.Nat.{min}
 use Rattle.bc_key.specs.declared.key.Key.{Key}
 use Rattle.bc_extent.specs.LastKey.{last_key}
@@ -17,15 +17,6 @@ returns-then-first-end-clause-gone c =
     let capped : c.saturating_add-end.result ≡ min (c.args.first + c.args.count) (2 ^ 64 - 1) = c.saturating_add-end.ensures ∙ ap (λ n. min (c.args.first + n) (2 ^ 64 - 1)) c.from.ensures in
     let shown = shows_erased c.self.inside.rows.keys c.args.first c.args.count c.saturating_add-end.result capped c.overlay.new.rows.keys c.overlay.ensures.shows in
     none_covers_erased c.self.inside.rows.keys c.args.first c.args.count c.saturating_add-end.result capped c.overlay.new.rows.keys shown
-
-pub returns-then-first-end-clause-spare : goal.returns-then-first-end-clause-spare
-returns-then-first-end-clause-spare c =
-    let had = ap (λ e. e.spare) c.self.view_is in
-    let keeps = c.self.invariant in
-    let laid = c.overlay.ensures in
-    let n = c.self.inside.spare - 1 in
-    let kept = c.kept_spare-self-inside.ensures.most n (omega arith) (omega (arith, keeps.1, laid.room)) (omega (arith, keeps.2, laid.boxes, c.len.ensures)) in
-    omega (arith, kept, had)
 
 pub returns-else-first-end-clause-shows : goal.returns-else-first-end-clause-shows
 returns-else-first-end-clause-shows c =

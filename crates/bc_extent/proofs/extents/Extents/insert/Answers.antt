@@ -1,4 +1,4 @@
-use Rattle.std.proofs.Common.{◌-◌, ◌++◌, [], ◌∷◌, List, Some, ap, subst, arith}
+use Rattle.std.proofs.Common.{◌++◌, [], ◌∷◌, List, Some, ap, subst}
 use Rattle.bc_key.specs.declared.key.Key.{Key}
 use Rattle.bc_extent.specs.LastKey.{last_key}
 use Rattle.bc_extent.specs.Extents.{Shows, overlaid}
@@ -17,12 +17,3 @@ returns-else-key-gt0-clause-shows c =
     let key = c.args.key.now in
     let old = c.self.inside.rows.keys in
     subst (λ (keys : List Key). Shows (last_key (keys ++ key ∷ [])) keys) (ap (λ e. e.keys) c.self.view_is) (shows_empty old key c.self.invariant.0 c.if-key-gt0.false)
-
-pub returns-then-key-gt0-clause-spare : goal.returns-then-key-gt0-clause-spare
-returns-then-key-gt0-clause-spare c =
-    let had = ap (λ e. e.spare) c.self.view_is in
-    let keeps = c.self.invariant in
-    let laid = c.overlay.ensures in
-    let n = c.self.inside.spare - 2 in
-    let kept = c.kept_spare-self-inside.ensures.most n (omega arith) (omega (arith, keeps.1, laid.room)) (omega (arith, keeps.2, laid.boxes, c.len.ensures)) in
-    omega (arith, kept, had)

@@ -10,7 +10,7 @@ returns-clause-keys c =
     let n = c.self.inside.count in
     let holds = c.self.invariant in
     let low : c.args.i < n = omega (arith, c.requires, ap (λ rows. length rows.keys) c.self.view_is, length-take-le n (joined rings) (omega (arith, length-joined rings holds.full, holds.room))) in
-    ap (λ ring. take n (joined (set rings (c.args.i / 256) ring))) c.swap_in.ensures.new
+    ap (λ ring. take n (joined (set rings (c.args.i / 512) ring))) c.swap_in.ensures.new
     ∙ row_set rings n c.args.i c.index_mut-ring.result.now holds.full low holds.room c.index_mut-ring.ensures.value c.args.slot
     ∙ ap (λ rows. set rows.keys c.args.i c.args.slot) c.self.view_is
 
@@ -20,5 +20,6 @@ returns-clause-old c = λ d.
     let n = c.self.inside.count in
     let holds = c.self.invariant in
     let low : c.args.i < n = omega (arith, c.requires, ap (λ rows. length rows.keys) c.self.view_is, length-take-le n (joined rings) (omega (arith, length-joined rings holds.full, holds.room))) in
-    row_at rings n c.args.i c.index_mut-ring.result.now holds.full low holds.room c.index_mut-ring.ensures.value c.swap_in.result d (c.swap_in.ensures.old c.swap_in.result)
+    c.swap_in.ensures.old d
+    ∙ row_at rings n c.args.i c.index_mut-ring.result.now holds.full low holds.room c.index_mut-ring.ensures.value d
     ∙ ap (λ rows. get_or rows.keys c.args.i d) c.self.view_is
