@@ -162,6 +162,14 @@ joined_set (ring ∷ rings) (suc b) o x full inside low =
 
 -- ---- a part of the rings changed
 
+-- the first keys stand in the first rings
+pub joined_first : (rings : List (List Key)) (k n : ℕ) → AreFull rings → k ≤ length rings → n ≤ 512 * k → take n (joined (take k rings)) ≡ take n (joined rings)
+joined_first rings k n full within low =
+    let long = length-joined (take k rings) (All-take (λ (r : List Key). length r ≡ 512) k rings full) in
+    sym (ap (λ all. take n (joined all)) (sym (take-append-drop k rings))
+    ∙ ap (take n) (joined-append (take k rings) (drop k rings))
+    ∙ take-append-le n (joined (take k rings)) (joined (drop k rings)) (omega (arith, long, length-take-le k rings within)))
+
 full_part : (rings : List (List Key)) (a k : ℕ) → AreFull rings → AreFull (take k (drop a rings))
 full_part rings a k full = All-take (λ (r : List Key). length r ≡ 512) k (drop a rings) (All-drop (λ (r : List Key). length r ≡ 512) a rings full)
 

@@ -1,5 +1,5 @@
 -- Keys in order without overlaps, and what they show of a look-up.
-use Rattle.std.specs.Prelude.{◌≡◌, ◌≢◌, ℕ, ◌+◌, ◌<◌, ◌≤◌, ◌&&◌, nat_le, nat_lt, List, All, AllPairs, MatchOption, IsSomeAnd, Option, Some, None, if◌then◌else◌}
+use Rattle.std.specs.Prelude.{◌≡◌, ◌≢◌, ℕ, ◌+◌, ◌<◌, ◌≤◌, ◌&&◌, nat_le, nat_lt, List, length, All, AllPairs, MatchOption, IsSomeAnd, Option, Some, None, if◌then◌else◌}
 use Rattle.bc_key.specs.declared.key.Key.{Key}
 use Rattle.bc_key.specs.declared.ptr.Ptr.{Ptr}
 use Rattle.bc_key.specs.Key.{start_of, Covers, IsExtent, ptr_at, place_at}
@@ -11,6 +11,10 @@ pub record Extents : Type 0 where
   pub keys : List Key
   -- how many more keys have room
   pub spare : ℕ
+
+-- how many keys there is memory for
+abbrev pub room_of : Extents → ℕ
+room_of extents = length extents.keys + extents.spare
 
 -- the range begins at sector 0 or behind it and has a sector at least
 abbrev pub IsRange : Key → Type 0

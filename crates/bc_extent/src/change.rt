@@ -3,7 +3,7 @@
 ghost use Rattle.std.specs.Prelude.{◌≡◌, ◌+◌, ◌-◌, ◌<◌, ◌≤◌, ◌++◌, length, take, drop, option_to_list, IfSome};
 ghost use Rattle.bc_key.specs.Key.{start_of};
 ghost use Rattle.bc_extent.specs.LastKey.{last_key};
-ghost use Rattle.bc_extent.specs.Extents.{IsRange, IsInOrder, Shows, overlaid};
+ghost use Rattle.bc_extent.specs.Extents.{IsRange, IsInOrder, Shows, overlaid, room_of};
 
 use crate::gap::{Gap, close, fill};
 use crate::rows::Rows;
@@ -20,6 +20,7 @@ pub fn overlay(rows: &mut Rows, first: u64, end: u64, key: &Option<Key>)
     ensures shows { Shows (overlaid first end key.now (last_key rows.old.keys)) rows.new.keys }
     ensures order { IsInOrder rows.new.keys }
     ensures room { rows.old.spare ≤ rows.new.spare + 1 + length (option_to_list key.now) }
+    ensures all { room_of rows.new ≡ room_of rows.old }
 {
     let left = side_below(rows, first);
     let right = side_above(rows, left.place, end);

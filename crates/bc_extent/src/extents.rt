@@ -2,7 +2,7 @@ ghost use Rattle.std.specs.Prelude.{◌≡◌, ◌↔◌, ℕ, ◌+◌, ◌<◌,
 ghost use Rattle.std.specs.Bool.{OnTrue, OnFalse};
 ghost use Rattle.bc_key.specs.Key.{IsExtent, Covers};
 ghost use Rattle.bc_extent.specs.LastKey.{last_key};
-ghost use Rattle.bc_extent.specs.Extents.{IsInOrder, Shows, erased};
+ghost use Rattle.bc_extent.specs.Extents.{IsInOrder, Shows, erased, room_of};
 
 use crate::change::overlay;
 use crate::places::{key_at, place_of};
@@ -18,25 +18,23 @@ use std::marker::Model;
 /// A place is found in a number of steps that is logarithmic in the number of keys. One key more or
 /// less moves at most 256 keys beside it, and one of each 512 behind them.
 ///
-/// A key takes 64 bytes, of which the pointers behind the first one take 40. So a key of any
-/// pointers may come into the place of another one without memory. Of 512 keys with one pointer at
-/// most these 40 bytes are only set aside: nothing is written there until one of several comes.
+/// A key has 64 bytes of memory, of which 40 are for the pointers behind its first one. So a key of
+/// any pointers may come in the place of any other, and no call but `reserve` takes memory. As long
+/// as no key among 512 has more than one pointer, those bytes are set aside and never written.
 #[derive(Drop)]
 pub struct Extents {
     rows: Rows,
-    spare: usize,
     alloc: Global,
 }
 
 impl Model for Extents {
-    ghost use Rattle.std.specs.Prelude.{◌≤◌};
     ghost use Rattle.bc_extent.specs.Extents.{Extents, IsInOrder};
 
     ghost Value = { Extents };
 
-    ghost view = { λ e. record { keys = e.rows.keys; spare = e.spare } };
+    ghost view = { λ e. e.rows };
 
-    ghost invariant = { λ e. IsInOrder e.rows.keys × (e.spare ≤ e.rows.spare) };
+    ghost invariant = { λ e. IsInOrder e.rows.keys };
 }
 
 impl Extents {
@@ -47,7 +45,6 @@ impl Extents {
     {
         Extents {
             rows: Rows::new(alloc),
-            spare: 0,
             alloc,
         }
     }
@@ -81,7 +78,7 @@ impl Extents {
     pub fn spare(&self) -> usize
         ensures { result ≡ self.now.spare }
     {
-        self.spare
+        self.rows.spare()
     }
 
     /// Takes memory where `spare` is below `more`, so that it is `more` at least. Where no memory is
@@ -92,11 +89,7 @@ impl Extents {
         ensures ok { OnOk result (more ≤ self.new.spare) }
         ensures err { OnErr result ((self.new.spare ≡ self.old.spare) × (self.old.spare < more)) }
     {
-        if self.spare < more {
-            self.rows.reserve(self.alloc, more)?;
-            self.spare = more;
-        }
-        Ok(())
+        self.rows.reserve(self.alloc, more)
     }
 
     /// The key that covers the sector.
@@ -117,10 +110,10 @@ impl Extents {
         ensures shows { Shows (last_key (self.old.keys ++ key.now ∷ [])) self.new.keys }
         ensures order { IsInOrder self.new.keys }
         ensures spare { self.old.spare ≤ self.new.spare + 2 }
+        ensures room { room_of self.new ≡ room_of self.old }
     {
         if key.size > 0 {
             overlay(&mut self.rows, key.start(), key.end, &Some(*key));
-            self.spare = self.spare.min(self.rows.spare());
         }
     }
 
@@ -133,19 +126,19 @@ impl Extents {
             → All (λ key. ¬ (Covers key sector)) self.new.keys }
         ensures order { IsInOrder self.new.keys }
         ensures spare { self.old.spare ≤ self.new.spare + 1 }
+        ensures room { room_of self.new ≡ room_of self.old }
     {
         // A key ends at 2^64 - 1 at most, so none covers a sector from there on.
         let end = first.saturating_add(u64::from(count));
         if first < end {
             overlay(&mut self.rows, first, end, &None);
-            self.spare = self.spare.min(self.rows.spare());
         }
     }
 
     /// Takes out all keys. The room stays. Takes no memory.
     pub fn clear(&mut self)
         ensures keys { self.new.keys ≡ [] }
-        ensures spare { self.new.spare ≡ self.old.spare }
+        ensures room { room_of self.new ≡ room_of self.old }
     {
         self.rows.clear();
     }

@@ -1,6 +1,7 @@
 //! A part of a row that gives way to other keys, one after another, within the memory that there is.
 
 ghost use Rattle.std.specs.Prelude.{◌≡◌, ◌+◌, ◌-◌, ◌<◌, ◌≤◌, ◌++◌, length, take, drop, option_to_list};
+ghost use Rattle.bc_extent.specs.Extents.{room_of};
 
 use crate::rows::Rows;
 use crate::slot::Slot;
@@ -24,6 +25,7 @@ fn put(rows: &mut Rows, gap: Gap, slot: Slot) -> Gap
     ensures behind { drop result.to rows.new.keys ≡ drop gap.to rows.old.keys }
     ensures room { rows.new.spare + (result.to - result.from) + 1
         ≡ rows.old.spare + (gap.to - gap.from) }
+    ensures all { room_of rows.new ≡ room_of rows.old }
 {
     // So that a place is a number of 64 bits.
     let _ = rows.len();
@@ -49,6 +51,7 @@ pub fn fill(rows: &mut Rows, gap: Gap, key: &Option<Key>) -> Gap
     ensures behind { drop result.to rows.new.keys ≡ drop gap.to rows.old.keys }
     ensures room { rows.new.spare + (result.to - result.from) + length (option_to_list key.now)
         ≡ rows.old.spare + (gap.to - gap.from) }
+    ensures all { room_of rows.new ≡ room_of rows.old }
 {
     match key {
         None => gap,
@@ -61,6 +64,7 @@ pub fn close(rows: &mut Rows, gap: Gap)
     requires { gap.to ≤ length rows.old.keys }
     ensures keys { rows.new.keys ≡ take gap.from rows.old.keys ++ drop gap.to rows.old.keys }
     ensures spare { rows.new.spare ≡ rows.old.spare + (gap.to - gap.from) }
+    ensures all { room_of rows.new ≡ room_of rows.old }
 {
     for _ in gap.from..gap.to {
         rows.remove(gap.from);

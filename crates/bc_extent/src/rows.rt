@@ -3,9 +3,10 @@
 //! They stand in rings, all of them full but the last, so that the room for keys is exact. One more
 //! key moves the keys behind it in its ring, and one key of each ring behind that.
 
-ghost use Rattle.std.specs.Prelude.{◌≡◌, ℕ, ◌+◌, ◌^◌, ◌<◌, ◌≤◌, [], length, insert, remove, slice_set, slice_index_or, OnOk, OnErr};
+ghost use Rattle.std.specs.Prelude.{◌≡◌, ℕ, ◌+◌, ◌*◌, ◌^◌, ◌<◌, ◌≤◌, [], length, insert, remove, slice_set, slice_index_or, OnOk, OnErr};
 ghost use Rattle.bc_key.specs.declared.key.Key.{Key};
 ghost use Rattle.bc_key.specs.Key.{start_of};
+ghost use Rattle.bc_extent.specs.Extents.{room_of};
 
 use crate::carry::{insert_within, remove_within};
 use crate::ring::Ring;
@@ -127,7 +128,7 @@ impl Rows {
     /// Takes out all keys. The room stays. Takes no memory.
     pub fn clear(&mut self)
         ensures keys { self.new.keys ≡ [] }
-        ensures spare { self.old.spare ≤ self.new.spare }
+        ensures room { room_of self.new ≡ room_of self.old }
     {
         self.count = 0;
     }
@@ -146,14 +147,31 @@ impl Rows {
         Ok(())
     }
 
-    /// Takes memory where `spare` is below `more`, so that it is `more` at least.
+    /// Gives the memory of so many rings back.
+    fn shrink(&mut self, rings: usize)
+        requires { 512 * rings ≤ self.old.spare }
+        ensures keys { self.new.keys ≡ self.old.keys }
+        ensures spare { self.new.spare + 512 * rings ≡ self.old.spare }
+    {
+        let kept = self.rings.len() - rings;
+        self.rings.truncate(kept);
+    }
+
+    /// Takes memory where `spare` is below `more`, so that it is `more` at least. Where no memory is
+    /// found, nothing has changed.
     pub fn reserve(&mut self, alloc: Global, more: usize) -> Result<(), AllocError>
         ensures keys { self.new.keys ≡ self.old.keys }
         ensures raised { self.old.spare ≤ self.new.spare }
-        ensures ok { OnOk result ((more ≤ self.new.spare) × (more ≤ 2 ^ 55)) }
+        ensures ok { OnOk result (more ≤ self.new.spare) }
+        ensures err { OnErr result ((self.new.spare ≡ self.old.spare) × (self.old.spare < more)) }
     {
+        let mut added = 0;
         while self.spare() < more {
-            self.grow(alloc)?;
+            if let Err(refused) = self.grow(alloc) {
+                self.shrink(added);
+                return Err(refused);
+            }
+            added += 1;
         }
         Ok(())
     }

@@ -22,4 +22,4 @@ pub returns-else-first-end-clause-shows : goal.returns-else-first-end-clause-sho
 returns-else-first-end-clause-shows c =
     let old = c.self.inside.rows.keys in
     let capped : c.saturating_add-end.result ≡ min (c.args.first + c.args.count) (2 ^ 64 - 1) = c.saturating_add-end.ensures ∙ ap (λ n. min (c.args.first + n) (2 ^ 64 - 1)) c.from.ensures in
-    subst (λ (keys : List Key). Shows (erased c.args.first c.args.count (last_key keys)) keys) (ap (λ e. e.keys) c.self.view_is) (shows_kept old c.args.first c.args.count c.saturating_add-end.result capped c.self.invariant.0 c.if-first-end.false)
+    subst (λ (keys : List Key). Shows (erased c.args.first c.args.count (last_key keys)) keys) (ap (λ e. e.keys) c.self.view_is) (shows_kept old c.args.first c.args.count c.saturating_add-end.result capped c.self.invariant c.if-first-end.false)

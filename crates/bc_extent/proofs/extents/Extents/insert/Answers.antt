@@ -16,4 +16,4 @@ pub returns-else-key-gt0-clause-shows : goal.returns-else-key-gt0-clause-shows
 returns-else-key-gt0-clause-shows c =
     let key = c.args.key.now in
     let old = c.self.inside.rows.keys in
-    subst (λ (keys : List Key). Shows (last_key (keys ++ key ∷ [])) keys) (ap (λ e. e.keys) c.self.view_is) (shows_empty old key c.self.invariant.0 c.if-key-gt0.false)
+    subst (λ (keys : List Key). Shows (last_key (keys ++ key ∷ [])) keys) (ap (λ e. e.keys) c.self.view_is) (shows_empty old key c.self.invariant c.if-key-gt0.false)

@@ -11,6 +11,6 @@ returns-in-Some-clause-shows c =
     let new = c.args.new.now in
     let place = c.in-Some.place in
     let found = c.in-Some.ensures.found in
-    let shown = shows_replaced old c.self.invariant.0 c.args.old.now new place found.0 found.1 c.requires.end c.requires.size in
+    let shown = shows_replaced old c.self.invariant c.args.old.now new place found.0 found.1 c.requires.end c.requires.size in
     subst (λ (keys : List Key). Shows (last_key (keys ++ new ∷ [])) c.swap_in.new.self.keys) (ap (λ e. e.keys) c.self.view_is)
     (subst (Shows (last_key (old ++ new ∷ []))) (sym (c.swap_in.ensures.keys ∙ ap (λ key. set old place key) c.new.ensures)) shown)
