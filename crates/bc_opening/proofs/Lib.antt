@@ -1,0 +1,5 @@
+pub mod Nodes
+pub mod Pointers
+pub mod Books
+pub mod Parts
+pub mod Whole

@@ -1,0 +1,4 @@
+pub mod Read
+pub mod Choices
+pub mod Opening
+pub mod Laws
