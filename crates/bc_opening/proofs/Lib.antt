@@ -1,5 +1,9 @@
 pub mod Nodes
 pub mod Pointers
+pub mod Uses
 pub mod Books
 pub mod Parts
 pub mod Whole
+pub mod One
+pub mod Chosen
+pub mod Example

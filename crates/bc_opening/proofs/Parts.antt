@@ -40,7 +40,7 @@ use Rattle.bc_opening.specs.Choices.{Choices, MayBeChosen}
 use Rattle.bc_opening.specs.Opening.{ArePartsOf}
 use Rattle.bc_opening.proofs.Nodes as nodes
 use Rattle.bc_opening.proofs.Nodes.{Sits, Stands, kids, one_of, rows}
-use Rattle.bc_opening.proofs.Books.{points_into}
+use Rattle.bc_opening.proofs.Uses.{points_into}
 
 -- a node of a walk has a walk of its own
 module _ (g : Geometry) (image : Image) where

@@ -171,7 +171,7 @@ module _ (g : Geometry) (size : ℕ) (r : Reading) (pointers : HasPointers g siz
   pub lies_live : (s : ℕ) (x : Pointer) (a : At s x) → age_of g r.gens (ptr_at a.key 0) ≡ 0 → LiesLive g r s a.key (back g (bucket_by g (ptr_at a.key 0)))
   lies_live s x a none = record { last = a.at; live = live_is a.key a.some none; place = a.place }
 
-  live_counts : (key : Key) → is_live g r.gens key ≡ true → 0 < key.count
+  pub live_counts : (key : Key) → is_live g r.gens key ≡ true → 0 < key.count
   live_counts key live = by_lt 0 key.count (λ b. is_fresh g r.gens (if b then Some (ptr_at key 0) else None) ≡ true → 0 < key.count) (λ lt _. lt) (λ _ h. absurd (cc)) live
 
   -- what a live key points into is a bucket behind the journal

@@ -1,4 +1,5 @@
 pub mod Read
 pub mod Choices
 pub mod Opening
+pub mod Alike
 pub mod Laws

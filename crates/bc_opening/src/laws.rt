@@ -1,8 +1,24 @@
 //! What holds of openings of sound pairs: each law is the contract of a function.
-ghost use Rattle.bc_opening.specs.Laws.{LawOpening};
+ghost use Rattle.bc_opening.specs.Laws.{HasExample, LawChoices, LawOne, LawOpening};
 
 /// Each sound pair with a cache is opened, whatever of that which is free is chosen; and what is
 /// then held is a sound opening of the machine.
 pub fn law_opening()
     ensures { LawOpening }
+{}
+
+/// In one way: whatever a run asks of two openings of one pair by the same choices, they answer
+/// alike. So a program whose parts are those that were read and chosen stands for just this one.
+pub fn law_one()
+    ensures { LawOne }
+{}
+
+/// There always is something to choose, so each sound pair with a cache is opened.
+pub fn law_choices()
+    ensures { LawChoices }
+{}
+
+/// The small pair that was made anew, byte by byte, is opened so.
+pub fn example()
+    ensures { HasExample }
 {}
