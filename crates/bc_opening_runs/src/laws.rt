@@ -1,4 +1,5 @@
 //! What holds of runs on sound pairs: each law is the contract of a function.
+ghost use Rattle.bc_opening_runs.specs.Example.{HasReplay};
 ghost use Rattle.bc_opening_runs.specs.Laws.{LawOldKeys, LawShown};
 
 /// Each key that an opening of a sound pair has lies whole in data buckets.
@@ -12,4 +13,9 @@ pub fn law_old_keys()
 /// The premise is that no torn record matches by chance.
 pub fn law_shown()
     ensures { LawShown }
+{}
+
+/// There is a pair, byte by byte, with a dirty key that its journal alone has, and it is opened.
+pub fn has_replay()
+    ensures { HasReplay }
 {}
