@@ -1,7 +1,7 @@
 -- There always is something that may be chosen.
 use Rattle.std.proofs.Common.{subst, ◌≡◌, ◌≢◌, ◌⊎◌, inl, inr, ℕ, zero, suc, ◌+◌, ◌-◌, ◌<◌, ◌≤◌, Bool, true, false, List, [], ◌∷◌, length, Option, Some, None, refl, sym, ap, ◌∙◌, arith, if◌then◌else◌, nat_lt, nat_le, ◌==◌, ◌||◌, ◌&&◌}
-use Rattle.std.specs.Prelude.{◌↔◌, All, AllPairs, map}
-use Rattle.std.proofs.lemmas.List.Elements.{All-contains, All-tail}
+use Rattle.std.specs.Prelude.{◌↔◌, AllPairs}
+use Rattle.std.proofs.lemmas.List.Elements.{All-contains}
 use Rattle.bc_disk.specs.declared.geometry.Geometry.{Geometry}
 use Rattle.bc_key.specs.declared.key.Key.{Key}
 use Rattle.bc_key.specs.declared.ptr.Ptr.{Ptr}
@@ -30,12 +30,11 @@ use Rattle.bc_image.specs.Sound.{HasSoundParts, IsDataKey, IsNodeKey, KeepsRange
 use Rattle.bc_image.specs.Tree.{Node}
 use Rattle.bc_image.specs.Uses.{Data, IsLiveDirty, IsSpare, IsUsedFor, Journal, Node as NodeUse, Priority, Super, Use, Uuid}
 use Rattle.bc_image.proofs.Unique.{some_same}
-use Rattle.bc_facts.specs.Layout.{IsLayoutOf}
 use Rattle.bc_facts.specs.Reads.{back}
 use Rattle.bc_facts.specs.Seen.{bucket_of, counted, seen_entries, seen_entry}
 use Rattle.bc_facts.proofs.Made.{law_layout}
 use Rattle.bc_facts.proofs.Place.{by_lt}
-use Rattle.bc_facts.proofs.Stood.{all_in, in_all, in_contains}
+use Rattle.bc_facts.proofs.Stood.{all_in}
 use Rattle.bc_remains.specs.Laws.{IsOpened}
 use Rattle.bc_remains.proofs.Open.{law_opened}
 use Rattle.bc_opening.specs.Read.{IsFixed, bucket_by, is_leaf, kind_of, pointed, pointer_by, version_at, version_of}
@@ -236,13 +235,13 @@ module _ (p : Pair) (v : View) (view : IsView p v) (sound : HasSoundParts p v) w
   slot_is i n s e low high =
       let k = of_kind_is is_leaf (nth r.nodes i) n e in
       let has_it = both_and (is_leaf n.level) (nat_le n.from s && nat_lt s n.key.end) k.1
-          (both_and (nat_le n.from s) (nat_lt s n.key.end) ((le_tells n.from s).1 low) ((lt_tells s n.key.end).1 high)) in
+      (both_and (nat_le n.from s) (nat_lt s n.key.end) ((le_tells n.from s).1 low) ((lt_tells s n.key.end).1 high)) in
       let f = find_is r.nodes 0 s i n k.0 has_it in
       let t = and_both (is_leaf f.node.level) (nat_le f.node.from s && nat_lt s f.node.key.end) f.has_it in
       let range = and_both (nat_le f.node.from s) (nat_lt s f.node.key.end) t.1 in
       let one = nodes.apart g w (law_layout v.geometry).1 start.opening.owners p.cache r.newest.item.level 0 r.newest.item.root r.nodes view.reading.nodes keeps f.node n s
-          (nth_in r.nodes f.at f.node f.here) (nth_in r.nodes i n k.0) ((leaf_tells f.node.level).0 t.0) ((leaf_tells n.level).0 k.1)
-          ((le_tells f.node.from s).0 range.0, (lt_tells s f.node.key.end).0 range.1) (low, high) in
+      (nth_in r.nodes f.at f.node f.here) (nth_in r.nodes i n k.0) ((leaf_tells f.node.level).0 t.0) ((leaf_tells n.level).0 k.1)
+      ((le_tells f.node.from s).0 range.0, (lt_tells s f.node.key.end).0 range.1) (low, high) in
       let same = once f.at i n (f.here ∙ ap Some one) k.0 in
       let is = f.is in
       omega (arith, is, same)
@@ -332,14 +331,14 @@ module _ (p : Pair) (v : View) (view : IsView p v) (sound : HasSoundParts p v) w
   metadata_only : (q : ℕ) → metadata q ≡ true → IsMetadata g r (back g q) ⊎ (g.nbuckets ≤ back g q)
   metadata_only q e = elim (or_cases (is_fixed q) (has buckets q || has start.opening.chain q) e) [
     | inl f ↦ elim ((fixed_is q).0 f) [
-        | inl lt ↦ inl (Journal, (λ z. cc), (omega arith, omega (arith, lt)))
-        | inr (inl used) ↦ inl (Uuid, (λ z. cc), used)
-        | inr (inr high) ↦ inr high
-      ]
+      | inl lt ↦ inl (Journal, (λ z. cc), (omega arith, omega (arith, lt)))
+      | inr (inl used) ↦ inl (Uuid, (λ z. cc), used)
+      | inr (inr high) ↦ inr high
+    ]
     | inr h ↦ elim (or_cases (has buckets q) (has start.opening.chain q) h) [
-        | inl n ↦ inl (NodeUse, (λ z. cc), (node_is q).0 n)
-        | inr c ↦ inl (Priority, (λ z. cc), (chain_is q).0 c)
-      ]
+      | inl n ↦ inl (NodeUse, (λ z. cc), (node_is q).0 n)
+      | inr c ↦ inl (Priority, (λ z. cc), (chain_is q).0 c)
+    ]
   ]
 
   abbrev dirty : ℕ → Bool
@@ -358,7 +357,7 @@ module _ (p : Pair) (v : View) (view : IsView p v) (sound : HasSoundParts p v) w
       let place = live.place in
       let there : counted g (bucket_at g (place_at d.1 0 d.0)) ≡ q = omega (arith, place) in
       let points : pointer_by g r.gens (key_of r d.0) d.0 ≡ Some (pointer_at g r.gens d.1 d.0) =
-          ap (λ (k : Option Key). pointer_by g r.gens k d.0) live.last ∙ ap (λ o. pointed g r.gens d.1 d.0 o) (some_points d.1 some) in
+      ap (λ (k : Option Key). pointer_by g r.gens k d.0) live.last ∙ ap (λ o. pointed g r.gens d.1 d.0 o) (some_points d.1 some) in
       any_true size (λ t. dirty_in (λ t. counted g (bucket_at g t)) q (pointer_by g r.gens (key_of r t) t)) d.0 (omega (arith, end, high))
       (ap (dirty_in (λ t. counted g (bucket_at g t)) q) points
       ∙ both_and (is_dirty (kind_of d.1.dirty)) (counted g (bucket_at g (place_at d.1 0 d.0)) == q) (dirty_is d.1.dirty ∙ d.3) ((eq_tells (counted g (bucket_at g (place_at d.1 0 d.0))) q).1 there))

@@ -1,5 +1,5 @@
 -- The pair that was made anew is opened.
-use Rattle.std.proofs.Common.{◌≡◌, inl, inr, subst, sym, arith, lit≤}
+use Rattle.std.proofs.Common.{inl, inr, subst, arith, lit≤}
 use Rattle.bc_disk.specs.declared.geometry.Geometry.{Geometry}
 use Rattle.bc_super.specs.Division.{IsPassThrough}
 use Rattle.bc_super.specs.declared.backing.BackingSuper.{BackingSuper}

@@ -1,25 +1,19 @@
 -- Two openings of one pair by the same choices.
-use Rattle.std.proofs.Common.{◌≡◌, ℕ, Bool, true, false, List, Option, refl, sym, ap, ◌∙◌}
+use Rattle.std.proofs.Common.{◌≡◌, ℕ, Bool, true, false, refl, sym, ap, ◌∙◌}
 use Rattle.std.specs.Prelude.{◌↔◌}
 use Rattle.bc_model.specs.Sector.{Image}
 use Rattle.bc_disk.specs.declared.geometry.Geometry.{Geometry}
 use Rattle.bc_books.specs.Books.{Setup}
-use Rattle.bc_meta.specs.Facts.{In}
-use Rattle.bc_meta.specs.Layout.{Layout, node_sets, sets_in}
-use Rattle.bc_meta.specs.Laws as meta
+use Rattle.bc_meta.specs.Layout.{Layout, sets_in}
 use Rattle.bc_meta.specs.Records.{Records, no_set}
 use Rattle.bc_meta.specs.Records as records
 use Rattle.bc_meta.specs.Tree.{Owner}
-use Rattle.bc_leaves.specs.Parts as parts
-use Rattle.bc_image.specs.Pair.{Pair}
-use Rattle.bc_image.specs.Reading.{Reading, View}
-use Rattle.bc_image.specs.Tree.{Node}
+use Rattle.bc_image.specs.Reading.{Reading}
 use Rattle.bc_facts.specs.Seen.{bucket_of}
 use Rattle.bc_remains.proofs.Next as next
-use Rattle.bc_whole.specs.State.{Opening}
 use Rattle.bc_opening.specs.Choices.{Choices}
-use Rattle.bc_opening.specs.Opening.{AreBooksOf, ArePartsOf, IsDataOf, IsOpeningOf, IsStoreOf}
-use Rattle.bc_opening.specs.Alike.{AreSame, SameBooks}
+use Rattle.bc_opening.specs.Opening.{AreBooksOf}
+use Rattle.bc_opening.specs.Alike.{SameBooks}
 use Rattle.bc_opening.specs.Laws.{LawOne}
 
 same_test : (P : Type 0) (a b : Bool) → (a ≡ true) ↔ P → (b ≡ true) ↔ P → a ≡ b

@@ -1,7 +1,6 @@
 -- What each bucket of a sound reading is for, as tests.
 use Rattle.std.proofs.Common.{subst, ◌≡◌, ◌≢◌, ◌⊎◌, inl, inr, ℕ, zero, suc, ◌<◌, ◌≤◌, Bool, true, false, List, [], ◌∷◌, length, Option, Some, None, refl, sym, ap, ◌∙◌, arith, nat_lt, nat_le, ◌==◌, ◌||◌}
 use Rattle.std.specs.Prelude.{◌↔◌, map, slice_index_or}
-use Rattle.std.proofs.lemmas.List.{length-map}
 use Rattle.bc_model.specs.Sector.{Image}
 use Rattle.bc_disk.specs.declared.gens.BucketRecord.{BucketRecord}
 use Rattle.bc_disk.specs.declared.geometry.Geometry.{Geometry}
@@ -10,32 +9,27 @@ use Rattle.bc_key.specs.Key.{ptr_at}
 use Rattle.bc_record.specs.Places.{bucket_at}
 use Rattle.bc_prio.specs.Chain.{IsPlace}
 use Rattle.bc_prio.specs.Records.{LeadIn}
-use Rattle.bc_prio.specs.Sizes.{sets_in_chain}
-use Rattle.bc_books.specs.Index.{Dirty, Pointer}
-use Rattle.bc_books.specs.Marks.{Metadata}
-use Rattle.bc_books.specs.Shelves.{Priorities, Purpose}
+use Rattle.bc_books.specs.Index.{Dirty}
+use Rattle.bc_books.specs.Shelves.{Purpose}
 use Rattle.bc_books.specs.Chains.{Many}
-use Rattle.bc_books.specs.Books.{IsSound, Setup, is_listed, unused}
+use Rattle.bc_books.specs.Books.{is_listed}
 use Rattle.bc_meta.specs.Chain.{Distinct}
 use Rattle.bc_meta.specs.Facts.{In}
 use Rattle.bc_meta.proofs.Lists.{by_le, by_test}
 use Rattle.bc_leaves.specs.After.{has}
 use Rattle.bc_leaves.proofs.Chains.{has_in, in_has}
 use Rattle.bc_image.specs.Pointers.{PointsInto, PointsIntoData}
-use Rattle.bc_image.specs.Reading.{IsReading, Reading, key_of}
-use Rattle.bc_image.specs.Sound.{HasOneUse, HasPointers, IsNodeKey, IsWithinWindow}
+use Rattle.bc_image.specs.Reading.{IsReading, Reading}
+use Rattle.bc_image.specs.Sound.{HasOneUse, HasPointers, IsNodeKey}
 use Rattle.bc_image.specs.Tree as tree
-use Rattle.bc_image.specs.Uses.{Data, IsUsedFor, Journal, Node, Priority, Super, Use, Uuid}
+use Rattle.bc_image.specs.Uses.{IsUsedFor, Journal, Node, Priority, Use}
 use Rattle.bc_image.proofs.Unique.{some_same}
 use Rattle.bc_facts.specs.Reads.{back}
-use Rattle.bc_facts.specs.Seen.{bucket_of, counted}
-use Rattle.bc_facts.proofs.Finder.{no_one}
+use Rattle.bc_facts.specs.Seen.{bucket_of}
 use Rattle.bc_facts.proofs.Place.{by_lt}
 use Rattle.bc_facts.proofs.Stood.{all_in, any_in, contains_in, in_contains, index_in}
-use Rattle.bc_opening.specs.Read.{IsFixed, bucket_by, kind_of, pointer_by, version_at}
-use Rattle.bc_opening.specs.Choices.{Choices, IsMetadata, MayBeChosen}
-use Rattle.bc_opening.specs.Opening.{AreBooksOf}
-use Rattle.bc_opening.proofs.Pointers.{as_new, at_sector, data_place, lies_live, no_age, some_points}
+use Rattle.bc_opening.specs.Read.{IsFixed, kind_of}
+use Rattle.bc_opening.proofs.Pointers.{some_points}
 
 -- ---- tests
 

@@ -67,7 +67,7 @@ use Rattle.bc_opening.proofs.Nodes.{Sits}
 use Rattle.bc_opening.proofs.Nodes as nodes
 use Rattle.bc_opening.proofs.Pointers.{at_sector, live_is, no_age, pointer_at, stale_is, version_byte, version_bytes}
 use Rattle.bc_opening.proofs.Books as books
-use Rattle.bc_opening.proofs.Uses.{has_tells, in_map, not_true}
+use Rattle.bc_opening.proofs.Uses.{in_map, not_true}
 use Rattle.bc_opening.proofs.Parts as fit
 
 not_false : (b : Bool) → not b ≡ false → b ≡ true
