@@ -1,6 +1,6 @@
 -- The books' laws on ages and uses, said of what a reader finds.
-use Rattle.std.proofs.Common.{◌≡◌, ◌≢◌, ◌⊎◌, inl, inr, ℕ, ◌+◌, ◌-◌, ◌%◌, ◌<◌, ◌≤◌, Bool, true, false, List, [], ◌∷◌, ◌++◌, Option, Some, None, refl, sym, ap, ◌∙◌, subst, arith, if◌then◌else◌}
-use Rattle.std.specs.Prelude.{map, All}
+use Rattle.std.proofs.Common.{◌≡◌, ◌≢◌, ◌⊎◌, inl, inr, ℕ, zero, suc, ◌+◌, ◌-◌, ◌%◌, ◌<◌, ◌≤◌, Bool, true, false, List, [], ◌∷◌, ◌++◌, Option, Some, None, refl, sym, ap, ◌∙◌, subst, arith, if◌then◌else◌}
+use Rattle.std.specs.Prelude.{map, All, AllPairs, length, slice_index_or}
 use Rattle.bc_model.specs.Sector.{Image}
 use Rattle.bc_disk.specs.Device.{Content, MayLeave}
 use Rattle.bc_disk.specs.declared.geometry.Geometry.{Geometry}
@@ -10,7 +10,18 @@ use Rattle.bc_key.specs.declared.ptr.Ptr.{Ptr}
 use Rattle.bc_key.specs.Key.{place_at, pointer_of, ptr_at}
 use Rattle.bc_books.specs.Versions as books
 use Rattle.bc_books.specs.Invariant.{IsInOrder}
-use Rattle.bc_books.specs.Laws.{IsInWindow, IsSeen, MayHaveMetadata, Snapshot, durable_snapshot, sealed_snapshot}
+use Rattle.bc_books.specs.Chains.{Many}
+use Rattle.bc_books.specs.Index.{Pointer}
+use Rattle.bc_books.specs.Shelves.{Held, Loose, Shelf, Tree as ForTree}
+use Rattle.bc_books.specs.Laws.{IsInWindow, IsLive, IsSeen, MayHaveMetadata, Snapshot, durable_snapshot, sealed_snapshot}
+use Rattle.bc_books.specs.Laws as book_law
+use Rattle.bc_books.specs.Books.{Books}
+use Rattle.bc_collect.specs.Spare.{HasNoUse}
+use Rattle.bc_collect.proofs.Spare.{law_spare}
+use Rattle.bc_data.specs.Data as flow
+use Rattle.bc_data.specs.Laws.{HasBooks}
+use Rattle.bc_data.proofs.Steps.{law_books}
+use Rattle.bc_prio.specs.Sizes.{sets_in_chain}
 use Rattle.bc_books.proofs.Safety.{apart, in_window}
 use Rattle.bc_meta.specs.Facts.{In}
 use Rattle.bc_meta.specs.Keys.{Ref, last_ref, ref_by}
@@ -32,7 +43,7 @@ use Rattle.bc_image.proofs.Unique.{one_reading, one_walk, some_same}
 use Rattle.bc_facts.specs.Seen.{bucket_of, counted}
 use Rattle.bc_facts.specs.Reads.{back}
 use Rattle.bc_facts.proofs.Place.{by_lt}
-use Rattle.bc_facts.proofs.Stood.{all_in, any_in, contains_in}
+use Rattle.bc_facts.proofs.Stood.{all_in, any_in, contains_in, in_all, index_in}
 use Rattle.bc_facts.proofs.Torn.{no_chance}
 use Rattle.bc_remains.specs.Apart.{HasApartUses, IsMetadata}
 use Rattle.bc_remains.specs.Means.{Means, ref_of}
@@ -52,12 +63,38 @@ use Rattle.bc_shows.specs.On.{IsRunOn}
 use Rattle.bc_shows.proofs.Lists.{last_covers, last_in}
 use Rattle.bc_shows.proofs.Law.{at}
 use Rattle.bc_shows.proofs.Sector.{bucket_is, byte_alone, gen_is, live_is}
-use Rattle.bc_uses.specs.Laws.{HasUses, LawUses}
+use Rattle.bc_uses.specs.Laws.{HasSpare, HasUses, IsUnneeded, LawSpare, LawUses}
 
 in_back : (g : Geometry) (qs : List ℕ) (b : ℕ) → In b (map (back g) qs) → (q : ℕ) × In q qs × (b ≡ back g q)
 in_back g [] b i = absurd i
 in_back g (q ∷ qs) b (inl e) = (q, inl refl, e)
 in_back g (q ∷ qs) b (inr i) = let k = in_back g qs b i in (k.0, inr k.1, k.2)
+
+-- ---- so many buckets, as a list
+
+abbrev listed : Geometry → (ℕ → ℕ) → ℕ → List ℕ
+listed g at_ zero = []
+listed g at_ (suc n) = back g (at_ n) ∷ listed g at_ n
+
+listed_long : (g : Geometry) (at_ : ℕ → ℕ) (n : ℕ) → length (listed g at_ n) ≡ n
+listed_long g at_ zero = refl
+listed_long g at_ (suc n) = ap suc (listed_long g at_ n)
+
+in_listed : (g : Geometry) (at_ : ℕ → ℕ) (n s : ℕ) → In s (listed g at_ n) → (k : ℕ) × (k < n) × (s ≡ back g (at_ k))
+in_listed g at_ zero s i = absurd i
+in_listed g at_ (suc n) s (inl e) = (n, omega arith, e)
+in_listed g at_ (suc n) s (inr i) = let k = in_listed g at_ n s i in let lt = k.1 in (k.0, omega (arith, lt), k.2)
+
+listed_apart : (g : Geometry) (at_ : ℕ → ℕ) (n m : ℕ) → n ≤ m → ((i j : ℕ) → i < m → j < m → at_ i ≡ at_ j → i ≡ j) → AllPairs (λ a b. a ≢ b) (listed g at_ n)
+listed_apart g at_ zero m le one i j d lt inside = absurd (omega arith)
+listed_apart g at_ (suc n) m le one i zero d lt inside = absurd (omega arith)
+listed_apart g at_ (suc n) m le one zero (suc j) d lt inside = λ same.
+    (let k = in_listed g at_ n (slice_index_or (listed g at_ n) j d) (index_in (listed g at_ n) j d (omega arith)) in
+    let below = k.1 in
+    let there = k.2 in
+    let e = one n k.0 (omega (arith, le)) (omega (arith, below, le)) (omega (arith, same, there)) in
+    omega (arith, e, below))
+listed_apart g at_ (suc n) m le one (suc i) (suc j) d lt inside = listed_apart g at_ n m (omega (arith, le)) one i j d (omega arith) (omega arith)
 
 -- the first pointer is the one that counts
 first_ptr : (key : Key) (ptr : Ptr) → pointer_of key ≡ Some ptr → (ptr_at key 0 ≡ ptr) × (0 < key.count)
@@ -167,6 +204,10 @@ module _ (g : Geometry) (w : Opening) (x : parts.State) (next_seq : ℕ) (es : L
       there : bucket ≡ back g q
       behind_journal : g.journal ≤ q
       no_metadata : MayHaveMetadata w.flow.books st.whole.flow.books q → ⊥
+      sector : ℕ
+      pointer : Pointer
+      live_there : IsLive w.flow.books st.whole.flow.books shot sector pointer
+      place_there : w.flow.books.bucket pointer.place ≡ q
 
     data_at : (bucket : ℕ) → IsUsedFor g r Data bucket → HasData bucket
     data_at bucket (s, key, lies) =
@@ -193,6 +234,10 @@ module _ (g : Geometry) (w : Opening) (x : parts.State) (next_seq : ℕ) (es : L
           there = omega (arith, same, inside, place, from);
           behind_journal = omega (arith, same, from);
           no_metadata = λ may. (apart w.flow.books st.whole.flow.books order (w.flow.books.bucket p.pointer.place) may).no_key shot s p.pointer seen (p.is, win.stale fresh) refl;
+          sector = s;
+          pointer = p.pointer;
+          live_there = (p.is, win.stale fresh);
+          place_there = refl;
         }
       where
         some_live : (key : Key) → is_live g r.gens key ≡ true → 0 < key.count
@@ -241,6 +286,106 @@ module _ (g : Geometry) (w : Opening) (x : parts.State) (next_seq : ℕ) (es : L
     no_data bucket Uuid m u d = m
     no_data bucket Data m u d = m
 
+    -- of what the books know as fixed there is no other use than the journal's and the uuid table's
+    only_fixed : (bucket : ℕ) (a : Use) → g.first_bucket ≤ bucket → w.flow.books.fixed (counted g bucket) ≡ true → IsUsedFor g r a bucket → (a ≡ Journal) ⊎ (a ≡ Uuid)
+    only_fixed bucket Super from known u = absurd (omega (arith, from, u))
+    only_fixed bucket Journal from known u = inl refl
+    only_fixed bucket Priority from known u =
+        let i = in_back g (st.whole.store.buckets n) bucket (subst (λ (l : List ℕ). In bucket l) said.chain (contains_in r.gens.chain bucket u)) in
+        let at_ = i.2 in
+        let same : counted g bucket ≡ i.0 = omega (arith, at_) in
+        absurd (no_chain (st.whole.flow.books.chains.of (counted g bucket)) (order.marked.no_chain (counted g bucket) (inl known))
+        (sym (inv.link.chain.buckets (counted g bucket)) ∙ subst (λ q. st.whole.store.chain_of q ≡ Some n) (sym same) (inv.store.named n low high i.0 i.1)))
+      where
+        no_chain : (o : Option ℕ) → o ≡ None → o ≡ Some n → ⊥
+        no_chain o a_ b_ = cc
+    only_fixed bucket Uuid from known u = inr refl
+    only_fixed bucket Node from known u =
+        let i = any_in (λ (y : tree.Node). PointsInto g y.key bucket) r.nodes u in
+        let first = first_ptr i.0.key i.2.0 i.2.1 in
+        let at_ : bucket_at g (ptr_at i.0.key 0).offset ≡ bucket = ap (λ (y : Ptr). bucket_at g y.offset) first.0 ∙ i.2.2 in
+        let same : bucket_of g i.0.key ≡ counted g bucket = omega (arith, at_) in
+        elim (inv.link.nodes (counted g bucket) (subst (λ q. st.whole.store.places.records.unused q ≡ false) same (bool_false (st.whole.store.places.records.unused (bucket_of g i.0.key)) (used i.0 i.1)))) [
+          | inl node ↦ absurd (two (st.whole.flow.books.node (counted g bucket)) node (order.marked.one_use (counted g bucket) known))
+          | inr held ↦ absurd (not_held (st.whole.flow.books.shelf (counted g bucket)) held.0 held.1 (order.marked.loose (counted g bucket) (inl known)))
+        ]
+      where
+        two : (t : Bool) → t ≡ true → t ≡ false → ⊥
+        two t a_ b_ = cc
+
+        not_held : (y : Shelf) (i : ℕ) → y ≡ Held i ForTree → y ≡ Loose → ⊥
+        not_held y i a_ b_ = cc
+    only_fixed bucket Data from known u =
+        let k = data_at bucket u in
+        let there = k.there in
+        absurd (k.no_metadata (inl (subst (λ q. w.flow.books.fixed q ≡ true) (let e : counted g bucket ≡ k.q = omega (arith, there) in e) known)))
+
+    -- what has no use by the books has none by a reader, but that of the uuid table, which is fixed
+    module _ (number : n ≡ shot.chain) (q : ℕ) (free : HasNoUse w.flow.books st.whole.flow.books shot q) where
+      area : (w.layout.journal ≤ q) × (q < w.layout.buckets)
+      area = ran.sound.laid.area q free.not_fixed
+
+      no_use : (a : Use) → a ≢ Uuid → IsUsedFor g r a (back g q) → ⊥
+      no_use Super ne u = omega (arith, u)
+      no_use Journal ne u =
+          let lt = u.1 in
+          let from = area.0 in
+          let j = ran.machine.layout.journal in
+          omega (arith, lt, from, j)
+      no_use Priority ne u =
+          let i = in_back g (st.whole.store.buckets n) (back g q) (subst (λ (l : List ℕ). In (back g q) l) said.chain (contains_in r.gens.chain (back g q) u)) in
+          let at_ = i.2 in
+          let same : i.0 ≡ q = omega (arith, at_) in
+          free.no_chain (sym (inv.link.chain.buckets q) ∙ subst (λ k. st.whole.store.chain_of k ≡ Some n) same (inv.store.named n low high i.0 i.1) ∙ ap (λ k. Some k) number)
+      no_use Uuid ne u = ne refl
+      no_use Node ne u =
+          let i = any_in (λ (y : tree.Node). PointsInto g y.key (back g q)) r.nodes u in
+          let first = first_ptr i.0.key i.2.0 i.2.1 in
+          let at_ : bucket_at g (ptr_at i.0.key 0).offset ≡ back g q = ap (λ (y : Ptr). bucket_at g y.offset) first.0 ∙ i.2.2 in
+          let same : bucket_of g i.0.key ≡ q = omega (arith, at_) in
+          elim (inv.link.nodes q (subst (λ k. st.whole.store.places.records.unused k ≡ false) same (bool_false (st.whole.store.places.records.unused (bucket_of g i.0.key)) (used i.0 i.1)))) [
+            | inl node ↦ two (st.whole.flow.books.node q) node free.no_node
+            | inr held ↦ free.no_new_node held.0 held.1
+          ]
+        where
+          two : (t : Bool) → t ≡ true → t ≡ false → ⊥
+          two t a_ b_ = cc
+      no_use Data ne u =
+          let k = data_at (back g q) u in
+          let there = k.there in
+          free.no_key k.sector k.pointer k.live_there (k.place_there ∙ (let e : k.q ≡ q = omega (arith, there) in e))
+
+      unneeded : IsUnneeded g w r (back g q)
+      unneeded = record {
+        inside = let b = ran.machine.layout.buckets in let lt = area.1 in omega (arith, b, lt);
+        low = omega arith;
+        not_fixed = let e : counted g (back g q) ≡ q = omega arith in ap w.flow.books.fixed e ∙ free.not_fixed;
+        unused = no_use;
+      }
+
+    spares : n ≡ shot.chain → book_law.MayLeave st.whole.flow.books shot → HasSpare g w r
+    spares number may =
+        let many = many_free shot may in
+        record {
+          fixed = only_fixed;
+          spare = listed g many.0 w.flow.books.sets;
+          different = listed_apart g many.0 w.flow.books.sets w.flow.books.sets (omega arith) many.1;
+          each = in_all (IsUnneeded g w r) (listed g many.0 w.flow.books.sets) (λ s i.
+              (let k = in_listed g many.0 w.flow.books.sets s i in
+              subst (λ y. IsUnneeded g w r y) (sym k.2) (unneeded number (many.0 k.0) (many.2 k.0 k.1))));
+          enough =
+              let a = ran.sound.laid.sets in
+              let b = ran.machine.layout.chain_sets in
+              let long = listed_long g many.0 w.flow.books.sets in
+              omega (arith, a, b, long);
+        }
+      where
+        many_free : (shot : Snapshot) → book_law.MayLeave st.whole.flow.books shot → Many w.flow.books.sets (HasNoUse w.flow.books st.whole.flow.books shot)
+        many_free shot_ may_ =
+            let has : HasBooks w.flow st.whole.flow = subst (λ (y : flow.State). HasBooks w.flow y) (sym inv.flow.is) (law_books w.flow inv.flow.list ran.sound.whole.pair inv.flow.run) in
+            subst (λ (k : Books). book_law.MayLeave k shot_ → Many w.flow.books.sets (HasNoUse w.flow.books k shot_)) (sym has.same)
+            (law_spare w.flow.books has.list ran.sound.whole.pair.books has.run shot_) may_
+
     metadata : HasApartUses g r
     metadata = apart_of g w.layout ran.machine.layout f.opening f.sound r (subst (λ (i : Image). IsReading g i r) (sym f.image_is) is)
 
@@ -259,6 +404,25 @@ module _ (g : Geometry) (w : Opening) (x : parts.State) (next_seq : ℕ) (es : L
         one bucket a b_ (inl m) (inr e) p q = absurd (no_data bucket a m p (subst (λ (y : Use). IsUsedFor g r y bucket) e q))
         one bucket a b_ (inr e) (inl k) p q = absurd (no_data bucket b_ k q (subst (λ (y : Use). IsUsedFor g r y bucket) e p))
         one bucket a b_ (inr e) (inr h) p q = e ∙ sym h
+
+  all_spare : HasSpare g w r
+  all_spare = go (survives w.layout w.store st.whole.store inv.store ran.sound.whole.store
+      (no_chance g w.layout ran.machine.layout w.store.image st.whole.store.places ran.no_torn) c
+      (subst (λ (d : Content). MayLeave d c) inv.link.device left))
+    where
+      go : Survives w.layout st.whole.store c → HasSpare g w r
+      go v = elim v.finds [
+        | inl f ↦ spares st.whole.store.places.records.newest st.whole.store.places.records.older st.whole.store.places.records.index st.whole.store.durable_chain f
+            (durable_snapshot st.whole.flow.books) (inl (inl refl)) inv.link.index.durable_keys inv.link.chain.durable_gens inv.store.order.0 inv.store.order.1
+            inv.link.chain.durable_is (inl refl)
+        | inr f ↦ spares st.whole.store.places.records.entry
+            (live st.whole.store.places.records.entry.last_seq (st.whole.store.places.records.newest ∷ st.whole.store.places.records.older))
+            (st.whole.store.places.records.entry.keys ++ st.whole.store.places.records.index) st.whole.store.sealed_chain f.1
+            (sealed_snapshot st.whole.flow.books) (inl (inr refl))
+            (λ s. ap (λ (l : List Key). last_ref l s) (sym (sealed_all st.whole.store.places.records.stage st.whole.store.places.records.entry.keys st.whole.store.places.records.index f.0)) ∙ inv.link.index.sealed_keys s)
+            inv.link.chain.sealed_gens (let a = inv.store.order.0 in let d = inv.store.order.1 in omega (arith, a, d)) (omega arith)
+            inv.link.chain.sealed_is (inr refl)
+      ]
 
   all_uses : HasUses g w r
   all_uses = go (survives w.layout w.store st.whole.store inv.store ran.sound.whole.store
@@ -279,3 +443,6 @@ module _ (g : Geometry) (w : Opening) (x : parts.State) (next_seq : ℕ) (es : L
 
 pub law_uses : LawUses
 law_uses g w x next_seq es ran c b left behind r is = all_uses g w x next_seq es ran c b left behind r is
+
+pub law_spare_left : LawSpare
+law_spare_left g w x next_seq es ran c b left behind r is = all_spare g w x next_seq es ran c b left behind r is
