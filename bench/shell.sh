@@ -2,6 +2,10 @@
 # Tries the built program at the shell with what it has to refuse, and compares what it prints, its status, and both files
 # before and after: none of these runs may change a byte. It prints `ok`, or a line for each case that differs, and then ends
 # with status 1.
+#
+# No contract says that a barrier of a real file reaches the medium. So where strace is installed the `fdatasync` calls of a few runs
+# are counted, on the file of each device, and how many of them stand behind its last write: a barrier is one such call, on the file
+# that it is for, behind what was written.
 set -euo pipefail
 cd "$(dirname "$0")/.."
 bcache=$(bench/program.sh)
@@ -162,6 +166,36 @@ new_files 80
 truncate -s 2G cache.img
 try_words 'no memory for a bucket of 16 MiB' 9 memory cache.img backing.img format "${ids[@]}" --block 1 --bucket 32768
 memory=unlimited
+
+# try_barriers NAME CACHE BACKING BEHIND WORD.. serves the lines of `trace` and wants so many `fdatasync` calls on each file, and so
+# many on the backing file behind its last write.
+try_barriers() {
+    local name=$1 wanted="$2 $3 $4" counted
+    shift 4
+    strace -f -y -e trace=fdatasync,fsync,pwrite64 -o calls "$bcache" "$@" < trace > printed || { echo "$name: it ended with $?"; differing=$((differing + 1)); }
+    counted=$(awk '/fdatasync\(.*\/cache.img>\) *= 0/ { cache++ } /fdatasync\(.*\/backing.img>\) *= 0/ { backing++; behind++ }
+        /pwrite64\(.*\/backing.img>/ { behind = 0 } END { print cache + 0, backing + 0, behind + 0 }' calls)
+    cases=$((cases + 1))
+    if [ "$counted" != "$wanted" ]; then
+        echo "$name: $counted barriers of the cache file, of the backing file and behind its last write, and not $wanted"
+        differing=$((differing + 1))
+    fi
+}
+
+# The opening makes one barrier of each device whose superblock it judges, the closing one, each `f` and each piece of a `W` one.
+if command -v strace > /dev/null && strace -o calls true 2> /dev/null; then
+    new_files 2064
+    : > trace
+    try_barriers 'an empty trace' 0 2 2 cache.img backing.img serve
+    printf '1 w 0 1 1\n1 r 0 1\n1 w 5 3 2\n' > trace
+    try_barriers 'writes' 0 2 1 cache.img backing.img serve
+    printf '1 f\n1 w 0 1 1\n1 f\n' > trace
+    try_barriers 'two flushes' 0 4 2 cache.img backing.img serve
+    printf '1 W 0 1 1\n1 W 255 258 2\n' > trace
+    try_barriers 'a forced write of one piece and one of three' 0 6 2 cache.img backing.img serve
+else
+    echo 'strace is not here, so no barrier was counted'
+fi
 
 [ "$differing" = 0 ] || { echo "$differing of $cases cases differ"; exit 1; }
 echo "ok: $cases cases"

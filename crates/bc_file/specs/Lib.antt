@@ -1,3 +1,4 @@
 pub mod Counts
 pub mod FileDisk
 pub mod Stream
+pub mod Size

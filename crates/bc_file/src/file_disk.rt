@@ -2,9 +2,10 @@
 ghost use Rattle.std.specs.Prelude.{◌≡◌, ◌≤◌, ◌^◌, IfOk};
 
 use crate::counts::Counts;
+use crate::size::size_of;
 use bc_disk::disk::{Disk, Failed};
 use std::fs::{File, OpenOptions};
-use std::io::{self, Seek, SeekFrom};
+use std::io;
 use std::os::unix::fs::FileExt;
 use std::rt::Files;
 
@@ -42,12 +43,13 @@ impl FileDisk {
         }
     }
 
-    /// A disk over the whole of such a file, whose size is found by a seek to its end. Fails where
-    /// that seek does, as on a pipe.
+    /// A disk over the whole of such a file: it has as many sectors as the file has whole ones now, but
+    /// no more than 2^41. Fails where the file's size can't be found, as that of a pipe. No contract
+    /// can say what a file has, so that the size is the file's is said of any stream, by `size_of`.
     pub fn from_file(mut file: File) -> io::Result<FileDisk>
         ensures { IfOk result (λ d. counts d ≡ none_made) }
     {
-        let bytes = file.seek(SeekFrom::End(0))?;
+        let bytes = size_of(&mut file)?;
         Ok(FileDisk::new(file, bytes))
     }
 

@@ -6,5 +6,6 @@ pub mod counts;
 pub mod file_disk;
 pub mod file_in;
 pub mod file_out;
+mod size;
 #[cfg(test)]
 mod tests;

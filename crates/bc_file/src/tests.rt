@@ -92,6 +92,7 @@ fn a_disk_fails(rt: HostRuntime) -> Result<(), Fail> {
     assert!(rt; FileDisk::open(&rt, PATH).is_err());
     fs::write(&rt, PATH, [7u8; 1024].as_slice())?;
     let mut disk = FileDisk::from_file(File::open(&rt, PATH)?)?;
+    assert_eq!(rt; disk.sectors(), 2);
     assert!(rt; !put(&rt, &mut disk, 0, 8));
     assert_eq!(rt; get(&rt, &mut disk, 0), Some(7));
     fs::write(&rt, PATH, [7u8; 1000].as_slice())?;
