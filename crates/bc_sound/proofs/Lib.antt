@@ -1,0 +1,4 @@
+pub mod Still
+pub mod Store
+pub mod Law
+pub mod Events

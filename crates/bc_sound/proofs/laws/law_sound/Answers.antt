@@ -1,0 +1,5 @@
+use Rattle.bc_sound.proofs.Law.{law_sound}
+use Rattle.bc_sound.proofs.laws.law_sound.Goals as goal
+
+pub returns : goal.returns
+returns c = law_sound
