@@ -1,5 +1,5 @@
 -- Keys of an opening of a sound pair lie in data, so the laws of runs hold of it.
-use Rattle.std.proofs.Common.{subst, ◌≡◌, ◌⊎◌, inl, inr, ℕ, zero, suc, Bool, true, false, List, [], ◌∷◌, ◌++◌, refl, sym, ap, ◌∙◌, arith}
+use Rattle.std.proofs.Common.{subst, ◌≡◌, inl, inr, ℕ, zero, suc, Bool, true, false, List, [], ◌∷◌, refl, sym, ap, ◌∙◌}
 use Rattle.std.specs.Prelude.{map, reverse}
 use Rattle.std.specs.List.{flat_map}
 use Rattle.bc_disk.specs.declared.geometry.Geometry.{Geometry}
@@ -22,11 +22,10 @@ use Rattle.bc_image.specs.Shown.{shown_by}
 use Rattle.bc_image.specs.Sound.{IsDataKey}
 use Rattle.bc_image.specs.Tree.{IsWalk, Node, data_keys, set_keys, tree_keys}
 use Rattle.bc_facts.specs.Layout.{IsLayoutOf}
-use Rattle.bc_facts.specs.Seen.{bucket_of, seen_entry, seen_sets, word_of}
+use Rattle.bc_facts.specs.Seen.{bucket_of, seen_entry, seen_sets}
 use Rattle.bc_facts.proofs.Stood.{all_in, in_behind, in_front}
 use Rattle.bc_remains.proofs.Keys.{entry_keys, leaf_keys}
 use Rattle.bc_whole.specs.State.{Opening}
-use Rattle.bc_known.specs.Acts.{Event}
 use Rattle.bc_known.specs.Run.{run, start}
 use Rattle.bc_origin.specs.Keys.{WasThere}
 use Rattle.bc_shows.specs.On.{IsRunOn}

@@ -1,9 +1,9 @@
 -- A small pair with a dirty key in its one entry, computed, and opened.
-use Rattle.std.proofs.Common.{◌≡◌, ◌≢◌, ◌⊎◌, ◌==◌, inl, inr, ℕ, zero, suc, ◌+◌, ◌-◌, ◌*◌, ◌^◌, ◌<◌, ◌≤◌, Bool, true, false, List, [], ◌∷◌, ◌++◌, length, get_or, replicate, Option, Some, None, refl, sym, subst, ap, ◌∙◌, if◌then◌else◌, lit<, lit≤, arith, nat_lt}
-use Rattle.std.specs.Prelude.{All, AllPairs, Any, Contains, slice_index_or, ◌/◌, ◌%◌}
+use Rattle.std.proofs.Common.{◌≡◌, ◌≢◌, ◌==◌, inl, inr, ℕ, zero, suc, ◌+◌, ◌-◌, ◌*◌, ◌^◌, ◌<◌, ◌≤◌, Bool, true, false, List, [], ◌∷◌, ◌++◌, get_or, replicate, Option, Some, refl, sym, subst, ap, ◌∙◌, if◌then◌else◌, lit<, lit≤, arith, nat_lt}
+use Rattle.std.specs.Prelude.{All, AllPairs, Contains, ◌%◌}
 use Rattle.std.proofs.lemmas.Bool.{cases_lt, lt-ltb, le-ltb}
 use Rattle.std.proofs.lemmas.Bool.Decides.{eqb_tells}
-use Rattle.std.proofs.lemmas.List.Elements.{All-cons, All-contains, All-nil}
+use Rattle.std.proofs.lemmas.List.Elements.{All-cons, All-nil}
 use Rattle.bc_bytes.specs.Checksum.{message, dividend, checksum}
 use Rattle.bc_bytes.specs.Division.{remainder}
 use Rattle.bc_bytes.specs.Fields.{number_at}
@@ -33,20 +33,15 @@ use Rattle.bc_prio.proofs.Found.{chain_stays}
 use Rattle.bc_super.specs.Cache.{IsCacheSuper}
 use Rattle.bc_super.specs.Super.{data_sectors}
 use Rattle.bc_uuid.specs.Table.{TableIn}
-use Rattle.bc_uuid.specs.declared.entry.UuidEntry.{UuidEntry}
 use Rattle.bc_uuid.proofs.Unique.{table_stays}
-use Rattle.bc_meta.specs.Layout.{Layout}
 use Rattle.bc_meta.specs.Facts.{In}
 use Rattle.bc_leaves.specs.Keys.{AnySpeaks}
 use Rattle.bc_leaves.specs.Parts.{Leaf, Pending, keys_of}
-use Rattle.bc_leaves.specs.Parts as parts
-use Rattle.bc_image.specs.Children.{children_of}
-use Rattle.bc_image.specs.Formatted.{IsKeyTo, leaf_bucket, root_bucket, table_bucket}
+use Rattle.bc_image.specs.Formatted.{IsKeyTo, leaf_bucket, root_bucket}
 use Rattle.bc_image.specs.NewPair.{new_cache, new_pair}
-use Rattle.bc_image.specs.Pair.{Pair, super_bytes}
+use Rattle.bc_image.specs.Pair.{Pair}
 use Rattle.bc_image.specs.Pointers.{PointsInto, PointsIntoData}
-use Rattle.bc_image.specs.Reading.{IsReading, IsView, Reading, View, key_of}
-use Rattle.bc_image.specs.Reading as reading_
+use Rattle.bc_image.specs.Reading.{IsView, Reading, View, key_of}
 use Rattle.bc_image.specs.Rests.{SameNode}
 use Rattle.bc_image.specs.Shown.{age_of}
 use Rattle.bc_image.specs.Sound.{HasOneUse, HasPointers, HasRanges, HasSoundParts, HasSpareBuckets, IsDataKey, IsNodeKey, IsWithinWindow, KeepsRange, LiesWithin, NamesBacking}
@@ -61,11 +56,7 @@ use Rattle.bc_image.proofs.Places.{lies_in_bucket}
 use Rattle.bc_image.proofs.Stays.{walk_stays}
 use Rattle.bc_image.proofs.Unique.{some_same}
 use Rattle.bc_image.proofs.Views.{one_set}
-use Rattle.bc_facts.specs.Seen.{seen_entry}
 use Rattle.bc_facts.proofs.Made.{law_layout}
-use Rattle.bc_whole.specs.State.{Opening}
-use Rattle.bc_opening.specs.Choices.{Choices, MayBeChosen}
-use Rattle.bc_opening.specs.Opening.{IsOpeningOf}
 use Rattle.bc_opening.specs.Read.{leaf_of}
 use Rattle.bc_opening.proofs.Chosen.{law_choices}
 use Rattle.bc_opening.proofs.Whole.{law_opening}
@@ -413,10 +404,19 @@ has_replay =
     let o = law_opening key_pair view w.0 c.0 is_view parts_ w.1 c.1 in
     let slot = c.1.leaves.all leaf_node leaf_in refl in
     let back = (c.1.pending slot.0 leaf_node [] slot.1 refl).same 16 (lit≤ tt) (lit< tt) in
-    let leaf = ap (λ (x : Leaf). x.pending) (o.2.parts.leaves slot.0) ∙ ap (λ (n : Option Node). (leaf_of g n (c.0.pending slot.0)).pending) slot.1 in
-    (key_pair, view, w.0, c.0, o.0, (o.1, record {
-      opened = record { view = is_view; parts = parts_; is_layout = w.1; opening = o.2; sound = o.3 };
-      index = o.2.books.index 16;
-      slot = slot.0;
-      pending = subst (λ (ps : List Pending). AnySpeaks (keys_of ps) 16) (sym leaf) (Some (record { dirty = true; dev = 0; place = 2048; generation = 0 }), back);
-    }))
+    let leaf = ap (λ (x : Leaf). x.pending) (o.2.parts.leaves slot.0) ∙ ap (λ (n : Option Node). (leaf_of g n (c.0.pending slot.0)).pending) slot.1 in (
+      key_pair,
+      view,
+      w.0,
+      c.0,
+      o.0,
+      (
+        o.1,
+        record {
+          opened = record { view = is_view; parts = parts_; is_layout = w.1; opening = o.2; sound = o.3 };
+          index = o.2.books.index 16;
+          slot = slot.0;
+          pending = subst (λ (ps : List Pending). AnySpeaks (keys_of ps) 16) (sym leaf) (Some (record { dirty = true; dev = 0; place = 2048; generation = 0 }), back);
+        },
+      ),
+    )
