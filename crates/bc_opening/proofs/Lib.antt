@@ -7,3 +7,4 @@ pub mod Whole
 pub mod One
 pub mod Chosen
 pub mod Example
+pub mod Cut

@@ -3,3 +3,4 @@ pub mod Choices
 pub mod Opening
 pub mod Alike
 pub mod Laws
+pub mod Cut

@@ -1,4 +1,5 @@
 //! What holds of openings of sound pairs: each law is the contract of a function.
+ghost use Rattle.bc_opening.specs.Cut.{LawCut};
 ghost use Rattle.bc_opening.specs.Laws.{HasExample, LawChoices, LawOne, LawOpening};
 
 /// Each sound pair with a cache is opened, whatever of that which is free is chosen; and what is
@@ -21,4 +22,10 @@ pub fn law_choices()
 /// The small pair that was made anew, byte by byte, is opened so.
 pub fn example()
     ensures { HasExample }
+{}
+
+/// What a leaf gets back may be all keys of the entries from the oldest one on that is needed, each
+/// cut to the leaf's range, with the number of its entry.
+pub fn law_cut()
+    ensures { LawCut }
 {}

@@ -11,7 +11,8 @@
 //! program may choose, and proved that there is one for each choice, that it is sound, and that
 //! what was read and chosen says all of it.
 //!
-//! Read `specs/` in this order: Read (what the machine sees of a reading), Choices, Opening, Laws.
+//! Read `specs/` in this order: Read (what the machine sees of a reading), Choices, Opening, Alike
+//! (what two of them have in common), Laws, Cut (which keys a leaf gets back).
 #![tactic(auto)]
 
 pub mod laws;
