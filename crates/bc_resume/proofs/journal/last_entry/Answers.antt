@@ -1,0 +1,5 @@
+use Rattle.bc_resume.proofs.Next.{last_is}
+use Rattle.bc_resume.proofs.journal.last_entry.Goals as goal
+
+pub returns : goal.returns
+returns c = last_is c.args.read.now.entries c.len-count.result c.entry.result.now c.len-count.ensures c.if-count-eq0.false c.entry.ensures
