@@ -53,6 +53,17 @@ use Rattle.bc_whole.proofs.Start.{off_list}
 use Rattle.bc_known.specs.Known.{AreLaid}
 use Rattle.bc_known.specs.Laws.{IsSound}
 use Rattle.bc_origin.specs.Keys.{WasThere}
+use Rattle.bc_super.specs.Division.{IsPassThrough}
+use Rattle.bc_image.specs.Pointers.{PointsInto}
+use Rattle.bc_image.specs.Reading.{IsView, View}
+use Rattle.bc_image.specs.Shown.{IsShown, cached, shown_by}
+use Rattle.bc_image.specs.Sound.{HasSoundParts}
+use Rattle.bc_image.specs.Tree.{node_of}
+use Rattle.bc_image.specs.Tree as image
+use Rattle.bc_image.proofs.Formatted.{only_bucket}
+use Rattle.bc_image.proofs.Fresh.{fresh_is_sound, fresh_is_view, fresh_shows, fresh_view}
+use Rattle.bc_image.proofs.Unique.{one_backing, one_shown, one_view}
+use Rattle.bc_opened.specs.Opening.{IsInnerOf, IsLeafOf, IsOpeningOf}
 use Rattle.bc_anew.specs.Laws.{IsOpenedOn}
 use Rattle.bc_anew.proofs.Classes.{Class, by_class, chain_has, class, class_area, class_chain, class_node, class_spare, class_table, fixed_has, from_on, is_chain, is_fixed, is_node, list_of, mark_of, node_has, not_chain, on_distinct, on_long, on_within, plain_has}
 
@@ -320,7 +331,7 @@ module _ (p : Pair) (b : BackingSuper) (c : CacheSuper) (g : Geometry) (w : Layo
 
   -- ---- the parts
 
-  abbrev the_leaf : Leaf
+  abbrev pub the_leaf : Leaf
   the_leaf = record { first = 0; end = 2 ^ 40; bucket = bucket_of g f.leaf; word = word_of f.leaf; role = Free; loaded = true; pending = [] }
 
   abbrev the_root : InnerNode
@@ -517,4 +528,50 @@ module _ (p : Pair) (b : BackingSuper) (c : CacheSuper) (g : Geometry) (w : Layo
     table = let j = layout.journal in let n = layout.chain_sets in
         let at : counted g (table_bucket g) ≡ w.journal + w.chain_sets = omega (arith, j, n) in
         ap (λ q. is_fixed (class_of q)) at ∙ ap is_fixed (class_table w.journal w.chain_sets w.buckets room);
+  }
+
+  -- ---- an opening of a sound pair
+
+  view_is : IsView p (fresh_view p b c g f)
+  view_is = fresh_is_view p b c g f supers.initialised.1
+
+  not_through : (d : BackingSuper) → d ≡ b → IsPassThrough d → ⊥
+  not_through d same alone =
+      let flags = ap (λ (s : BackingSuper). s.flags) same in
+      elim supers.state [ inl clean ↦ omega (arith, clean, alone.1, flags) | inr dirty ↦ omega (arith, dirty, alone.1, flags) ]
+
+  sound_parts : HasSoundParts p (fresh_view p b c g f)
+  sound_parts = elim (fresh_is_sound p b c g f supers) [
+    | inl alone ↦ absurd (not_through alone.0 (one_backing p alone.0 b alone.1 f.backing) alone.2)
+    | inr k ↦ subst (λ (v : View). HasSoundParts p v) (one_view p k.0 (fresh_view p b c g f) k.1 view_is) k.2
+  ]
+
+  shows_is : (s : ℕ) → p.backing (b.data_offset + s) ≡ shown_by p (fresh_view p b c g f) s
+  shows_is s =
+      one_shown p (λ t. p.backing (b.data_offset + t)) (λ t. shown_by p (fresh_view p b c g f) t) (fresh_shows p b c g f supers)
+      (cached (fresh_view p b c g f) view_is (not_through b refl) (λ t. refl)) s
+
+  abbrev Nodes : List image.Node
+  Nodes = node_of 1 0 f.entry.root (f.root_set ∷ []) ∷ node_of 0 0 f.leaf (f.leaf_set ∷ []) ∷ []
+
+  pub opening_of : IsOpeningOf p (fresh_view p b c g f) opening held
+  opening_of = record {
+    view = view_is;
+    parts = sound_parts;
+    machine = record { layout = layout; before = refl };
+    sound = sound;
+    cache = refl;
+    backing = λ s. refl;
+    shows = shows_is;
+    keys = λ key was. absurd (no_key key was);
+    leaves = only_0 (λ i x. x.role ≢ NoNode → (n : image.Node) × In n Nodes × IsLeafOf g opening n x) the_leaf no_leaf
+        (λ _. (node_of 0 0 f.leaf (f.leaf_set ∷ []), inr (inl refl), record { level = refl; first = refl; end = f.leaf_key.ends; bucket = refl; word = refl; sets = leaf_sets }))
+        (λ i ne. absurd (ne refl));
+    inner_nodes = only_0 (λ i x. x.role ≢ NoNode → (n : image.Node) × In n Nodes × IsInnerOf g opening n x) the_root no_inner
+        (λ _. (node_of 1 0 f.entry.root (f.root_set ∷ []), inl refl, record { level = refl; first = refl; end = f.first_entry.root.ends; bucket = refl; word = refl; sets = root_sets }))
+        (λ i ne. absurd (ne refl));
+    end = refl;
+    table = λ bucket points.
+        let same : bucket ≡ table_bucket g = only_bucket g (table_bucket g) g.bucket g.bucket f.entry.uuid_bucket f.first_entry.uuid_bucket bucket points in
+        subst (λ q. is_fixed (class_of (counted g q)) ≡ true) (sym same) opened_on.table;
   }

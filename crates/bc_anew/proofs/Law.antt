@@ -1,5 +1,5 @@
 -- Each pair that was made anew is opened, and one is there.
-use Rattle.std.proofs.Common.{◌≡◌, inl, inr, true, false, refl, sym, subst, lit≤}
+use Rattle.std.proofs.Common.{◌≡◌, inl, inr, true, false, List, [], ◌∷◌, refl, sym, subst, lit≤}
 use Rattle.bc_disk.specs.declared.geometry.Geometry.{Geometry}
 use Rattle.bc_jset.specs.Entries.{bucket_end}
 use Rattle.bc_jset.specs.Records.{entry_kind}
@@ -9,10 +9,13 @@ use Rattle.bc_image.specs.NewPair.{new_pair}
 use Rattle.bc_image.proofs.Examples.{geometry}
 use Rattle.bc_image.proofs.NewPair.{backing, cache, is_formatted, superblocks}
 use Rattle.bc_facts.proofs.Made as made
+use Rattle.bc_known.specs.Acts.{CacheBarrier, Event}
 use Rattle.bc_shows.specs.On.{IsRunOn}
 use Rattle.bc_shows.proofs.Law as shows
-use Rattle.bc_anew.specs.Laws.{HasExample, LawAnew, LawShown}
-use Rattle.bc_anew.proofs.Anew.{held, opened_on, opening}
+use Rattle.bc_image.proofs.Fresh.{fresh_view}
+use Rattle.bc_anew.specs.Laws.{HasExample, HasOpening, HasRun, LawAnew, LawOpening, LawShown}
+use Rattle.bc_anew.proofs.Anew.{held, opened_on, opening, opening_of}
+use Rattle.bc_anew.proofs.Run.{run_of, sealing}
 
 pub law_anew : LawAnew
 law_anew p b c g w f supers layout = (opening p b c g w layout f supers, held p b c g w layout f supers, refl, opened_on p b c g w layout f supers)
@@ -59,4 +62,39 @@ example =
           sets = λ image q left own known stand s whole. absurd (no_true own);
         };
       },
+    )
+
+pub law_opening : LawOpening
+law_opening p b c g w f supers layout =
+    (fresh_view p b c g f, opening p b c g w layout f supers, held p b c g w layout f supers, refl, opening_of p b c g w layout f supers)
+
+pub has_opening : HasOpening
+has_opening =
+    let w = made.law_layout g in (
+      fresh_view new_pair backing cache g is_formatted,
+      opening new_pair backing cache g w.0 w.1 is_formatted superblocks,
+      held new_pair backing cache g w.0 w.1 is_formatted superblocks,
+      opening_of new_pair backing cache g w.0 w.1 is_formatted superblocks,
+    )
+
+abbrev none : Event
+none = record { seat = 0; act = CacheBarrier }
+
+abbrev first : List Event → Event
+first [] = none
+first (e ∷ es) = e
+
+abbrev rest : List Event → List Event
+rest [] = []
+rest (e ∷ es) = es
+
+pub has_run : HasRun
+has_run =
+    let w = made.law_layout g in (
+      fresh_view new_pair backing cache g is_formatted,
+      opening new_pair backing cache g w.0 w.1 is_formatted superblocks,
+      held new_pair backing cache g w.0 w.1 is_formatted superblocks,
+      first (sealing new_pair backing cache g w.0 w.1 is_formatted superblocks),
+      rest (sealing new_pair backing cache g w.0 w.1 is_formatted superblocks),
+      run_of new_pair backing cache g w.0 w.1 is_formatted superblocks,
     )

@@ -1,3 +1,4 @@
 pub mod Classes
 pub mod Anew
+pub mod Run
 pub mod Law

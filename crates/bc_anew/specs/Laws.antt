@@ -1,5 +1,5 @@
 -- The machine opened on a pair that was made anew.
-use Rattle.std.specs.Prelude.{◌≡◌, ℕ, ◌+◌, true, List, [], None}
+use Rattle.std.specs.Prelude.{◌≡◌, ℕ, ◌+◌, true, List, [], ◌∷◌, None}
 use Rattle.bc_key.specs.declared.key.Key.{Key}
 use Rattle.bc_disk.specs.declared.geometry.Geometry.{Geometry}
 use Rattle.bc_super.specs.Super.{data_sectors}
@@ -26,6 +26,8 @@ use Rattle.bc_known.specs.Laws.{IsSound}
 use Rattle.bc_origin.specs.Keys.{WasThere, new_keys}
 use Rattle.bc_shows.specs.On.{IsMachineOf, IsRunOn}
 use Rattle.bc_shows.specs.Laws.{IsLeftAs}
+use Rattle.bc_opened.specs.Opening.{IsOpeningOf}
+use Rattle.bc_ranges.specs.Laws.{IsRunOf}
 
 -- A sound opening of a machine of the device, without keys. The backing device has its data from an
 -- offset on.
@@ -48,6 +50,13 @@ LawAnew =
     → IsFormatted p b c g → HasSuperblocks b c → IsLayoutOf g layout
     → (w : Opening) × (x : parts.State) × (w.layout ≡ layout) × IsOpenedOn p b g w x
 
+-- So it is an opening of a sound pair, whatever such a pair holds.
+abbrev pub LawOpening : Type 0
+LawOpening =
+    (p : Pair) (b : BackingSuper) (c : CacheSuper) (g : Geometry) (layout : Layout)
+    → IsFormatted p b c g → HasSuperblocks b c → IsLayoutOf g layout
+    → (v : View) × (w : Opening) × (x : parts.State) × (v.geometry ≡ g) × IsOpeningOf p v w x
+
 -- a run from there, all whose keys lie in data whole, and of which no torn record matched by chance
 pub record IsRunFrom (g : Geometry) (w : Opening) (x : parts.State) (next_seq : ℕ)
     (es : List Event) : Type 0 where
@@ -67,3 +76,12 @@ LawShown =
 abbrev pub HasExample : Type 0
 HasExample = (b : BackingSuper) × (g : Geometry) × (w : Opening) × (x : parts.State)
     × IsOpenedOn new_pair b g w x × ((next_seq : ℕ) → IsRunOn g w x next_seq [])
+
+-- it opens that pair as a sound one
+abbrev pub HasOpening : Type 0
+HasOpening = (v : View) × (w : Opening) × (x : parts.State) × IsOpeningOf new_pair v w x
+
+-- and a run goes on from there, in which something is done
+abbrev pub HasRun : Type 0
+HasRun = (v : View) × (w : Opening) × (x : parts.State) × (first : Event) × (rest : List Event)
+    × ((next_seq : ℕ) → IsRunOf new_pair v w x next_seq (first ∷ rest))

@@ -1,5 +1,5 @@
 //! What holds of pairs that were made anew: each law is the contract of a function.
-ghost use Rattle.bc_anew.specs.Laws.{HasExample, LawAnew, LawShown};
+ghost use Rattle.bc_anew.specs.Laws.{HasExample, HasOpening, HasRun, LawAnew, LawOpening, LawShown};
 
 /// Each pair that was made anew is opened: by a machine of its device, with both devices' data and
 /// no key, which shows what the backing device has.
@@ -19,4 +19,20 @@ pub fn law_shown()
 /// on a device.
 pub fn example()
     ensures { HasExample }
+{}
+
+/// Each pair that was made anew is opened as a sound pair is: with the view that it has.
+pub fn law_opening()
+    ensures { LawOpening }
+{}
+
+/// So there is an opening of a sound pair.
+pub fn opening_exists()
+    ensures { HasOpening }
+{}
+
+/// And there is a run from it that seals an entry, of which all holds that is asked of runs on a
+/// sound pair.
+pub fn run_exists()
+    ensures { HasRun }
 {}
