@@ -8,3 +8,4 @@ pub mod Frees
 pub mod Spelled
 pub mod Claims
 pub mod Walks
+mod Vectors

@@ -30,5 +30,6 @@ mod random;
 mod slot;
 #[cfg(test)]
 mod tests;
+pub mod vector;
 #[cfg(test)]
 mod walk_tests;
