@@ -8,3 +8,4 @@ pub mod One
 pub mod Chosen
 pub mod Example
 pub mod Cut
+pub mod Ring

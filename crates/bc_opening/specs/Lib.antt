@@ -4,3 +4,4 @@ pub mod Opening
 pub mod Alike
 pub mod Laws
 pub mod Cut
+pub mod Ring

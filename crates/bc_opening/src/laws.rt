@@ -1,6 +1,7 @@
 //! What holds of openings of sound pairs: each law is the contract of a function.
 ghost use Rattle.bc_opening.specs.Cut.{LawCut};
 ghost use Rattle.bc_opening.specs.Laws.{HasExample, LawChoices, LawOne, LawOpening};
+ghost use Rattle.bc_opening.specs.Ring.{LawRing};
 
 /// Each sound pair with a cache is opened, whatever of that which is free is chosen; and what is
 /// then held is a sound opening of the machine.
@@ -28,4 +29,9 @@ pub fn example()
 /// cut to the leaf's range, with the number of its entry.
 pub fn law_cut()
     ensures { LawCut }
+{}
+
+/// Of a journal bucket the machine knows entries that a reader finds there, and no other one.
+pub fn law_ring()
+    ensures { LawRing }
 {}

@@ -12,7 +12,8 @@
 //! what was read and chosen says all of it.
 //!
 //! Read `specs/` in this order: Read (what the machine sees of a reading), Choices, Opening, Alike
-//! (what two of them have in common), Laws, Cut (which keys a leaf gets back).
+//! (what two of them have in common), Laws, Cut (which keys a leaf gets back), Ring
+//! (what stands in the journal's buckets).
 #![tactic(auto)]
 
 pub mod laws;
