@@ -9,3 +9,4 @@ pub mod Chosen
 pub mod Example
 pub mod Cut
 pub mod Ring
+pub mod Opened

@@ -5,3 +5,4 @@ pub mod Alike
 pub mod Laws
 pub mod Cut
 pub mod Ring
+pub mod Nodes

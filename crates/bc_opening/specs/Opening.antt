@@ -13,14 +13,17 @@ use Rattle.bc_meta.specs.Tree.{Owner}
 use Rattle.bc_leaves.specs.Parts.{NoChange}
 use Rattle.bc_leaves.specs.Parts as parts
 use Rattle.bc_image.specs.Pair.{Pair}
-use Rattle.bc_image.specs.Reading.{Reading, View, key_of}
+use Rattle.bc_image.specs.Reading.{IsView, Reading, View, key_of}
 use Rattle.bc_image.specs.Shown.{shown_by}
+use Rattle.bc_image.specs.Sound.{HasSoundParts}
 use Rattle.bc_image.specs.Tree as tree
 use Rattle.bc_image.specs.Uses.{Priority, Node, IsUsedFor}
+use Rattle.bc_facts.specs.Layout.{IsLayoutOf}
 use Rattle.bc_facts.specs.Reads.{back}
 use Rattle.bc_facts.specs.Seen.{bucket_of, counted, word_of}
 use Rattle.bc_remains.specs.Opens.{Opens}
 use Rattle.bc_whole.specs.State.{Opening}
+use Rattle.bc_known.specs.Laws.{IsSound}
 use Rattle.bc_opening.specs.Read.{IsFixed, inner_of, is_leaf, leaf_of, pointer_by, version_at, versions}
 use Rattle.bc_opening.specs.Choices.{Choices}
 
@@ -82,3 +85,12 @@ pub record IsOpeningOf (p : Pair) (v : View) (layout : Layout) (c : Choices) (w 
   pub store : IsStoreOf p v.reading v.geometry layout c w.store
   pub parts : ArePartsOf v.geometry c x
   pub records : x.records ≡ (meta.opened layout w.store).places.records
+
+-- a sound pair with a cache, opened
+pub record IsOpenedAs (p : Pair) (v : View) (layout : Layout) (c : Choices) (w : Opening)
+    (x : parts.State) : Type 0 where
+  pub view : IsView p v
+  pub parts : HasSoundParts p v
+  pub is_layout : IsLayoutOf v.geometry layout
+  pub opening : IsOpeningOf p v layout c w x
+  pub sound : IsSound w x

@@ -1,6 +1,7 @@
 //! What holds of openings of sound pairs: each law is the contract of a function.
 ghost use Rattle.bc_opening.specs.Cut.{LawCut};
 ghost use Rattle.bc_opening.specs.Laws.{HasExample, LawChoices, LawOne, LawOpening};
+ghost use Rattle.bc_opening.specs.Nodes.{LawNodes};
 ghost use Rattle.bc_opening.specs.Ring.{LawRing};
 
 /// Each sound pair with a cache is opened, whatever of that which is free is chosen; and what is
@@ -34,4 +35,9 @@ pub fn law_cut()
 /// Of a journal bucket the machine knows entries that a reader finds there, and no other one.
 pub fn law_ring()
     ensures { LawRing }
+{}
+
+/// Each node that was read is one of the machine's, with the sets that were read.
+pub fn law_nodes()
+    ensures { LawNodes }
 {}

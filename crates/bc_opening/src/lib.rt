@@ -13,7 +13,7 @@
 //!
 //! Read `specs/` in this order: Read (what the machine sees of a reading), Choices, Opening, Alike
 //! (what two of them have in common), Laws, Cut (which keys a leaf gets back), Ring
-//! (what stands in the journal's buckets).
+//! (what stands in the journal's buckets), Nodes (what stands in the tree's).
 #![tactic(auto)]
 
 pub mod laws;

@@ -31,12 +31,15 @@ use Rattle.bc_origin.specs.Keys.{WasThere}
 use Rattle.bc_shows.specs.On.{IsRunOn}
 use Rattle.bc_shows.proofs.Law as shows
 use Rattle.bc_opening.specs.Choices.{Choices}
+use Rattle.bc_opening.specs.Opening.{IsOpenedAs}
 use Rattle.bc_opening.specs.Read.{is_leaf}
 use Rattle.bc_opening.proofs.Nodes.{Sits, in_turned}
 use Rattle.bc_opening.proofs.Nodes as nodes
+use Rattle.bc_opening.proofs.Opened as opened
+use Rattle.bc_opening.proofs.Opened.{lies}
 use Rattle.bc_opening.proofs.Uses as use_
 use Rattle.bc_opening.proofs.Uses.{map_in}
-use Rattle.bc_opening_runs.specs.Laws.{IsOpenedAs, LawOldKeys, LawShown}
+use Rattle.bc_opening_runs.specs.Laws.{LawOldKeys, LawShown}
 
 flat_in : {A : Type 0} (f : A → List Key) (xs : List A) (x : A) (key : Key) → In x xs → In key (f x) → In key (flat_map f xs)
 flat_in f [] x key i k = absurd i
@@ -57,20 +60,8 @@ module _ (p : Pair) (v : View) (layout : Layout) (c : Choices) (w : Opening) (x 
   abbrev r : Reading
   r = v.reading
 
-  pub lies : IsLayoutOf g w.layout
-  lies = subst (λ (l : Layout). IsLayoutOf v.geometry l) (sym o.opening.layout_is) o.is_layout
-
-  newest_is : w.store.newest ≡ seen_entry g r.newest.item
-  newest_is = sym o.opening.store.opens.means.newest_is
-
-  walk : IsWalk g w.store.image r.newest.item.level 0 r.newest.item.root r.nodes
-  walk = subst (λ (i : Image). IsWalk v.geometry i v.reading.newest.item.level 0 v.reading.newest.item.root v.reading.nodes) (sym o.opening.store.image) o.view.reading.nodes
-
-  sits : (n : Node) → In n r.nodes → Sits g w.layout lies w.store.owners w.store.image n
-  sits =
-      nodes.sits g w.layout lies w.store.owners w.store.image r.newest.item.level 0 r.newest.item.root r.nodes walk
-      (subst (λ (e : Entry). IsNamed w.store.owners (node_sets w.layout w.store.owners w.store.image) e.level e.root e.word) newest_is o.sound.whole.store.named)
-      (subst (λ (e : Entry). Walk Whole (node_sets w.layout w.store.owners w.store.image) e.level e.root) newest_is o.sound.whole.store.whole.sound.whole)
+  sits : (n : Node) → In n r.nodes → Sits g w.layout (lies p v layout c w x o) w.store.owners w.store.image n
+  sits = opened.sits p v layout c w x o
 
   points : (key : Key) → In key (keys_of r) → PointsIntoData g key
   points key i = (all_in (IsDataKey g (data_sectors p.backing_sectors v.backing)) (keys_of r) key o.parts.pointers.data_keys i).ptrs

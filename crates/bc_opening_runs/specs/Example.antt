@@ -9,7 +9,7 @@ use Rattle.bc_image.specs.Pair.{Pair}
 use Rattle.bc_image.specs.Reading.{View}
 use Rattle.bc_whole.specs.State.{Opening}
 use Rattle.bc_opening.specs.Choices.{Choices}
-use Rattle.bc_opening_runs.specs.Laws.{IsOpenedAs}
+use Rattle.bc_opening.specs.Opening.{IsOpenedAs}
 
 -- A pair, byte by byte, with one key, which an entry has and no leaf: the data of sector 16 is on
 -- the cache device alone. The machine knows where, in the version above the byte that the chain

@@ -8,28 +8,16 @@ use Rattle.bc_meta.specs.Layout.{Layout}
 use Rattle.bc_leaves.specs.Parts as parts
 use Rattle.bc_image.specs.Pair.{Pair}
 use Rattle.bc_image.specs.Pointers.{PointsIntoData}
-use Rattle.bc_image.specs.Reading.{View, IsView}
+use Rattle.bc_image.specs.Reading.{View}
 use Rattle.bc_image.specs.Shown.{shown_by}
-use Rattle.bc_image.specs.Sound.{HasSoundParts}
-use Rattle.bc_facts.specs.Layout.{IsLayoutOf}
 use Rattle.bc_facts.specs.Torn.{NoTornRecord}
 use Rattle.bc_whole.specs.State.{Opening}
 use Rattle.bc_known.specs.Acts.{Event}
-use Rattle.bc_known.specs.Laws.{IsSound}
 use Rattle.bc_known.specs.Run.{IsRun, run, start}
 use Rattle.bc_origin.specs.Keys.{WasThere, new_keys}
 use Rattle.bc_shows.specs.Laws.{IsLeftAs}
 use Rattle.bc_opening.specs.Choices.{Choices}
-use Rattle.bc_opening.specs.Opening.{IsOpeningOf}
-
--- a sound pair, opened
-pub record IsOpenedAs (p : Pair) (v : View) (layout : Layout) (c : Choices) (w : Opening)
-    (x : parts.State) : Type 0 where
-  pub view : IsView p v
-  pub parts : HasSoundParts p v
-  pub is_layout : IsLayoutOf v.geometry layout
-  pub opening : IsOpeningOf p v layout c w x
-  pub sound : IsSound w x
+use Rattle.bc_opening.specs.Opening.{IsOpenedAs}
 
 abbrev pub LawOldKeys : Type 0
 LawOldKeys =
