@@ -1,10 +1,10 @@
 -- Keys of entries, cut to a leaf's range, are what it may get back.
-use Rattle.std.proofs.Common.{subst, ◌≡◌, ◌⊎◌, inl, inr, ℕ, suc, ◌<◌, ◌≤◌, Bool, true, false, List, [], ◌∷◌, ◌++◌, Option, Some, None, refl, sym, ap, ◌∙◌, arith, if◌then◌else◌}
+use Rattle.std.proofs.Common.{subst, ◌≡◌, inl, inr, ℕ, suc, ◌<◌, ◌≤◌, Bool, true, false, List, [], ◌∷◌, ◌++◌, Some, refl, sym, ap, ◌∙◌, arith, if◌then◌else◌}
 use Rattle.bc_key.specs.declared.key.Key.{Key}
 use Rattle.bc_key.specs.Key.{pointer_of}
 use Rattle.bc_meta.specs.Entries.{CountDown, Entry, all_keys}
 use Rattle.bc_meta.specs.Facts.{In}
-use Rattle.bc_meta.specs.Keys.{Ref, covers, ref_by}
+use Rattle.bc_meta.specs.Keys.{covers, ref_by}
 use Rattle.bc_leaves.specs.Fits.{Ordered}
 use Rattle.bc_leaves.specs.Keys.{AnySpeaks, Speaks, last_said}
 use Rattle.bc_leaves.specs.Parts.{Pending, keys_of}

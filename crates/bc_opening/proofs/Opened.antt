@@ -1,5 +1,5 @@
 -- The nodes of an opened pair.
-use Rattle.std.proofs.Common.{subst, ◌≡◌, ℕ, Bool, true, false, List, refl, sym, ap, ◌∙◌}
+use Rattle.std.proofs.Common.{subst, ◌≡◌, Bool, false, List, refl, sym, ap, ◌∙◌}
 use Rattle.bc_model.specs.Sector.{Image}
 use Rattle.bc_disk.specs.declared.geometry.Geometry.{Geometry}
 use Rattle.bc_meta.specs.Entries.{Entry}

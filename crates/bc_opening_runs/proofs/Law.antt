@@ -7,7 +7,7 @@ use Rattle.bc_model.specs.History.{Allowed}
 use Rattle.bc_model.specs.Sector.{Image}
 use Rattle.bc_key.specs.declared.key.Key.{Key}
 use Rattle.bc_super.specs.Super.{data_sectors}
-use Rattle.bc_meta.specs.Entries.{Entry, all_keys}
+use Rattle.bc_meta.specs.Entries.{all_keys}
 use Rattle.bc_meta.specs.Facts.{In}
 use Rattle.bc_meta.specs.Layout.{Layout, node_sets}
 use Rattle.bc_meta.specs.Tree as tree
@@ -20,9 +20,8 @@ use Rattle.bc_image.specs.Pointers.{PointsIntoData}
 use Rattle.bc_image.specs.Reading.{Reading, View, keys_of}
 use Rattle.bc_image.specs.Shown.{shown_by}
 use Rattle.bc_image.specs.Sound.{IsDataKey}
-use Rattle.bc_image.specs.Tree.{IsWalk, Node, data_keys, set_keys, tree_keys}
-use Rattle.bc_facts.specs.Layout.{IsLayoutOf}
-use Rattle.bc_facts.specs.Seen.{bucket_of, seen_entry, seen_sets}
+use Rattle.bc_image.specs.Tree.{Node, data_keys, set_keys, tree_keys}
+use Rattle.bc_facts.specs.Seen.{bucket_of, seen_sets}
 use Rattle.bc_facts.proofs.Stood.{all_in, in_behind, in_front}
 use Rattle.bc_remains.proofs.Keys.{entry_keys, leaf_keys}
 use Rattle.bc_whole.specs.State.{Opening}
@@ -34,7 +33,6 @@ use Rattle.bc_opening.specs.Choices.{Choices}
 use Rattle.bc_opening.specs.Opening.{IsOpenedAs}
 use Rattle.bc_opening.specs.Read.{is_leaf}
 use Rattle.bc_opening.proofs.Nodes.{Sits, in_turned}
-use Rattle.bc_opening.proofs.Nodes as nodes
 use Rattle.bc_opening.proofs.Opened as opened
 use Rattle.bc_opening.proofs.Opened.{lies}
 use Rattle.bc_opening.proofs.Uses as use_
