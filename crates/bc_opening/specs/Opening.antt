@@ -24,7 +24,8 @@ use Rattle.bc_facts.specs.Seen.{bucket_of, counted, word_of}
 use Rattle.bc_remains.specs.Opens.{Opens}
 use Rattle.bc_whole.specs.State.{Opening}
 use Rattle.bc_known.specs.Laws.{IsSound}
-use Rattle.bc_opening.specs.Read.{IsFixed, inner_of, is_leaf, leaf_of, pointer_by, version_at, versions}
+use Rattle.bc_opening.specs.Read.{IsFixed, inner_of, is_leaf}
+use Rattle.bc_opening.specs.Read.{leaf_of, pointer_by, version_at, versions}
 use Rattle.bc_opening.specs.Choices.{Choices}
 
 -- the books of its buckets and last keys

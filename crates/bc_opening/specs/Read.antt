@@ -1,6 +1,7 @@
 -- What the machine sees of a reading: generations as versions, last keys as pointers, nodes as
 -- leaves and inner nodes. It counts buckets from the journal's first one on.
-use Rattle.std.specs.Prelude.{◌⊎◌, ℕ, zero, suc, ◌+◌, ◌-◌, ◌<◌, ◌≤◌, Bool, true, false, List, [], map, Option, Some, None}
+use Rattle.std.specs.Prelude.{◌⊎◌, ℕ, zero, suc, ◌+◌, ◌-◌, ◌<◌, ◌≤◌}
+use Rattle.std.specs.Prelude.{Bool, true, false, List, [], map, Option, Some, None}
 use Rattle.bc_disk.specs.Gens.{Gens}
 use Rattle.bc_disk.specs.declared.geometry.Geometry.{Geometry}
 use Rattle.bc_key.specs.declared.key.Key.{Key}

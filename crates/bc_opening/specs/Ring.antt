@@ -16,8 +16,8 @@ use Rattle.bc_known.specs.Laws.{IsSound}
 use Rattle.bc_opening.specs.Choices.{Choices}
 use Rattle.bc_opening.specs.Opening.{IsOpeningOf}
 
--- Each entry that the machine knows in a bucket is one that a reader finds there. So a bucket may be
--- begun once the greatest number that is found in it is no longer needed.
+-- Each entry that the machine knows in a bucket is one that a reader finds there. So a bucket may
+-- be begun once the greatest number that is found in it is no longer needed.
 abbrev pub LawRing : Type 0
 LawRing =
     (p : Pair) (v : View) (layout : Layout) (c : Choices) (w : Opening) (x : parts.State)
