@@ -1,2 +1,3 @@
 pub mod Those
 pub mod Told
+pub mod Marked
