@@ -15,3 +15,6 @@ mod share;
 
 pub use numbered::{Numbered, Pending};
 pub use pending::pending_of;
+
+#[cfg(test)]
+mod tests;
