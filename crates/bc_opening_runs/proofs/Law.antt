@@ -96,9 +96,13 @@ module _ (p : Pair) (v : View) (layout : Layout) (c : Choices) (w : Opening) (x 
       in_front key (tree_keys r.nodes) (flat_map (λ e. e.item.keys) r.entries)
       (flat_in (λ (n : Node). data_keys n.level n.sets) r.nodes k.0 key k.1 (subst (λ l. In key (data_keys l k.0.sets)) (sym zero_) there))
 
+  -- each key that was there was read
+  pub read_keys : (key : Key) → WasThere w key → In key (keys_of r)
+  read_keys key (inl i) = of_entries key i
+  read_keys key (inr k) = of_leaf k.0 key k.1 k.2 k.3
+
   pub old_keys : (key : Key) → WasThere w key → PointsIntoData g key
-  old_keys key (inl i) = points key (of_entries key i)
-  old_keys key (inr k) = points key (of_leaf k.0 key k.1 k.2 k.3)
+  old_keys key was = points key (read_keys key was)
 
 pub law_old_keys : LawOldKeys
 law_old_keys = old_keys
