@@ -1,5 +1,5 @@
 -- Runs of events are runs of the machine.
-use Rattle.std.proofs.Common.{◌≡◌, subst, sym}
+use Rattle.std.proofs.Common.{subst}
 use Rattle.bc_facts.specs.Torn.{NoTornRecord}
 use Rattle.bc_known.specs.Acts as known
 use Rattle.bc_events.specs.Run.{machine_events, start}

@@ -1,37 +1,31 @@
 -- All parts of soundness, of what a crash leaves.
-use Rattle.std.proofs.Common.{◌≡◌, ◌≢◌, ◌⊎◌, inl, inr, ℕ, ◌+◌, ◌*◌, ◌<◌, ◌≤◌, true, false, List, Some, refl, sym, ap, ◌∙◌, subst, arith}
-use Rattle.std.specs.Prelude.{All, slice_index_or}
+use Rattle.std.proofs.Common.{◌≡◌, ◌≢◌, ◌⊎◌, inl, inr, ℕ, ◌+◌, ◌*◌, ◌<◌, ◌≤◌, true, false, List, refl, sym, ap, ◌∙◌, subst, arith}
 use Rattle.std.proofs.Math.Nat.{mul-le-mul_left}
 use Rattle.bc_model.specs.Sector.{Image}
 use Rattle.bc_disk.specs.Device.{Content, MayLeave}
 use Rattle.bc_disk.specs.declared.geometry.Geometry.{Geometry}
-use Rattle.bc_record.specs.Sectors.{AgreeOn, bytes_in}
 use Rattle.bc_record.specs.Places.{bucket_at}
 use Rattle.bc_record.proofs.Parts.{bytes_in-agree}
 use Rattle.bc_key.specs.declared.key.Key.{Key}
 use Rattle.bc_key.specs.Key.{ptr_at}
-use Rattle.bc_uuid.specs.Table.{TableIn, HoldsEntries}
+use Rattle.bc_uuid.specs.Table.{HoldsEntries}
 use Rattle.bc_super.specs.Super.{IsBackingSuper, data_sectors}
 use Rattle.bc_super.specs.Cache.{IsCacheSuper}
-use Rattle.bc_super.specs.declared.backing.BackingSuper.{BackingSuper}
-use Rattle.bc_super.specs.declared.cache.CacheSuper.{CacheSuper}
 use Rattle.bc_leaves.specs.Parts as parts
 use Rattle.bc_meta.specs.Acts as meta
 use Rattle.bc_meta.specs.Layout.{Layout}
 use Rattle.bc_image.specs.Pair.{HasBacking, HasCache, Pair, super_bytes}
 use Rattle.bc_image.specs.Pointers.{PointsInto, PointsIntoData}
 use Rattle.bc_image.specs.Reading.{IsReading, IsView, Reading, View}
-use Rattle.bc_image.specs.Sound.{HasNoStrayEntry, HasOneUse, HasPointers, HasSoundParts, HasSpareBuckets, NamesBacking}
+use Rattle.bc_image.specs.Sound.{HasNoStrayEntry, HasPointers, HasSoundParts, HasSpareBuckets, NamesBacking}
 use Rattle.bc_image.specs.Uses.{Data, IsSpare, IsUsedFor, Journal, Node, Priority, Super, Use, Uuid}
 use Rattle.bc_facts.specs.Seen.{counted}
 use Rattle.bc_facts.specs.Torn.{NoTornRecord}
 use Rattle.bc_facts.proofs.Stood.{all_in, bucket_lies, in_all}
-use Rattle.bc_meta.specs.Laws.{reached}
 use Rattle.bc_remains.specs.Laws as remains
 use Rattle.bc_remains.proofs.Strays.{law_no_stray}
 use Rattle.bc_whole.specs.State.{Opening}
 use Rattle.bc_whole.specs.State as whole
-use Rattle.bc_whole.proofs.Kept.{Inv}
 use Rattle.bc_known.specs.Acts.{State, Event}
 use Rattle.bc_known.specs.Run.{run, start}
 use Rattle.bc_known.proofs.Law.{law_whole}

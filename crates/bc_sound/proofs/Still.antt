@@ -1,8 +1,8 @@
 -- Sectors that no act writes.
-use Rattle.std.proofs.Common.{◌≡◌, ◌≢◌, ◌⊎◌, inl, inr, ℕ, suc, ◌+◌, ◌<◌, ◌≤◌, Bool, true, false, List, [], ◌∷◌, ◌++◌, length, Option, Some, None, refl, sym, ap, ◌∙◌, subst, arith}
-use Rattle.bc_model.specs.Sector.{Image, Value, at_run}
+use Rattle.std.proofs.Common.{◌≡◌, ◌≢◌, ◌⊎◌, inl, inr, ℕ, ◌+◌, ◌<◌, ◌≤◌, true, false, List, [], ◌∷◌, length, Option, Some, None, refl, sym, ap, ◌∙◌, subst, arith}
+use Rattle.bc_model.specs.Sector.{Value, at_run}
 use Rattle.bc_model.proofs.Runs.{at_hit, at_miss}
-use Rattle.bc_disk.specs.Device.{Among, Content, MayLeave, besides, failed, instead, settled, written}
+use Rattle.bc_disk.specs.Device.{Among, Content, besides, failed, instead, settled, written}
 use Rattle.bc_key.specs.declared.key.Key.{Key}
 use Rattle.bc_books.specs.Shelves.{Fresh, Held, Loose, Own, Owner, Priorities, Purpose, Shelf, Tree}
 use Rattle.bc_books.specs.Books.{Books, Step}
@@ -17,8 +17,8 @@ use Rattle.bc_meta.specs.Layout.{entry_at, entry_len, set_at, set_len}
 use Rattle.bc_meta.specs.Places.{CanAppend}
 use Rattle.bc_meta.proofs.Blank.{first_long}
 use Rattle.bc_meta.proofs.Firm.{stands_high}
-use Rattle.bc_meta.proofs.Place.{mine_in, within_of}
-use Rattle.bc_leaves.specs.Parts.{NoNode, Role, Stays, inner_owner, leaf_owner}
+use Rattle.bc_meta.proofs.Place.{within_of}
+use Rattle.bc_leaves.specs.Parts.{inner_owner, leaf_owner}
 use Rattle.bc_leaves.specs.Parts as parts
 use Rattle.bc_leaves.proofs.Contents.{free_live, live_some, stays_live}
 use Rattle.bc_whole.specs.State.{Opening, Write, OfData, OfEntry, OfSet, OfParent, OfLeaf, OfInner, OfPriorities, Outside}

@@ -25,7 +25,8 @@ view_with v r = record { backing = v.backing; cache = v.cache; geometry = v.geom
 
 -- it has a view, with the superblocks that the pair had, and by that all parts of soundness
 abbrev pub IsSoundAgain : Pair → View → Type 0
-IsSoundAgain left v = (r : Reading) × IsView left (view_with v r) × HasSoundParts left (view_with v r)
+IsSoundAgain left v = (r : Reading) × IsView left (view_with v r)
+    × HasSoundParts left (view_with v r)
 
 -- at the end of every run, and so at every state of one
 abbrev pub LawSound : Type 0

@@ -1,3 +1,4 @@
 pub mod Still
 pub mod Laws
 pub mod Events
+pub mod Teeth

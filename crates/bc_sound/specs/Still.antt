@@ -4,7 +4,7 @@ use Rattle.bc_model.specs.Sector.{Image}
 use Rattle.bc_disk.specs.Device.{MayLeave}
 use Rattle.bc_leaves.specs.Parts as parts
 use Rattle.bc_whole.specs.State.{Opening}
-use Rattle.bc_known.specs.Acts.{State, Event}
+use Rattle.bc_known.specs.Acts.{Event}
 use Rattle.bc_known.specs.Run.{IsRun, run, start}
 use Rattle.bc_known.specs.Laws.{IsSound}
 use Rattle.bc_ranges.specs.Made.{Frame, AreWellMade}
