@@ -23,7 +23,7 @@ use Rattle.bc_super.specs.Super.{IsBackingVersion, IsDataOffset, IsMode, IsUsabl
 use Rattle.bc_super.specs.declared.backing.BackingSuper.{BackingSuper}
 use Rattle.bc_super.specs.declared.cache.CacheSuper.{CacheSuper}
 use Rattle.bc_super.specs.declared.error.SuperError.TheVariants as super
-use Rattle.bc_super.specs.declared.geometry.Layout.{Layout}
+use Rattle.bc_super.specs.declared.layout.Layout.{Layout}
 use Rattle.bc_super.proofs.Buckets.{quotient, wide}
 use Rattle.bc_pair.specs.Causes.{Adopts, AreKept, FaultRose, IsFormatRefused, IsWritingOf, good}
 use Rattle.bc_pair.specs.Found.{FindsAdopted, FindsNew, IsPair}

@@ -15,7 +15,7 @@ use Rattle.bc_super.specs.declared.backing.BackingSuper.{BackingSuper}
 use Rattle.bc_super.specs.declared.cache.CacheSuper.{CacheSuper}
 use Rattle.bc_super.specs.declared.error.SuperError.{SuperError}
 use Rattle.bc_super.specs.declared.error.SuperError.TheVariants as super
-use Rattle.bc_super.specs.declared.geometry.Layout.{Layout}
+use Rattle.bc_super.specs.declared.layout.Layout.{Layout}
 use Rattle.bc_pair.specs.declared.error.PairError.{PairError}
 use Rattle.bc_pair.specs.declared.error.PairError.TheVariants as errors
 use Rattle.bc_pair.specs.declared.pair.NewPair.{NewPair}

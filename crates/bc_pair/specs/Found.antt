@@ -6,7 +6,7 @@ use Rattle.bc_super.specs.Layout.{IsLaidOut}
 use Rattle.bc_super.specs.Reading.{OnlyReads, OnlyReadsCache, ReadsCache, ReadsSuper}
 use Rattle.bc_super.specs.declared.backing.BackingSuper.{BackingSuper}
 use Rattle.bc_super.specs.declared.cache.CacheSuper.{CacheSuper}
-use Rattle.bc_super.specs.declared.geometry.Layout.{Layout}
+use Rattle.bc_super.specs.declared.layout.Layout.{Layout}
 use Rattle.bc_model.specs.Sector.{Image}
 use Rattle.bc_super.specs.Division.{IsGeometryOf}
 use Rattle.bc_image.specs.Pair.{Pair}

@@ -10,7 +10,7 @@ use Rattle.bc_super.specs.Super.{state_number}
 use Rattle.bc_super.specs.Writing.{IsBackingStored, IsBackingTorn, IsCacheBytes, AreCounted}
 use Rattle.bc_super.specs.declared.backing.BackingSuper.{BackingSuper}
 use Rattle.bc_super.specs.declared.cache.CacheSuper.{CacheSuper}
-use Rattle.bc_super.specs.declared.geometry.Layout.{Layout}
+use Rattle.bc_super.specs.declared.layout.Layout.{Layout}
 use Rattle.bc_disk.specs.declared.geometry.Geometry.{Geometry}
 use Rattle.bc_prio.specs.Sizes.{sets_in_chain}
 use Rattle.bc_pair.specs.declared.records.Records.{Records}

@@ -5,7 +5,7 @@ use Rattle.bc_disk.specs.Disk.{DiskFacts, IfTold, BothTold}
 use Rattle.bc_disk.specs.declared.disk.Device.{Device}
 use Rattle.bc_super.specs.declared.error.SuperError.{SuperError}
 use Rattle.bc_super.specs.declared.error.SuperError.TheVariants as super
-use Rattle.bc_super.specs.declared.geometry.Layout.{Layout}
+use Rattle.bc_super.specs.declared.layout.Layout.{Layout}
 use Rattle.bc_pair.specs.declared.error.PairError.{PairError}
 use Rattle.bc_pair.specs.declared.error.PairError.TheVariants as errors
 use Rattle.bc_pair.specs.declared.pair.NewPair.{NewPair}

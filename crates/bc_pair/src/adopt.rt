@@ -17,8 +17,7 @@ use bc_super::backing::BackingSuper;
 use bc_super::cache::CacheSuper;
 use bc_super::division::geometry_of;
 use bc_super::error::SuperError;
-use bc_super::geometry::Layout;
-use bc_super::layout::layout;
+use bc_super::layout::{Layout, lay_out};
 use bc_super::state::BackingState;
 use std::alloc::Global;
 
@@ -43,10 +42,10 @@ fn version_in_use(version: u64) -> u64
 fn is_unused(c: &CacheSuper, b: &BackingSuper) -> bool
     ensures { IsTrue result ↔ IsUnused c.now b.now }
 {
-    c.flags & SET_UP == 0 && c.journal == 0 && b.state() == BackingState::None
+    !c.is_set_up() && c.journal == 0 && b.state() == BackingState::None
 }
 
-// How a cache device is divided that has such a superblock. That passed the tests of `layout` when it
+// How a cache device is divided that has such a superblock. That passed the tests of `lay_out` when it
 // was read.
 fn layout_of(c: &CacheSuper) -> Layout
     requires block { IsBlock c.now.block }
@@ -58,7 +57,7 @@ fn layout_of(c: &CacheSuper) -> Layout
     ensures nbuckets { result.geometry.nbuckets ≡ c.now.nbuckets }
 {
     let sectors = u64::from(c.bucket) * u64::from(c.nbuckets);
-    layout(sectors, c.block, c.bucket).unwrap()
+    lay_out(sectors, c.block, c.bucket).unwrap()
 }
 
 fn adopted_cache(c: &CacheSuper, l: &Layout) -> CacheSuper

@@ -18,12 +18,9 @@ use bc_super::backing::BackingSuper;
 use bc_super::cache::CacheSuper;
 use bc_super::division::geometry_of;
 use bc_super::error::SuperError;
-use bc_super::geometry::Layout;
-use bc_super::layout::layout;
+use bc_super::head::DATA_START;
+use bc_super::layout::{Layout, lay_out};
 use std::alloc::Global;
-
-/// The first sector at which the data of a backing device may begin. By version 1 it begins there.
-const DATA_START: u64 = 16;
 
 /// The version of a backing device whose data begins at `DATA_START`.
 const FIXED_VERSION: u64 = 1;
@@ -45,7 +42,7 @@ fn check(cache: u64, backing: u64, pair: &NewPair) -> Result<Layout, PairError>
     ensures fits { OnOk result ((pair.now.set_uuid ≢ replicate 16 0) × IsDataOffset backing pair.now.offset) }
     ensures refused { IfErr result (λ e. RefusesFormat pair.now e cache backing) }
 {
-    let l = match layout(cache, pair.block, pair.bucket) {
+    let l = match lay_out(cache, pair.block, pair.bucket) {
         Ok(l) => l,
         Err(why) => return refused(Device::Cache, why),
     };
@@ -103,7 +100,7 @@ fn new_backing(pair: &NewPair) -> BackingSuper
     }
 }
 
-/// Makes a pair of these two devices: the cache device is divided as `layout` says and has an empty
+/// Makes a pair of these two devices: the cache device is divided as `lay_out` says and has an empty
 /// index; the backing device keeps its data, which begins at the pair's `offset`, and says its mode
 /// and that it is clean. The records are written first: the journal with entry 1, the priority sets,
 /// the uuid table, the root and its leaf; then the superblock of the cache device, and last that of

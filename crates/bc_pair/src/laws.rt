@@ -9,7 +9,7 @@ ghost use Rattle.bc_super.specs.Layout.{IsLaidOut};
 ghost use Rattle.bc_super.specs.Super.{IsDataOffset, IsMode, IsState, IsUsable, mode_number, state_number};
 ghost use Rattle.bc_super.specs.declared.backing.BackingSuper.{BackingSuper};
 ghost use Rattle.bc_super.specs.declared.cache.CacheSuper.{CacheSuper};
-ghost use Rattle.bc_super.specs.declared.geometry.Layout.{Layout};
+ghost use Rattle.bc_super.specs.declared.layout.Layout.{Layout};
 ghost use Rattle.bc_mode.specs.declared.mode.Mode.{Mode};
 ghost use Rattle.bc_super.specs.declared.state.BackingState.TheVariants as states;
 ghost use Rattle.bc_disk.specs.declared.geometry.Geometry.{Geometry};

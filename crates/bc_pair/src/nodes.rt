@@ -11,7 +11,7 @@ use crate::records::Records;
 use bc_disk::disk::{Disk, Failed};
 use bc_disk::geometry::Geometry;
 use bc_set::{Set, write_set};
-use bc_super::geometry::Layout;
+use bc_super::layout::Layout;
 
 // Writes a node's first set into a buffer of its length, with zeros behind it, and then into its
 // bucket.

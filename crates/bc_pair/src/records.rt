@@ -16,7 +16,7 @@ use bc_key::{Key, Ptr};
 use bc_keys::Keys;
 use bc_set::Set;
 use bc_super::backing::BackingSuper;
-use bc_super::geometry::Layout;
+use bc_super::layout::Layout;
 use bc_uuid::Uuids;
 use std::alloc::{AllocError, Global};
 

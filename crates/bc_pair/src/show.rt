@@ -14,9 +14,6 @@ use bc_disk::disk::Disk;
 use bc_super::show::show;
 use std::alloc::Global;
 
-/// The most sectors that a backing device's data is taken to have.
-const MOST_SECTORS: u64 = 1 << 40;
-
 /// The four lines that tell what the superblocks of a pair say. A cache device that wasn't set up is
 /// shown too. The superblock of the backing device is read first, then that of the cache device, each
 /// by one call; nothing is written.
@@ -37,6 +34,6 @@ pub fn show_pair<C: Disk, B: Disk>(
     ensures faults { IfErr result (λ e. FaultRose e (C.facts cache.old) (C.facts cache.new) (B.facts backing.old) (B.facts backing.new)) }
 {
     let (c, b) = read_pair(cache, backing)?;
-    let size = (backing.sectors() - b.data_offset).min(MOST_SECTORS);
+    let size = b.data_sectors(backing.sectors());
     Ok(show(alloc, &c, &b, size)?)
 }

@@ -28,7 +28,7 @@ use bc_disk::geometry::Geometry;
 use bc_prio::write_chain;
 use bc_super::backing::{BackingSuper, write_backing};
 use bc_super::cache::{CacheSuper, write_cache};
-use bc_super::geometry::Layout;
+use bc_super::layout::Layout;
 use bc_uuid::write;
 
 // Writes the journal and the chain. The buffer has a bucket of zeros.

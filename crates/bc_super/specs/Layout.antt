@@ -4,7 +4,7 @@ use Rattle.bc_super.specs.Cache.{IsBlock, IsBucket, most_buckets}
 use Rattle.bc_super.specs.Super.{Unless}
 use Rattle.bc_super.specs.declared.error.SuperError.{SuperError}
 use Rattle.bc_super.specs.declared.error.SuperError.TheVariants as errors
-use Rattle.bc_super.specs.declared.geometry.Layout.{Layout}
+use Rattle.bc_super.specs.declared.layout.Layout.{Layout}
 
 -- as many buckets as there is room for, and as may be
 abbrev pub buckets_of : ℕ → ℕ → ℕ

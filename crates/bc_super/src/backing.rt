@@ -1,7 +1,8 @@
 //! The superblock of a backing device.
-ghost use Rattle.std.specs.Prelude.{◌≡◌, ◌↔◌, ◌<◌, ◌≤◌, length, IfOk, IfErr, OnOk, OnErr, IsErrOf};
+ghost use Rattle.std.specs.Prelude.{◌≡◌, ◌↔◌, ◌<◌, ◌≤◌, length, IfOk, IfErr, OnOk, OnErr, IsErrOf, IsTrue};
+ghost use Rattle.bc_super.specs.Division.{IsPassThrough};
 ghost use Rattle.bc_disk.specs.Disk.{IsKept, IsCounted};
-ghost use Rattle.bc_super.specs.Super.{IsMode, IsState, IsUsable, IsBackingSuper, IsRefused, backing_of, fields_in, mode_number, state_number};
+ghost use Rattle.bc_super.specs.Super.{IsMode, IsState, IsUsable, IsBackingSuper, IsRefused, backing_of, data_sectors, fields_in, mode_number, state_number};
 ghost use Rattle.bc_super.specs.Reading.{ReadsSuper, OnlyReads, IsCause, call_of};
 ghost use Rattle.bc_super.specs.Writing.{IsBackingSector, IsBackingStored, IsBackingTorn, AreCounted, fields_of};
 
@@ -37,6 +38,9 @@ pub struct BackingSuper {
     pub data_offset: u64,
 }
 
+/// The most sectors that a backing device's data is taken to have.
+const MOST_SECTORS: u64 = 1 << 40;
+
 /// The version of a backing device whose data begins at `DATA_START`.
 const FIXED_VERSION: u64 = 1;
 
@@ -59,6 +63,20 @@ impl BackingSuper {
         ensures { IsState (state_number self.now.flags) result }
     {
         BackingState::from_flags(self.flags)
+    }
+
+    /// Whether the device asks for no cache, so that it serves alone.
+    pub fn is_pass_through(&self) -> bool
+        ensures { IsTrue result ↔ IsPassThrough self.now }
+    {
+        self.mode() == Mode::None && self.state() == BackingState::None
+    }
+
+    /// How many sectors of a device with so many have data, of which the first 2^40 count.
+    pub fn data_sectors(&self, sectors: u64) -> u64
+        ensures { result ≡ data_sectors sectors self.now }
+    {
+        sectors.saturating_sub(self.data_offset).min(MOST_SECTORS)
     }
 }
 

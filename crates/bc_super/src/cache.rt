@@ -2,7 +2,7 @@
 ghost use Rattle.std.specs.Prelude.{◌≡◌, ◌↔◌, ◌+◌, ◌*◌, ◌^◌, ◌<◌, ◌≤◌, length, IsTrue, IfOk, IfErr, OnOk, OnErr, IsErrOf};
 ghost use Rattle.bc_disk.specs.Disk.{IsKept, IsCounted};
 ghost use Rattle.bc_super.specs.Super.{fields_in};
-ghost use Rattle.bc_super.specs.Cache.{IsUsableCache, IsCacheSuper, IsCacheRefused, FirstLayoutFault, IsFirstBucket, IsLayout, IsInitialised, HasJournal, cache_of};
+ghost use Rattle.bc_super.specs.Cache.{IsUsableCache, IsCacheSuper, IsCacheRefused, FirstLayoutFault, IsFirstBucket, IsLayout, IsInitialised, HasJournal, HasSync, cache_of};
 ghost use Rattle.bc_super.specs.Reading.{ReadsCache, OnlyReadsCache, IsCacheCause, call_of};
 ghost use Rattle.bc_super.specs.Writing.{IsCacheBytes, IsCacheStored, IsCacheTorn, AreCounted, cache_fields_of};
 
@@ -170,11 +170,20 @@ pub fn read_cache<D: Disk>(disk: &mut D) -> Result<CacheSuper, SuperError>
     decode(&bytes, sectors)
 }
 
-/// Whether the device was set up: bit 0 of its flags is set, and it has a journal.
+impl CacheSuper {
+    /// Whether the device says that it was set up: bit 0 of its flags.
+    pub fn is_set_up(&self) -> bool
+        ensures { IsTrue result ↔ HasSync self.now.flags }
+    {
+        self.flags & 1 == 1
+    }
+}
+
+/// Whether the device was set up: it says so, and has a journal.
 pub fn initialised(s: &CacheSuper) -> bool
     ensures { IsTrue result ↔ IsInitialised s.now }
 {
-    s.flags & 1 == 1 && s.journal > 0
+    s.is_set_up() && s.journal > 0
 }
 
 // The fields of a cache device as they are written.

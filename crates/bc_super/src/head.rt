@@ -10,7 +10,7 @@ use bc_bytes::{crc64, get_u16, get_u64, put_u64};
 pub(crate) const SUPER_SECTOR: u64 = 8;
 
 /// The sectors before this one are set aside on each device.
-pub(crate) const DATA_START: u64 = 16;
+pub const DATA_START: u64 = 16;
 
 /// The bytes of the five sectors that a superblock with the longest list needs.
 pub(crate) const SUPER_BYTES: usize = 2560;

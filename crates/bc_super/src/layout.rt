@@ -4,8 +4,26 @@ ghost use Rattle.bc_super.specs.Cache.{IsBlock, IsBucket, most_buckets};
 ghost use Rattle.bc_super.specs.Layout.{IsLaidOut, IsLayoutRefused, buckets_of, per_set};
 
 use crate::error::SuperError;
-use crate::geometry::Layout;
 use bc_disk::geometry::Geometry;
+
+/// Where a cache device that is being set up has what isn't data: behind the sectors set aside the
+/// journal, the priority sets, the uuid table, the root and one leaf, each from a bucket of its own
+/// on.
+#[derive(Clone, Copy, Debug, PartialEq, Eq, Drop)]
+pub struct Layout {
+    /// The sectors and buckets. Its `set_magic` is 0, since the set isn't known here.
+    pub geometry: Geometry,
+    /// How many priority sets it takes to hold all buckets; each has a bucket.
+    pub p: u32,
+    /// The bucket of the first priority set.
+    pub prio: u32,
+    /// The bucket of the uuid table.
+    pub uuid: u32,
+    /// The bucket of the root.
+    pub root: u32,
+    /// The bucket of the leaf.
+    pub leaf: u32,
+}
 
 /// The fewest buckets that a cache device may have.
 pub(crate) const FEWEST_BUCKETS: u64 = 128;
@@ -59,7 +77,7 @@ fn buckets_in_set(bucket: u16) -> u64
 /// memory.
 ///
 /// The error is the first of these that holds: `Block`; `Bucket`; `FewBuckets`.
-pub fn layout(sectors: u64, block: u16, bucket: u16) -> Result<Layout, SuperError>
+pub fn lay_out(sectors: u64, block: u16, bucket: u16) -> Result<Layout, SuperError>
     ensures sizes { IfOk result (λ l. (l.geometry.block ≡ block) × (l.geometry.bucket ≡ bucket)) }
     ensures ok { IfOk result (λ l. IsLaidOut sectors l) }
     ensures refused { IfErr result (λ e. IsLayoutRefused sectors block bucket e) }

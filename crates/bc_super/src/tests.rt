@@ -2,7 +2,7 @@
 use crate::backing::{BackingSuper, read_backing, write_backing};
 use crate::cache::{CacheSuper, initialised, read_cache, write_cache};
 use crate::error::SuperError;
-use crate::layout::layout;
+use crate::layout::lay_out;
 use crate::show::show;
 use crate::state::BackingState;
 use bc_bytes::{crc64, put_u16, put_u64};
@@ -364,15 +364,15 @@ fn layouts(rt: HostRuntime) -> Result<(), Fail> {
         (8_388_608, 1024, 64, 1, [65, 66, 67, 68]),
         (4_194_304, 64, 256, 7, [257, 264, 265, 266]),
     ] {
-        let l = layout(sectors, 1, bucket)?;
+        let l = lay_out(sectors, 1, bucket)?;
         assert_eq!(rt; u64::from(l.geometry.nbuckets) * u64::from(bucket), sectors);
         assert_eq!(rt; l.geometry.first_bucket, 1);
         assert_eq!(rt; (l.geometry.journal, l.p), (journal, p));
         assert_eq!(rt; [l.prio, l.uuid, l.root, l.leaf], others);
     }
-    assert_eq!(rt; layout(8191, 1, 64).err(), Some(SuperError::FewBuckets));
-    assert_eq!(rt; layout(8191, 1, 96).err(), Some(SuperError::Bucket));
-    assert_eq!(rt; layout(8191, 3, 96).err(), Some(SuperError::Block));
+    assert_eq!(rt; lay_out(8191, 1, 64).err(), Some(SuperError::FewBuckets));
+    assert_eq!(rt; lay_out(8191, 1, 96).err(), Some(SuperError::Bucket));
+    assert_eq!(rt; lay_out(8191, 3, 96).err(), Some(SuperError::Block));
     Ok(())
 }
 

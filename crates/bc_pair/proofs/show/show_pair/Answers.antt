@@ -9,5 +9,5 @@ returns-clause-shown g c =
     let b = c.in_ok-c.b in
     let backing = g.B.Disk.facts c.args.backing.now in
     let known : c.sectors.result ≡ backing.sectors = omega (arith, c.sectors.ensures, c.in_ok-c.ensures.kept.1.sectors) in
-    let size : c.min-size.result ≡ data_sectors backing.sectors b = rw known at c.min-size.ensures in
+    let size : c.data_sectors-size.result ≡ data_sectors backing.sectors b = rw known at c.data_sectors-size.ensures in
     (b, c.in_ok-c.ensures.backing, (c.in_ok-c.c, c.in_ok-c.ensures.cache, subst (λ (n : ℕ). IsShown c.in_ok-c.c b n (string_bytes c.in_ok-show.field-0)) size c.in_ok-show.ensures))

@@ -2,7 +2,7 @@ use Rattle.std.proofs.Common.{◌≡◌, ℕ, ◌+◌, ◌-◌, ◌*◌, ◌/◌
 use Rattle.std.proofs.Math.Nat.{div-eq_of_lt}
 use Rattle.bc_super.specs.Cache.{IsBlock, IsBucket}
 use Rattle.bc_super.proofs.Buckets.{wide, quotient, few_sets, is_block, is_bucket_of, narrow}
-use Rattle.bc_super.proofs.layout.layout.Goals as goal
+use Rattle.bc_super.proofs.layout.lay_out.Goals as goal
 
 pub returns-clause-ok : goal.returns-clause-ok
 returns-clause-ok c =
