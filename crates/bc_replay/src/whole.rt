@@ -2,7 +2,6 @@
 ghost use Rattle.std.specs.Prelude.{◌≡◌, ◌*◌, ◌≤◌, true, List, IfOk, IfErr, OnOk, MatchOption};
 ghost use Rattle.bc_disk.specs.Disk.{IsKept};
 ghost use Rattle.bc_key.specs.declared.key.Key.{Key};
-ghost use Rattle.bc_super.specs.Super.{data_sectors};
 ghost use Rattle.bc_replay.specs.Causes.{CountsFault, EndsAtSupers, IsReadOnce, OfHeld};
 ghost use Rattle.bc_replay.specs.Index.{IsIndexed};
 ghost use Rattle.bc_replay.specs.Judge.{IsKnown, IsJudged, IsJudgedCause, held_of};
@@ -21,19 +20,8 @@ use bc_disk::disk::Disk;
 use bc_disk::gens::Gens;
 use bc_key::Key;
 use bc_prio::sets_in_chain;
-use bc_super::backing::BackingSuper;
 use bc_walk::Visit;
 use std::alloc::Global;
-
-/// The most sectors of data that a backing device may have.
-const MOST_SECTORS: u64 = 1 << 40;
-
-/// How many sectors of data a backing device of so many sectors has.
-pub fn data_sectors(sectors: u64, b: &BackingSuper) -> u64
-    ensures { result ≡ data_sectors sectors b.now }
-{
-    sectors.saturating_sub(b.data_offset).min(MOST_SECTORS)
-}
 
 /// The word of the first pointer that may not be as it is.
 fn first_pointer(seen: &[Visit], index: &Index) -> Option<u64>
@@ -125,7 +113,7 @@ pub fn survey<C: Disk, B: Disk>(
     if count == 0 {
         return Err(OpenError::NoJournal);
     }
-    let size = data_sectors(backing.sectors(), &supers.backing);
+    let size = supers.backing.data_sectors(backing.sectors());
     let (seen, index) = read_index(alloc, cache, &supers.geometry, &journal, size)?;
     let uuid_bucket = journal.entry(count - 1).item.uuid_bucket;
     let uses = judge(alloc, &gens, &uuid_bucket, &seen, &index)?;
