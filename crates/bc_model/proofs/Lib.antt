@@ -1,5 +1,6 @@
 pub mod Cases
 pub mod Runs
+pub mod Apart
 pub mod Patterns
 pub mod Grown
 pub mod Floors

@@ -1,6 +1,7 @@
 //! Runs of neighbouring sectors of one kind.
-ghost use Rattle.std.specs.Prelude.{◌≡◌, ◌+◌, ◌<◌, ◌≤◌, ◌^◌, ◌++◌, length, slice_get, Some, true, false, All, OnOk, OnErr, IfOk, IfErr, IfSome, []};
-ghost use Rattle.bc_model.specs.Values.{values_in, all_values, IsRun, runs_of};
+ghost use Rattle.std.specs.Prelude.{◌≡◌, ◌+◌, ◌<◌, ◌≤◌, ◌^◌, ◌++◌, length, slice_get, Some, true, false, All, OnOk, OnErr, IfOk, IfErr, IfSome, IsSome, ◌↔◌, []};
+ghost use Rattle.bc_model.specs.declared.run.Run.{Run};
+ghost use Rattle.bc_model.specs.Values.{values_in, all_values, AreJoined, AreOne, IsRun, runs_of};
 ghost use Rattle.bc_model.specs.Pattern.{zeros};
 
 use crate::sector::{Sector, pattern, sector_at};
@@ -72,7 +73,11 @@ impl Run {
         requires this { IsRun self.now }
         requires that { IsRun next.now }
         requires room { length (values_in self.now) + length (values_in next.now) < 2 ^ 32 }
-        ensures { IfSome result (λ both. (values_in both ≡ values_in self.now ++ values_in next.now) × IsRun both) }
+        ensures both { IfSome result
+            (λ both. (values_in both ≡ values_in self.now ++ values_in next.now) × IsRun both) }
+        ensures one { IsSome result ↔ AreOne self.now next.now }
+        ensures begins { IfSome result
+            (λ both. (before : Run) → AreOne before both → AreOne before self.now) }
     {
         match (self, next) {
             (
@@ -105,7 +110,8 @@ impl Run {
     }
 }
 
-/// Runs one behind the other. A single one takes no memory of its own.
+/// Runs one behind the other. A single one takes no memory of its own, and a run that goes on in the
+/// next one is one with it.
 #[derive(Drop)]
 pub struct Runs {
     pub rest: Vec<Run>,
@@ -134,7 +140,8 @@ impl Runs {
 
     /// No runs.
     pub fn new(alloc: Global) -> Runs
-        ensures { runs_of result ≡ [] }
+        ensures none { runs_of result ≡ [] }
+        ensures joined { AreJoined result }
     {
         Runs {
             rest: Vec::new(alloc),
@@ -150,6 +157,7 @@ impl Runs {
         ensures ok { OnOk result (all_values (runs_of self.new) ≡ all_values (runs_of self.old) ++ values_in run) }
         ensures err { OnErr result (runs_of self.new ≡ runs_of self.old) }
         ensures runs { All IsRun (runs_of self.new) }
+        ensures joined { AreJoined self.old → AreJoined self.new }
     {
         let Some(last) = self.last.take() else {
             self.last = Some(run);
@@ -176,7 +184,8 @@ impl Runs {
     pub fn copy(&self) -> Result<Runs, AllocError>
         requires runs { All IsRun (runs_of self.now) }
         requires room { length (all_values (runs_of self.now)) < 2 ^ 32 }
-        ensures { IfOk result (λ copy. (all_values (runs_of copy) ≡ all_values (runs_of self.now)) × All IsRun (runs_of copy)) }
+        ensures { IfOk result (λ copy. (all_values (runs_of copy) ≡ all_values (runs_of self.now))
+            × All IsRun (runs_of copy) × AreJoined copy) }
     {
         let alloc = *self.rest.allocator();
         let mut copy = Runs::new(alloc);

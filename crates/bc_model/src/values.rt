@@ -1,7 +1,7 @@
 //! The values of neighbouring sectors, kept as runs.
 ghost use Rattle.std.specs.Prelude.{◌≡◌, ◌+◌, ◌<◌, ◌≤◌, ◌^◌, ◌++◌, ◌∷◌, [], List, ℕ, length, All, OnOk, OnErr, true, false, slice_get, take, drop, ◌*◌, ◌/◌, ◌↔◌, IfOk, IsTrue};
 ghost use Rattle.bc_model.specs.Sector.{sectors, values_of};
-ghost use Rattle.bc_model.specs.Values.{all_values, runs_of, values_in, IsRun, patterns};
+ghost use Rattle.bc_model.specs.Values.{all_values, runs_of, values_in, AreJoined, IsRun, patterns};
 
 use crate::kinds::Kind;
 use crate::run::{Run, Runs};
@@ -9,7 +9,8 @@ use crate::sector::{Sector, kind, sector_at};
 use std::alloc::{AllocError, Global};
 use std::marker::Model;
 
-/// The values of neighbouring sectors, below 2^32 of them. Patterns and zeros are kept as runs.
+/// The values of neighbouring sectors, below 2^32 of them. Patterns and zeros are kept as runs: those of
+/// one stamp that goes on at the next sector, and those of zeros.
 #[derive(Drop)]
 pub struct Values {
     runs: Runs,
@@ -18,13 +19,13 @@ pub struct Values {
 
 impl Model for Values {
     ghost use Rattle.std.specs.Prelude.{◌≡◌, ◌<◌, ◌^◌, List, ℕ, length, All};
-    ghost use Rattle.bc_model.specs.Values.{all_values, runs_of, IsRun};
+    ghost use Rattle.bc_model.specs.Values.{all_values, runs_of, AreJoined, IsRun};
 
     ghost Value = { List (List ℕ) };
 
     ghost view = { λ v. all_values (runs_of v.runs) };
 
-    ghost invariant = { λ v. (length (all_values (runs_of v.runs)) ≡ v.count) × (length (all_values (runs_of v.runs)) < 2 ^ 32) × All IsRun (runs_of v.runs) };
+    ghost invariant = { λ v. (length (all_values (runs_of v.runs)) ≡ v.count) × (length (all_values (runs_of v.runs)) < 2 ^ 32) × All IsRun (runs_of v.runs) × AreJoined v.runs };
 }
 
 // Puts a sector's value behind the first `place` sectors.
@@ -92,6 +93,7 @@ impl Values {
         ensures values { all_values (runs_of result.now) ≡ self.now }
         ensures runs { All IsRun (runs_of result.now) }
         ensures few { length self.now < 2 ^ 32 }
+        ensures joined { AreJoined result.now }
     {
         &self.runs
     }

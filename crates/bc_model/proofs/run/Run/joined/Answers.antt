@@ -12,8 +12,8 @@ overflow_add-result c =
     let m = ap (λ (r : Run). length (values_in r)) c.in-Pattern-Pattern.is-1 ∙ length_patterns c.in-Pattern-Pattern.other c.in-Pattern-Pattern.behind c.in-Pattern-Pattern.more in
     omega arith
 
-pub returns-then-behind-first : goal.returns-then-behind-first
-returns-then-behind-first c =
+pub returns-then-behind-first-clause-both : goal.returns-then-behind-first-clause-both
+returns-then-behind-first-clause-both c =
     let this = subst IsRun c.in-Pattern-Pattern.is-0 c.requires.this in
     let that = subst IsRun c.in-Pattern-Pattern.is-1 c.requires.that in
     let low = this.0 in
@@ -29,8 +29,8 @@ returns-then-behind-first c =
       (low, omega arith),
     )
 
-pub returns-in-Zero-Zero : goal.returns-in-Zero-Zero
-returns-in-Zero-Zero c = (
+pub returns-in-Zero-Zero-clause-both : goal.returns-in-Zero-Zero-clause-both
+returns-in-Zero-Zero-clause-both c = (
   sym (
       ap (λ (r : Run). values_in r ++ values_in c.args.next.now) c.in-Zero-Zero.is-0
       ∙ ap (λ (r : Run). replicate c.in-Zero-Zero.count zeros ++ values_in r) c.in-Zero-Zero.is-1

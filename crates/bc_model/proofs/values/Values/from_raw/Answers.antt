@@ -2,6 +2,7 @@ use Rattle.std.proofs.Common.{ℕ, List, ◌/◌, ◌∙◌, sym, ap, length, ar
 use Rattle.bc_model.specs.Sector.{Value}
 use Rattle.bc_model.specs.declared.run.Run.TheVariants.{Raw}
 use Rattle.bc_model.specs.Values.{IsRun}
+use Rattle.bc_model.proofs.Apart.{joined_alone}
 use Rattle.bc_model.proofs.Lists.{only_values, only_run}
 use Rattle.bc_model.proofs.Sectors.{length_raw}
 use Rattle.bc_model.proofs.values.Values.from_raw.Goals as goal
@@ -13,4 +14,5 @@ invariant_of-result c =
       values ∙ sym (ap (λ (bs : List ℕ). length bs / 512) c.as_slice.ensures.value),
       omega arith,
       only_run IsRun c.new.result.items (Raw c.args.bytes) c.new.ensures.items (c.requires.whole, few),
+      ((λ none. absurd (cc)), joined_alone c.new.result.items (Raw c.args.bytes) c.new.ensures.items),
     )
