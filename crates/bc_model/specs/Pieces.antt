@@ -1,4 +1,4 @@
--- How a request is cut: at each multiple of 256 sectors.
+-- How a request is cut: at each multiple of `piece_sectors`.
 use Rattle.std.specs.Prelude.{◌≡◌, ℕ, zero, suc, ◌+◌, ◌-◌, ◌*◌, ◌/◌, List, [], ◌∷◌, ◌++◌, length, map, take, drop, max, min}
 use Rattle.bc_model.specs.Sector.{Value}
 use Rattle.bc_model.specs.declared.history.Entry.{Entry}
@@ -9,9 +9,16 @@ pub record Piece : Type 0 where
   pub first : ℕ
   pub count : ℕ
 
--- what a range has of the sectors from 256 q up to 256 (q + 1)
+-- how many sectors a piece has at most: a multiple of so many begins the next one
+abbrev pub piece_sectors : ℕ
+piece_sectors = 256
+
+-- what a range has of the sectors of piece q
 abbrev pub piece_in : ℕ → ℕ → ℕ → Piece
-piece_in first count q = record { first = max first (256 * q); count = min (first + count) (256 * q + 256) - max first (256 * q) }
+piece_in first count q = record {
+  first = max first (piece_sectors * q);
+  count = min (first + count) (piece_sectors * q + piece_sectors) - max first (piece_sectors * q);
+}
 
 -- so many of these, from number q on
 abbrev pub pieces_from : ℕ → ℕ → ℕ → ℕ → List Piece
@@ -20,7 +27,8 @@ pieces_from first count q (suc n) = piece_in first count q ∷ pieces_from first
 
 -- the pieces of a range that isn't empty, in order
 abbrev pub pieces : ℕ → ℕ → List Piece
-pieces first count = pieces_from first count (first / 256) ((first + count + 255) / 256 - first / 256)
+pieces first count = pieces_from first count (first / piece_sectors)
+    ((first + count + (piece_sectors - 1)) / piece_sectors - first / piece_sectors)
 
 -- a range is served up to a piece that is refused: these pieces are served
 abbrev pub ServedUpTo : ℕ → ℕ → List Piece → Piece → Type 0
