@@ -10,3 +10,6 @@
 mod trace;
 
 pub use trace::{trace_rows, walk_rows};
+
+#[cfg(test)]
+mod tests;
