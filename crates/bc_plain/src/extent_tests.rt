@@ -1,13 +1,19 @@
-//! An extent map beside a plain list of keys, in which an erase is a key that stands for none.
-ghost use Rattle.std.specs.Prelude.{◌^◌, ◌<◌};
+//! An extent map beside its plain form in one vector, and beside a plain list of keys in which an
+//! erase is a key that stands for none.
+ghost use Rattle.std.specs.Prelude.{◌≡◌, ◌^◌, ◌<◌, ◌≤◌};
 
 use crate::extent::last_key;
+use crate::vector::PlainExtents;
 use bc_extent::Extents;
 use bc_key::{Key, Ptr, check_extent, cut_back, cut_front, decode};
+use std::alloc::Global;
 use std::test::Fail;
 
 /// How many sectors the random calls speak of.
 const SECTORS: u64 = 64;
+
+/// How many they speak of where there are many keys.
+const MANY_SECTORS: u64 = 8192;
 
 /// The kind of data checksum of a key that stands for none.
 const ERASED: u8 = 3;
@@ -79,67 +85,129 @@ fn shown(list: &[Key], sector: u64) -> Option<Key> {
     part_of(&whole, from, to)
 }
 
-/// Whether the map has the keys that the list shows, each once and in order, and no other.
-fn agrees(map: &Extents, list: &[Key]) -> bool {
-    let mut place = 0;
-    for sector in 0..SECTORS + 16 {
-        let found = shown(list, sector);
-        if map.lookup(sector) != found {
-            return false;
-        }
-        if let Some(key) = found
-            && key.start() == sector
-        {
-            if place >= map.len() || map.key(place) != key {
-                return false;
-            }
-            place += 1;
-        }
-    }
-    place == map.len()
+/// The map, its plain form, and the keys that came, the newest last.
+#[derive(Drop)]
+struct Maps {
+    map: Extents,
+    plain: PlainExtents,
+    list: Vec<Key>,
+    /// How many keys of one pointer at most gave way to keys of several.
+    widened: u32,
+    /// How many keys of several pointers gave way to keys of one at most.
+    narrowed: u32,
 }
 
-/// Makes a random change in both, and says whether a key that was there was replaced, and no other.
-fn change(
-    map: &mut Extents,
-    list: &mut Vec<Key>,
-    random: &mut Random,
-    number: u64,
-) -> Result<bool, Fail> {
-    map.reserve(2)?;
-    let first = random.below(SECTORS);
-    let size = random.below(12);
-    let newest = key(first, size, random.below(7), number).ok_or("no key")?;
-    check_extent(&newest)?;
-    match random.below(4) {
-        0 => {
-            map.erase(first, size as u32);
-            let mut none = Key::new(newest.end, newest.size, false, None);
-            none.csum = ERASED;
-            list.push(none)?;
-            Ok(true)
+impl Maps {
+    fn new(alloc: Global) -> Maps {
+        Maps {
+            map: Extents::new(alloc),
+            plain: PlainExtents::new(alloc),
+            list: Vec::new(alloc),
+            widened: 0,
+            narrowed: 0,
         }
-        1 => {
-            // A key without pointers has nothing of its number, and so may be there.
-            if newest.count > 0 && map.replace(&newest, &newest) {
-                return Ok(false);
+    }
+
+    /// Whether both forms of the map have the same keys.
+    fn are_same(&self) -> bool {
+        let keys = self.plain.keys();
+        if self.map.len() != keys.len() {
+            return false;
+        }
+        for i in 0..self.map.len() {
+            if self.map.key(i) != keys[i] {
+                return false;
             }
-            let Some(part) = map.lookup(first) else {
-                return Ok(true);
-            };
-            // Of any number of pointers, whatever the key in its place has.
-            let size = u64::from(part.size);
-            let mut other = key(part.start(), size, random.below(7), number).ok_or("no key")?;
-            other.end = part.end;
-            other.size = part.size;
-            other.dirty = !part.dirty;
-            list.push(other)?;
-            Ok(map.replace(&part, &other))
         }
-        _ => {
-            map.insert(&newest);
-            list.push(newest)?;
-            Ok(true)
+        true
+    }
+
+    /// Whether the map has the keys that the list shows, each once and in order, and no other.
+    fn agree(&self) -> bool {
+        let mut place = 0;
+        for sector in 0..SECTORS + 16 {
+            let found = shown(&self.list, sector);
+            if self.map.lookup(sector) != found {
+                return false;
+            }
+            if let Some(key) = found
+                && key.start() == sector
+            {
+                if place >= self.map.len() || self.map.key(place) != key {
+                    return false;
+                }
+                place += 1;
+            }
+        }
+        place == self.map.len()
+    }
+
+    /// Takes sectors out.
+    fn erase(&mut self, first: u64, size: u64) -> Result<(), Fail>
+        requires map { 1 ≤ self.old.map.spare }
+        requires plain { 1 ≤ self.old.plain.spare }
+        requires few { size < 12 }
+    {
+        self.map.erase(first, size as u32);
+        self.plain.erase(first, size as u32);
+        let mut none = Key::new(first.wrapping_add(size), size as u16, false, None);
+        none.csum = ERASED;
+        self.list.push(none)?;
+        Ok(())
+    }
+
+    /// Puts another key in the place of one, and says whether both forms found it.
+    fn replace(&mut self, old: &Key, new: &Key) -> Result<bool, Fail>
+        requires end { new.now.end ≡ old.now.end }
+        requires size { new.now.size ≡ old.now.size }
+    {
+        if old.count <= 1 && new.count > 1 {
+            self.widened = self.widened.saturating_add(1);
+        }
+        if old.count > 1 && new.count <= 1 {
+            self.narrowed = self.narrowed.saturating_add(1);
+        }
+        self.list.push(*new)?;
+        Ok(self.map.replace(old, new) && self.plain.replace(old, new))
+    }
+
+    /// Makes a random change, and says whether a key that was there was replaced, and no other.
+    fn change(&mut self, random: &mut Random, sectors: u64, number: u64) -> Result<bool, Fail>
+        requires { 0 < sectors }
+    {
+        self.map.reserve(2)?;
+        self.plain.reserve(2)?;
+        let first = random.below(sectors);
+        let size = random.below(12);
+        let newest = key(first, size, random.below(7), number).ok_or("no key")?;
+        check_extent(&newest)?;
+        match random.below(4) {
+            0 => {
+                self.erase(first, size)?;
+                Ok(true)
+            }
+            1 => {
+                // A key without pointers has nothing of its number, and so may be there.
+                if newest.count > 0 && self.map.replace(&newest, &newest) {
+                    return Ok(false);
+                }
+                let Some(part) = self.map.lookup(first) else {
+                    return Ok(true);
+                };
+                // Of any number of pointers, whatever the key in its place has.
+                let size = u64::from(part.size);
+                let mut other = key(part.start(), size, random.below(7), number).ok_or("no key")?;
+                other.end = part.end;
+                other.size = part.size;
+                other.dirty = !part.dirty;
+                self.replace(&part, &other)
+            }
+            _ => {
+                self.map.insert(&newest);
+                self.plain.insert(&newest);
+                self.list.push(newest)?;
+                Ok(true)
+            }
         }
     }
 }
@@ -148,17 +216,34 @@ fn change(
 fn ten_thousand_changes(rt: HostRuntime) -> Result<(), Fail> {
     let mut random = Random(7);
     for round in 0..25u64 {
-        let mut map = Extents::new(rt.alloc());
-        let mut list = Vec::new(rt.alloc());
+        let mut maps = Maps::new(rt.alloc());
         for step in 0..400u64 {
-            assert!(rt; change(&mut map, &mut list, &mut random, round * 400 + step)?);
+            assert!(rt; maps.change(&mut random, SECTORS, round * 400 + step)?);
+            assert!(rt; maps.are_same(), "{round} {step}");
             let sector = random.below(SECTORS);
-            assert_eq!(rt; map.lookup(sector), shown(&list, sector));
+            assert_eq!(rt; maps.map.lookup(sector), shown(&maps.list, sector));
             if step % 50 == 49 {
-                assert!(rt; agrees(&map, &list), "{round} {step}");
+                assert!(rt; maps.agree(), "{round} {step}");
             }
         }
+        assert!(rt; maps.widened > 0 && maps.narrowed > 0);
     }
+    Ok(())
+}
+
+#[test]
+fn ten_thousand_changes_of_many_keys(rt: HostRuntime) -> Result<(), Fail> {
+    let mut random = Random(11);
+    let mut maps = Maps::new(rt.alloc());
+    for step in 0..10_000u64 {
+        assert!(rt; maps.change(&mut random, MANY_SECTORS, step)?);
+        if step % 500 == 499 {
+            assert!(rt; maps.are_same(), "{step}");
+        }
+    }
+    // More than two of the map's rings, and many of both kinds of replaced keys.
+    assert!(rt; maps.map.len() > 1024);
+    assert!(rt; maps.widened > 100 && maps.narrowed > 100);
     Ok(())
 }
 
