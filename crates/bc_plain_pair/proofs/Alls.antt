@@ -1,8 +1,8 @@
 -- What is tested of each element of a list in turn.
-use Rattle.std.proofs.Common.{◌≡◌, ℕ, ◌+◌, ◌<◌, ◌≤◌, List, length, take, get_or, refl, sym, subst, ap, ◌∙◌, arith}
-use Rattle.std.specs.Prelude.{◌↔◌, true, false, All, Any, IsTrue}
+use Rattle.std.proofs.Common.{◌≡◌, ℕ, ◌+◌, ◌<◌, ◌≤◌, List, length, take, get_or, refl, sym, subst, ◌∙◌}
+use Rattle.std.specs.Prelude.{◌↔◌, true, false, All, Any, Contains, IsTrue}
 use Rattle.std.proofs.lemmas.List.{take_all}
-use Rattle.std.proofs.lemmas.List.Elements.{All-more, All-same}
+use Rattle.std.proofs.lemmas.List.Elements.{All-more, All-same, All-contains, Contains-get_or}
 use Rattle.std.proofs.lemmas.Bool.{true≢false}
 
 module _ {X : Type 0} (P : X → Type 0) (xs : List X) (i : ℕ) where
@@ -35,3 +35,15 @@ module _ {X : Type 0} (P : X → Type 0) (xs : List X) (i : ℕ) where
   any_none end none any =
       let all = All-same (λ y. P y → ⊥) xs (take i xs) (sym (take_all i xs end)) none in
       all any.0 any.1 any.2 (subst P (sym any.3) any.4)
+
+-- ---- whether it is an element
+
+module _ (xs : List ℕ) (i b : ℕ) where
+  pub is_found : (x : ℕ) → i < length xs → x ≡ get_or xs i x → x ≡ b → Contains xs b
+  is_found x low is same = subst (Contains xs) (sym is ∙ same) (Contains-get_or xs i x low)
+
+  pub not_yet : (x : ℕ) → i < length xs → x ≡ get_or xs i x → (x ≡ b → ⊥) → All (λ y. y ≡ b → ⊥) (take i xs) → All (λ y. y ≡ b → ⊥) (take (i + 1) xs)
+  not_yet x low is other none = any_more (λ y. y ≡ b) xs i x low is other none
+
+  pub not_found : length xs ≤ i → All (λ y. y ≡ b → ⊥) (take i xs) → Contains xs b → ⊥
+  not_found end none has = All-contains (λ y. y ≡ b → ⊥) xs b (All-same (λ y. y ≡ b → ⊥) xs (take i xs) (sym (take_all i xs end)) none) has refl

@@ -7,8 +7,8 @@ use Rattle.bc_disk.specs.Bytes.{image_of}
 use Rattle.bc_disk.specs.Disk.{DiskFacts, IfTold}
 use Rattle.bc_record.specs.Sectors.{Has}
 use Rattle.bc_record.proofs.Parts.{bytes_in-has}
-use Rattle.bc_super.specs.Cache.{IsCacheSuper, IsCacheRefused}
-use Rattle.bc_super.specs.Super.{IsBackingSuper, IsRefused}
+use Rattle.bc_super.specs.Cache.{IsCacheSuper}
+use Rattle.bc_super.specs.Super.{IsBackingSuper}
 use Rattle.bc_super.specs.Reading.{IsSuperBytes, ReadsCache, ReadsSuper, ReadsRefused, ReadsCacheRefused, IsCause, IsCacheCause}
 use Rattle.bc_super.specs.declared.backing.BackingSuper.{BackingSuper}
 use Rattle.bc_super.specs.declared.cache.CacheSuper.{CacheSuper}

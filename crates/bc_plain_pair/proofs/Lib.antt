@@ -8,3 +8,9 @@ pub mod Shows
 pub mod Sectors
 pub mod Blocks
 pub mod Tables
+pub mod UseCounts
+pub mod Spares
+pub mod Lives
+pub mod Aparts
+pub mod Rings
+pub mod Whole

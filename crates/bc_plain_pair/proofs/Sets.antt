@@ -1,5 +1,5 @@
 -- The sets of a node, and their keys.
-use Rattle.std.proofs.Common.{◌≡◌, ◌≢◌, ℕ, zero, suc, ◌+◌, ◌-◌, ◌*◌, ◌^◌, ◌<◌, ◌≤◌, List, [], ◌∷◌, ◌++◌, length, take, drop, get_or, Some, None, refl, sym, subst, ap, ◌∙◌, arith, append_assoc}
+use Rattle.std.proofs.Common.{◌≡◌, ◌≢◌, ℕ, zero, suc, ◌+◌, ◌-◌, ◌*◌, ◌<◌, ◌≤◌, List, [], ◌∷◌, ◌++◌, length, take, get_or, Some, None, refl, sym, subst, ap, ◌∙◌, append_assoc}
 use Rattle.std.specs.List.{flat_map}
 use Rattle.std.proofs.lemmas.Grind.{flat_map-append}
 use Rattle.std.proofs.lemmas.List.{append-nil, take_more}
@@ -10,15 +10,15 @@ use Rattle.bc_key.specs.declared.ptr.Ptr.{Ptr}
 use Rattle.bc_key.specs.Key.{pointer_of}
 use Rattle.bc_key.specs.Words.{ptr_word}
 use Rattle.bc_record.specs.Sectors.{bytes_to}
-use Rattle.bc_record.specs.Kind.{Kind, sectors_of, IsFound, NoneFound, AreFound}
+use Rattle.bc_record.specs.Kind.{Kind, sectors_of, IsFound, AreFound}
 use Rattle.bc_record.proofs.Found.{found_fits, takes_some, next_blocks}
 use Rattle.bc_record.proofs.Parts.{length-bytes_in}
 use Rattle.bc_set.specs.declared.set.Set.{Set}
 use Rattle.bc_set.specs.declared.set.SetKind.{SetKind}
 use Rattle.bc_set.specs.SetBytes.{bytes_of}
-use Rattle.bc_set.specs.Records.{set_kind, set_sectors, numbered_kind, AreNodeSets}
+use Rattle.bc_set.specs.Records.{set_kind, set_sectors, numbered_kind}
 use Rattle.bc_set.proofs.NodeSets.{numbered_codec}
-use Rattle.bc_image.specs.Tree.{Node, kind_at, set_keys, data_keys, tree_keys, AreSetsAt}
+use Rattle.bc_image.specs.Tree.{kind_at, set_keys, data_keys, AreSetsAt}
 
 -- a set that was found at a place, of which so many blocks are left up to the end
 pub record IsTaken (g : Geometry) (end place sectors : ℕ) : Type 0 where

@@ -6,11 +6,8 @@
 //! alone. So here stands the shortest program for each definition, and tests run both beside each
 //! other on the same bytes.
 //!
-//! Of the parts of soundness the superblocks, the table's first device, the ranges of nodes, the
-//! pointers, entries that don't count, how far pointers lie behind, and the data of both devices
-//! are so computed. The uses of buckets, how many are spare, and the journal's room are computed
-//! by code that no contract binds (`uses`, `ring::has_room_for_entry`), and so is what puts the
-//! parts together (`sound`, `first`, `search`).
+//! Each part of soundness, the journal's room and whether the pair is sound are so computed. Which
+//! part fails first is told by code that no contract binds (`first`, `search`).
 #![tactic(auto)]
 
 pub mod bytes;

@@ -1,12 +1,15 @@
 //! The ring of the journal: whole entries that don't count, and room for one more.
-ghost use Rattle.std.specs.Prelude.{◌≡◌, ◌*◌, ◌<◌, ◌≤◌, length, IfOk, MatchOption};
+ghost use Rattle.std.specs.Prelude.{◌≡◌, ◌++◌, ◌+◌, ◌*◌, ◌^◌, ◌<◌, ◌≤◌, ◌∷◌, [], List, length, IfOk, MatchOption};
 ghost use Rattle.std.specs.Bool.{MatchBool};
 ghost use Rattle.bc_disk.specs.Bytes.{image_of};
 ghost use Rattle.bc_image.specs.Reading.{Reading};
-ghost use Rattle.bc_image.specs.Sound.{HasNoStrayEntry};
-ghost use Rattle.bc_jset.specs.Entries.{AreEntries};
-ghost use Rattle.bc_jset.specs.Records.{entry_sectors};
+ghost use Rattle.bc_image.specs.Sound.{HasNoStrayEntry, HasRoomForEntry};
+ghost use Rattle.bc_jset.specs.Entries.{AreEntries, FoundEntry};
+ghost use Rattle.bc_jset.specs.Records.{entry_kind, entry_sectors};
+ghost use Rattle.bc_jset.specs.Ring.{HasRoom, bucket_after};
+ghost use Rattle.bc_record.specs.Places.{end_of};
 ghost use Rattle.bc_plain_pair.specs.Ring.{HasNoStray, HasStray, IsNoneAt, IsStrayAt, StandsAmong};
+ghost use Rattle.bc_plain_pair.specs.Rooms.{AreOld, IsBehind, later};
 
 use crate::shown::bucket_at;
 use bc_disk::geometry::Geometry;
@@ -108,29 +111,60 @@ pub fn first_stray(
 
 // How many sectors an entry takes.
 fn sectors_of(g: &Geometry, entry: &JEntry) -> u128
-    ensures { result ≡ entry_sectors g.now entry.now }
+    ensures is { result ≡ entry_sectors g.now entry.now }
+    ensures few { result ≤ 2 ^ 100 }
 {
     let block = u128::from(g.block);
     block * ((entry.bytes() as u128 + (512 * block - 1)) / (512 * block))
 }
 
-// The sector behind the last of the entries in a bucket.
-fn place_behind(g: &Geometry, entries: &[Placed<JEntry>], bucket: u64) -> Option<u128> {
+// The first sector behind an entry.
+fn end_of(g: &Geometry, entry: &Placed<JEntry>) -> u128
+    ensures { result ≡ end_of (entry_kind g.now) entry.now }
+{
+    u128::from(entry.place) + sectors_of(g, &entry.item)
+}
+
+// The later of an end and one that is there.
+fn later_of(next: Option<u128>, end: u128) -> u128
+    ensures { result ≡ later next end }
+{
+    match next {
+        Some(next) => next.max(end),
+        None => end,
+    }
+}
+
+// The first sector behind all of some entries in a bucket and one more, by that behind these.
+fn with_end(g: &Geometry, next: Option<u128>, entry: &Placed<JEntry>, bucket: u64) -> Option<u128>
+    ensures { (es : List FoundEntry) → IsBehind g.now es bucket next
+        → IsBehind g.now (es ++ entry.now ∷ []) bucket result }
+{
+    let here = bucket_at(g, entry.place);
+    if here == bucket {
+        return Some(later_of(next, end_of(g, entry)));
+    }
+    next
+}
+
+// The first sector behind all of the entries in a bucket; nothing where none is there.
+fn place_behind(g: &Geometry, entries: &[Placed<JEntry>], bucket: u64) -> Option<u128>
+    ensures { IsBehind g.now entries.now bucket result }
+{
     let mut next = None;
     for entry in entries {
-        if bucket_at(g, entry.place) == bucket {
-            let end = u128::from(entry.place).saturating_add(sectors_of(g, &entry.item));
-            next = next.max(Some(end));
-        }
+        next = with_end(g, next, entry, bucket);
     }
     next
 }
 
 // The journal bucket that is used after another one.
-fn bucket_after(g: &Geometry, bucket: u64) -> u64 {
-    let first = u64::from(g.first_bucket);
-    let next = bucket.saturating_add(1);
-    if next == first + u64::from(g.journal) {
+fn bucket_after(g: &Geometry, bucket: u64) -> u128
+    ensures { result ≡ bucket_after g.now bucket }
+{
+    let first = u128::from(g.first_bucket);
+    let next = u128::from(bucket) + 1;
+    if next == first + u128::from(g.journal) {
         first
     } else {
         next
@@ -138,13 +172,45 @@ fn bucket_after(g: &Geometry, bucket: u64) -> u64 {
 }
 
 // Whether none of the entries in a bucket has a number from `low` on.
-fn is_free(g: &Geometry, all: &[Placed<JEntry>], low: u64, bucket: u64) -> bool {
+fn is_free(g: &Geometry, all: &[Placed<JEntry>], low: u64, bucket: u128) -> bool
+    ensures { MatchBool result (AreOld g.now all.now low bucket)
+        (¬ (AreOld g.now all.now low bucket)) }
+{
     for entry in all {
-        if bucket_at(g, entry.place) == bucket && entry.item.seq >= low {
+        if u128::from(bucket_at(g, entry.place)) == bucket && entry.item.seq >= low {
             return false;
         }
     }
     true
+}
+
+// The last sector of a bucket at which a block begins.
+fn last_block(g: &Geometry, bucket: u64) -> u128
+    ensures { result + g.now.block ≡ g.now.bucket * (bucket + 1) }
+{
+    u128::from(g.bucket) * (u128::from(bucket) + 1) - u128::from(g.block)
+}
+
+// Whether one more entry without keys fits behind those that count, or into the next bucket of the
+// ring, where these are all that are found.
+fn has_room(
+    g: &Geometry,
+    all: &[Placed<JEntry>],
+    entries: &[Placed<JEntry>],
+    newest: &Placed<JEntry>,
+) -> bool
+    ensures { MatchBool result (HasRoom g.now all.now entries.now newest.now)
+        (¬ (HasRoom g.now all.now entries.now newest.now)) }
+{
+    let bucket = bucket_at(g, newest.place);
+    let Some(next) = place_behind(g, entries, bucket) else {
+        return false;
+    };
+    let last = last_block(g, bucket);
+    if next <= last {
+        return true;
+    }
+    is_free(g, all, newest.item.last_seq, bucket_after(g, bucket))
 }
 
 /// Whether there are numbers left behind the newest of the entries, and room for an entry without
@@ -157,14 +223,15 @@ pub fn has_room_for_entry(
     newest: &Placed<JEntry>,
 ) -> Result<bool, AllocError>
     requires { 512 * (g.now.bucket * g.now.nbuckets) ≤ length image.now }
+    ensures { IfOk result (λ so. (r : Reading) → r.entries ≡ entries.now
+        → r.newest ≡ newest.now → MatchBool so
+        (HasRoomForEntry g.now (image_of image.now) r)
+        (¬ (HasRoomForEntry g.now (image_of image.now) r))) }
 {
-    let all = all_entries(alloc, image, g)?;
-    let bucket = bucket_at(g, newest.place);
-    let Some(next) = place_behind(g, entries, bucket) else {
+    let seq = newest.item.seq;
+    if seq >= LAST_SEQ {
         return Ok(false);
-    };
-    let end = u128::from(g.bucket) * (u128::from(bucket) + 1);
-    let fits = next.saturating_add(u128::from(g.block)) <= end;
-    let low = newest.item.last_seq;
-    Ok(newest.item.seq < LAST_SEQ && (fits || is_free(g, &all, low, bucket_after(g, bucket))))
+    }
+    let all = all_entries(alloc, image, g)?;
+    Ok(has_room(g, &all, entries, newest))
 }

@@ -1,4 +1,4 @@
-use Rattle.std.proofs.Common.{ℕ, ◌+◌, ◌*◌, List, drop}
+use Rattle.std.proofs.Common.{◌+◌, ◌*◌, drop}
 use Rattle.bc_disk.specs.Bytes.{image_of}
 use Rattle.bc_image.specs.Tree.{IsWalk}
 use Rattle.bc_plain_pair.proofs.Walks.{ListsOn, NeedsOn}

@@ -1,4 +1,4 @@
-use Rattle.std.proofs.Common.{◌≡◌, ℕ, take}
+use Rattle.std.proofs.Common.{◌≡◌, take}
 use Rattle.std.specs.Prelude.{All}
 use Rattle.bc_key.specs.declared.key.Key.{Key}
 use Rattle.bc_plain_pair.proofs.ranges.one_ends.Given as goal

@@ -1,4 +1,4 @@
-use Rattle.std.proofs.Common.{List, [], ◌++◌, sym, subst, ap, ◌∙◌}
+use Rattle.std.proofs.Common.{List, ◌++◌, sym, subst, ap, ◌∙◌}
 use Rattle.bc_disk.specs.Bytes.{image_of}
 use Rattle.bc_image.specs.Tree.{Node, IsWalk}
 use Rattle.bc_plain_pair.proofs.Readings.{copy_is, no_chain, no_walk}

@@ -1,4 +1,4 @@
-use Rattle.std.proofs.Common.{◌≡◌, ◌<◌, ℕ, List, Some, length, get_or, ap, sym, ◌∙◌, arith}
+use Rattle.std.proofs.Common.{◌≡◌, ℕ, List, Some, get_or, ap, sym, ◌∙◌, arith}
 use Rattle.bc_disk.specs.Bytes.{image_of}
 use Rattle.bc_disk.specs.MemDisk.{as_disk}
 use Rattle.bc_key.specs.Key.{pointer_of}

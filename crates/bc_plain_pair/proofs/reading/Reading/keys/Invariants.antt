@@ -1,6 +1,5 @@
 use Rattle.std.proofs.Common.{◌≡◌, ◌++◌, take}
 use Rattle.std.specs.List.{flat_map}
-use Rattle.bc_image.specs.Tree.{tree_keys}
 use Rattle.bc_plain_pair.proofs.reading.Reading.keys.Given as goal
 
 abbrev pub invariant-loop-entry : goal.invariant-loop-entry

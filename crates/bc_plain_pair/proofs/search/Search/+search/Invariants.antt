@@ -1,4 +1,4 @@
-use Rattle.std.proofs.Common.{ℕ, ◌+◌, ◌*◌}
+use Rattle.std.proofs.Common.{◌+◌, ◌*◌}
 use Rattle.bc_plain_pair.proofs.search.Search.+search.Given as goal
 
 abbrev pub decreases-walk : goal.decreases-walk
