@@ -18,8 +18,8 @@ use std::{env, io};
 
 // What was said of so many pairs: how many there were of each kind, or the kinds of which there was
 // none.
-fn print_kinds<R: Print + AllocGlobal>(rt: &R, counts: &[u64; 17], each: bool) -> io::Result<()> {
-    for i in 0..17usize {
+fn print_kinds<R: Print + AllocGlobal>(rt: &R, counts: &[u64; 18], each: bool) -> io::Result<()> {
+    for i in 0..18usize {
         if each {
             println!(rt; "{} {}", counts[i], NAMES[i])?;
         } else if counts[i] == 0 {

@@ -9,14 +9,15 @@ use bc_super::error::SuperError;
 use std::alloc::Global;
 
 /// The names of what is said of a pair.
-pub const NAMES: [&str; 17] = [
+pub const NAMES: [&str; 18] = [
     "pass-through",
     "sound",
     "superblock backing",
     "superblock cache",
     "not set up",
     "other set",
-    "entries",
+    "no entry",
+    "journal gap",
     "journal end",
     "generations",
     "uuids",
@@ -31,7 +32,7 @@ pub const NAMES: [&str; 17] = [
 
 // The place of the name.
 fn place(said: Said) -> usize
-    ensures { result < 17 }
+    ensures { result < 18 }
 {
     match said {
         Said::PassThrough => 0,
@@ -40,17 +41,18 @@ fn place(said: Said) -> usize
         Said::Cache => 3,
         Said::NotSetUp => 4,
         Said::OtherSet => 5,
-        Said::Entries => 6,
-        Said::Room => 7,
-        Said::Generations => 8,
-        Said::Table => 9,
-        Said::Node { .. } => 10,
-        Said::Pointer => 11,
-        Said::TwoUses { .. } => 12,
-        Said::Spare { .. } => 13,
-        Said::Stray { .. } => 14,
-        Said::Age { .. } => 15,
-        Said::Agree { .. } => 16,
+        Said::NoEntry => 6,
+        Said::Gap => 7,
+        Said::Room => 8,
+        Said::Generations => 9,
+        Said::Table => 10,
+        Said::Node { .. } => 11,
+        Said::Pointer => 12,
+        Said::TwoUses { .. } => 13,
+        Said::Spare { .. } => 14,
+        Said::Stray { .. } => 15,
+        Said::Age { .. } => 16,
+        Said::Agree { .. } => 17,
     }
 }
 
@@ -71,7 +73,7 @@ pub struct Difference {
 /// something different.
 #[derive(Drop)]
 pub struct Tally {
-    pub counts: [u64; 17],
+    pub counts: [u64; 18],
     pub differing: Vec<Difference>,
 }
 
@@ -79,7 +81,7 @@ impl Tally {
     /// None was judged.
     pub fn new(alloc: Global) -> Tally {
         Tally {
-            counts: [0; 17],
+            counts: [0; 18],
             differing: Vec::new(alloc),
         }
     }
@@ -110,7 +112,8 @@ fn refusal(why: OpenError) -> Option<Said> {
             device: Device::Cache,
             ..
         } => Said::Cache,
-        OpenError::NoJournal | OpenError::JournalGap { .. } => Said::Entries,
+        OpenError::NoJournal => Said::NoEntry,
+        OpenError::JournalGap { .. } => Said::Gap,
         OpenError::JournalEnd { .. } => Said::Room,
         OpenError::Prio(_) => Said::Generations,
         OpenError::Uuid => Said::Table,

@@ -6,7 +6,7 @@
 //! was wrong.
 ghost use Rattle.std.specs.Prelude.{◌≡◌, ◌+◌, ◌*◌, ◌<◌, ◌≤◌, length};
 
-use crate::layouts::{BACKING, Layout};
+use crate::layouts::{BACKING, Layout, put_full};
 use crate::seal::{Kind, Record, seal, sealed};
 use bc_bytes::{get_u64, put_u64};
 
@@ -171,6 +171,32 @@ fn point(bytes: &mut [u8], what: &Record, random: &mut Random)
     seal(bytes, what);
 }
 
+// Lets a random key of the leaf's second set point into one of the buckets from the chain's on, of
+// which most have another use.
+fn share(bytes: &mut [u8], l: &Layout, random: &mut Random)
+    requires { length bytes.old ≡ 512 * (128 * l.now.bucket) }
+    ensures { length bytes.new ≡ length bytes.old }
+{
+    let leaf = l.sector(12);
+    let sector = leaf + l.block as usize;
+    let at = 512 * sector + 32 + 24 * random.below(4) + 16;
+    put_u64(bytes, at, (l.sector(9 + random.below(6)) as u64) << 8);
+    let what = Record {
+        sector,
+        kind: Kind::Set { node: leaf },
+    };
+    seal(bytes, &what);
+}
+
+// Gives each bucket that is spare the data of a sector, but for the last two, one, or none.
+fn use_up(bytes: &mut [u8], l: &Layout, random: &mut Random)
+    requires { length bytes.old ≡ 512 * (128 * l.now.bucket) }
+    ensures { length bytes.new ≡ length bytes.old }
+{
+    let end = 126 + random.below(3);
+    put_full(bytes, l, end);
+}
+
 // Changes a bit of the backing device's data.
 fn flip_data(bytes: &mut [u8], random: &mut Random)
     requires { length bytes.old ≡ 512 * 336 }
@@ -188,7 +214,9 @@ fn change(cache: &mut [u8], backing: &mut [u8], l: &Layout, random: &mut Random)
     ensures backing { length backing.new ≡ length backing.old }
 {
     let what = record(l, random.below(13));
-    match random.below(24) {
+    match random.below(26) {
+        24 => share(cache, l, random),
+        25 => use_up(cache, l, random),
         0 => stray(cache, l, random),
         1 => flip_backing(backing, random),
         2 => flip_data(backing, random),

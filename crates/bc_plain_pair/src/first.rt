@@ -23,7 +23,7 @@ use crate::uuids::names_first;
 use bc_disk::gens::Gens;
 use bc_disk::geometry::Geometry;
 use bc_jset::JEntry;
-use bc_plain::journal::entries_of;
+use bc_plain::journal::{all_entries, entries_of};
 use bc_prio::sets_in_chain;
 use bc_record::Placed;
 use bc_super::backing::BackingSuper;
@@ -47,8 +47,10 @@ pub enum Said {
     NotSetUp,
     /// The devices are of different sets.
     OtherSet,
-    /// The journal hasn't the entries that it needs.
-    Entries,
+    /// The journal has no whole entry.
+    NoEntry,
+    /// The journal lacks some that its newest entry needs.
+    Gap,
     /// The journal can't go on.
     Room,
     /// The chain of generations can't be read.
@@ -113,11 +115,11 @@ fn said_of(
 {
     let r = v.reading();
     let keys = r.keys(alloc)?;
-    let data = live_buckets(alloc, v, &keys, size)?;
-    if let Some(bucket) = first_twice(v, &data, again) {
+    let live = live_buckets(alloc, v, &keys, size)?;
+    if let Some(bucket) = first_twice(v, &live, again) {
         return Ok(Said::TwoUses { bucket });
     }
-    let found = count_spare(v, &data);
+    let found = count_spare(v, &live);
     if found < sets_in_chain(v.geometry()) {
         return Ok(Said::Spare { found });
     }
@@ -178,6 +180,17 @@ fn said_behind(
     said_of(alloc, &v, &again, size, cache, backing)
 }
 
+// What is said of a journal that hasn't the entries that it needs.
+fn said_lacking(alloc: Global, cache: &[u8], g: &Geometry) -> Result<Said, AllocError>
+    requires { 512 * (g.now.bucket * g.now.nbuckets) ≤ length cache.now }
+{
+    Ok(if all_entries(alloc, cache, g)?.is_empty() {
+        Said::NoEntry
+    } else {
+        Said::Gap
+    })
+}
+
 // What is said of a pair with these superblocks, which fit each other.
 fn said_cached(
     alloc: Global,
@@ -191,10 +204,10 @@ fn said_cached(
 {
     let g = geometry_of(&c);
     let Some(entries) = entries_of(alloc, cache, &g)? else {
-        return Ok(Said::Entries);
+        return said_lacking(alloc, cache, &g);
     };
     let Some(last) = entries.last() else {
-        return Ok(Said::Entries);
+        return said_lacking(alloc, cache, &g);
     };
     let newest = copy(alloc, last)?;
     if !has_room_for_entry(alloc, cache, &g, &entries, &newest)? {

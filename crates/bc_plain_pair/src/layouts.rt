@@ -7,7 +7,7 @@ ghost use Rattle.std.specs.Prelude.{◌≡◌, ◌+◌, ◌*◌, ◌<◌, ◌≤
 ghost use Rattle.bc_plain_pair.specs.PairBytes.{AreSectors};
 
 use crate::seal::{Kind, Record, seal};
-use bc_bytes::put_u32;
+use bc_bytes::{put_u32, put_u64};
 use bc_disk::mem_disk::MemDisk;
 use bc_keys::put_words;
 use bc_mode::Mode;
@@ -80,6 +80,9 @@ const CLEAN: u64 = (1 << 63) + (1 << 60) + (8 << 20);
 
 /// The same of a dirty key.
 const DIRTY: u64 = CLEAN + (1 << 36);
+
+/// The first word of a key of one sector with one pointer.
+const ONE: u64 = (1 << 63) + (1 << 60) + (1 << 20);
 
 impl Layout {
     /// The sectors of the cache device.
@@ -249,6 +252,57 @@ fn put_split(bytes: &mut [u8], l: &Layout)
     bytes[512 * behind..512 * behind + 512].copy_from_slice(&sector);
     let keys = [CLEAN, 308, word(data, 0), DIRTY, 316, word(data + 8, 0)];
     put_set(bytes, behind, behind, &keys);
+}
+
+// The bucket, unless a sound pair has a node or data in it; else one with data.
+fn unless_used(l: &Layout, bucket: usize) -> usize
+    requires { bucket < 128 }
+    ensures { result < 128 }
+{
+    if l.split && (bucket == 28 || bucket == 29) {
+        13
+    } else {
+        bucket
+    }
+}
+
+// Writes key `i` of the set at a sector: sector 100 + i is clean in a bucket.
+fn put_one(bytes: &mut [u8], set: usize, i: usize, sector: usize)
+    requires set { set < 16384 }
+    requires within { 512 * set + 24 * i + 56 ≤ length bytes.old }
+    requires few { i < 128 }
+    requires sector { sector ≤ 16384 }
+    ensures { length bytes.new ≡ length bytes.old }
+{
+    let at = 512 * set + 32 + 24 * i;
+    put_u64(bytes, at, ONE);
+    put_u64(bytes, at + 8, 101 + i as u64);
+    put_u64(bytes, at + 16, word(sector, 0));
+}
+
+/// Writes a third set into the leaf: each bucket from 16 up to an end has a clean sector of those
+/// from 100 on, but for those that were used already.
+pub fn put_full(bytes: &mut [u8], l: &Layout, end: usize)
+    requires bytes { length bytes.old ≡ 512 * (128 * l.now.bucket) }
+    requires from { 16 ≤ end }
+    requires to { end ≤ 128 }
+    ensures { length bytes.new ≡ length bytes.old }
+{
+    let leaf = l.sector(12);
+    let set = leaf + 2 * l.block as usize;
+    put_set(bytes, leaf, set, &[]);
+    for bucket in 16..end {
+        let sector = l.sector(unless_used(l, bucket)) + 32;
+        put_one(bytes, set, bucket - 16, sector);
+    }
+    put_u32(bytes, 512 * set + 28, 3 * (end - 16) as u32);
+    seal(
+        bytes,
+        &Record {
+            sector: set,
+            kind: Kind::Set { node: leaf },
+        },
+    );
 }
 
 // Fills eight sectors with sevens.
