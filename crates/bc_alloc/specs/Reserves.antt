@@ -1,7 +1,7 @@
 -- The four lists, and the buckets that were raised and aren't on one yet.
 use Rattle.std.specs.Prelude.{◌≡◌, ℕ, ◌+◌, ◌-◌, ◌≤◌, ◌/◌, List, [], ◌∷◌, length, fold, min, max, sum_by, drop, slice_index_or, slice_set, if◌then◌else◌}
 use Rattle.bc_disk.specs.declared.geometry.Geometry.{Geometry}
-use Rattle.bc_prio.specs.Sizes.{sets_in_chain}
+use Rattle.bc_disk.specs.Chain.{sets_in_chain}
 use Rattle.bc_alloc.specs.declared.purpose.Purpose.{Purpose}
 use Rattle.bc_alloc.specs.declared.purpose.Purpose.TheVariants as purposes
 use Rattle.bc_alloc.specs.Reserve.{Reserve, no_reserve, has_room, free, appended, prepended, times}

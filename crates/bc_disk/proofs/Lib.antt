@@ -1,3 +1,4 @@
+pub mod Amounts
 pub mod Amongs
 pub mod Cases
 pub mod Choices

@@ -1,4 +1,5 @@
 pub mod Bytes
+pub mod Chain
 pub mod Crash
 pub mod Device
 pub mod Disk

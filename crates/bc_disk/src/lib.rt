@@ -4,6 +4,7 @@
 
 pub(crate) mod bytes;
 pub(crate) mod calls;
+pub mod chain;
 pub mod crash;
 pub mod disk;
 pub mod gens;

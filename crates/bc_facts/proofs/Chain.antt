@@ -10,11 +10,11 @@ use Rattle.bc_disk.specs.declared.geometry.Geometry.{Geometry}
 use Rattle.bc_disk.specs.declared.gens.BucketRecord.{BucketRecord}
 use Rattle.bc_record.specs.Sectors.{bytes_in, bytes_to}
 use Rattle.bc_record.proofs.Parts.{length-bytes_in}
-use Rattle.bc_prio.specs.Sizes.{bucket_bytes, records_in_set, sets_in_chain}
+use Rattle.bc_disk.specs.Chain.{bucket_bytes, records_in_set, sets_in_chain}
 use Rattle.bc_prio.specs.Set.{IsSet, HoldsPart, IsRecord, next_in, records_in}
 use Rattle.bc_prio.specs.Chain.{IsPlace}
 use Rattle.bc_prio.specs.Records.{bucket_in, LeadIn, ChainIn}
-use Rattle.bc_prio.proofs.Amounts.{part_begins, parts_reach, some_sets}
+use Rattle.bc_disk.proofs.Amounts.{part_begins, parts_reach, some_sets}
 use Rattle.bc_meta.specs.Facts.{In}
 use Rattle.bc_meta.specs.Layout.{Layout, PrioSet}
 use Rattle.bc_meta.specs.Chain.{Distinct, Leads, chain_in, is_place, prio_at}

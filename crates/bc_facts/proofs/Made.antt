@@ -9,7 +9,7 @@ use Rattle.bc_jset.specs.Records.{entry_kind}
 use Rattle.bc_jset.proofs.Records.{entry_codec}
 use Rattle.bc_set.specs.Records.{set_kind}
 use Rattle.bc_set.proofs.Records.{set_codec, none_in_zeros}
-use Rattle.bc_prio.specs.Sizes.{sets_in_chain, bucket_bytes}
+use Rattle.bc_disk.specs.Chain.{sets_in_chain, bucket_bytes}
 use Rattle.bc_prio.specs.Records.{part_kind}
 use Rattle.bc_prio.proofs.RecordKind.{part_codec}
 use Rattle.bc_meta.specs.Facts.{Facts, FindsNoneInZeros}

@@ -13,7 +13,7 @@ use Rattle.bc_jset.specs.Entries as jset
 use Rattle.bc_jset.specs.Entries.{FoundEntry, StandsInJournal, bucket_start, bucket_end, first_with, AreNumbered}
 use Rattle.bc_jset.proofs.Records.{entry_codec}
 use Rattle.bc_jset.proofs.Entries.{found_number}
-use Rattle.bc_prio.specs.Sizes.{bucket_bytes}
+use Rattle.bc_disk.specs.Chain.{bucket_bytes}
 use Rattle.bc_prio.specs.Set.{IsSet, next_in}
 use Rattle.bc_prio.specs.Chain.{IsPlace}
 use Rattle.bc_prio.specs.Records.{bucket_in, LeadIn, ChainIn}

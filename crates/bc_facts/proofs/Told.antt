@@ -19,7 +19,7 @@ use Rattle.bc_facts.proofs.Opened.{opened_entries, opened_chain}
 use Rattle.bc_record.specs.Sectors.{bytes_to}
 use Rattle.bc_record.proofs.Parts.{length-bytes_in, zeros_in_front}
 use Rattle.bc_keys.proofs.WordsAt.{number_at-front}
-use Rattle.bc_prio.specs.Sizes.{bucket_bytes}
+use Rattle.bc_disk.specs.Chain.{bucket_bytes}
 use Rattle.bc_prio.specs.Set.{magic_of}
 use Rattle.bc_prio.specs.Records.{part_kind}
 use Rattle.std.proofs.Common.{List, length, take}

@@ -11,7 +11,7 @@ use Rattle.bc_jset.specs.Records.{entry_sectors}
 use Rattle.bc_set.specs.declared.set.Set.{Set}
 use Rattle.bc_set.specs.SetBytes as set
 use Rattle.bc_set.specs.Records.{set_sectors}
-use Rattle.bc_prio.specs.Sizes.{bucket_bytes}
+use Rattle.bc_disk.specs.Chain.{bucket_bytes}
 use Rattle.bc_prio.specs.Set as prio
 use Rattle.bc_meta.specs.Layout.{Layout, set_len}
 use Rattle.bc_meta.specs.Tree.{Owner}

@@ -5,7 +5,7 @@ use Rattle.bc_disk.specs.declared.geometry.Geometry.{Geometry}
 use Rattle.bc_jset.specs.Records.{entry_kind}
 use Rattle.bc_jset.specs.Entries.{bucket_start}
 use Rattle.bc_set.specs.Records.{set_kind}
-use Rattle.bc_prio.specs.Sizes.{sets_in_chain}
+use Rattle.bc_disk.specs.Chain.{sets_in_chain}
 use Rattle.bc_prio.specs.Records.{part_kind}
 use Rattle.bc_meta.specs.Facts.{Facts}
 use Rattle.bc_meta.specs.Tree.{Owner}

@@ -27,8 +27,8 @@ use Rattle.bc_set.specs.declared.set.Set.{Set}
 use Rattle.bc_set.specs.Records.{set_kind, set_sectors}
 use Rattle.bc_set.proofs.NodeSets.{alone}
 use Rattle.bc_set.proofs.Records as sets
-use Rattle.bc_prio.specs.Sizes.{sets_in_chain, records_in_set}
-use Rattle.bc_prio.proofs.Amounts.{records_fit, part_begins, some_sets}
+use Rattle.bc_disk.specs.Chain.{sets_in_chain, records_in_set}
+use Rattle.bc_disk.proofs.Amounts.{records_fit, part_begins, some_sets}
 use Rattle.bc_image.specs.Pointers.{LiesInData, PointsIntoData, PointsInto}
 use Rattle.bc_image.specs.Children.{is_bare}
 use Rattle.bc_image.specs.Tree.{kind_at, AreSetsAt}

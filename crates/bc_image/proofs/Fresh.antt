@@ -12,7 +12,7 @@ use Rattle.bc_jset.specs.Ring.{bucket_of}
 use Rattle.bc_jset.specs.Records.{entry_kind}
 use Rattle.bc_key.specs.declared.key.Key.{Key}
 use Rattle.bc_extent.specs.LastKey.{last_key}
-use Rattle.bc_prio.specs.Sizes.{sets_in_chain}
+use Rattle.bc_disk.specs.Chain.{sets_in_chain}
 use Rattle.bc_prio.specs.Records.{ChainIn}
 use Rattle.bc_super.specs.Division.{IsPassThrough}
 use Rattle.bc_super.specs.Super.{data_sectors}

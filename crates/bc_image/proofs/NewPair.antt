@@ -31,7 +31,7 @@ use Rattle.bc_set.specs.SetBytes.{IsSet, AreSetKeys}
 use Rattle.bc_set.proofs.SetLaws.{set_stays}
 use Rattle.bc_prio.specs.Set as prio
 use Rattle.bc_prio.specs.Set.{IsRecord, HoldsPart, next_in}
-use Rattle.bc_prio.specs.Sizes.{records_in_set, sets_in_chain}
+use Rattle.bc_disk.specs.Chain.{records_in_set, sets_in_chain}
 use Rattle.bc_prio.specs.Records.{bucket_in, SetFound as PartFound, ChainIn}
 use Rattle.bc_prio.specs.Example.{unused, example_records, example_set}
 use Rattle.bc_prio.proofs.Example.{example_is}

@@ -13,7 +13,7 @@ use Rattle.bc_jset.specs.Entries.{FoundEntry, bucket_start, bucket_end, StandIn}
 use Rattle.bc_jset.specs.Records.{entry_kind}
 use Rattle.bc_jset.specs.Ring.{bucket_of, bucket_after}
 use Rattle.bc_jset.proofs.Records as jset
-use Rattle.bc_prio.specs.Sizes.{sets_in_chain, records_in_set}
+use Rattle.bc_disk.specs.Chain.{sets_in_chain, records_in_set}
 use Rattle.bc_image.specs.Pair.{Pair}
 use Rattle.bc_image.specs.Reading.{View}
 use Rattle.bc_image.specs.Uses.{Use, IsUsedFor, IsSpare, LiesLive}

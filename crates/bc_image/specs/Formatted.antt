@@ -11,7 +11,7 @@ use Rattle.bc_key.specs.declared.key.Key.{Key}
 use Rattle.bc_key.specs.Key.{ptr_at}
 use Rattle.bc_key.specs.Words.{ptr_word}
 use Rattle.bc_prio.specs.Records.{ChainIn}
-use Rattle.bc_prio.specs.Sizes.{sets_in_chain}
+use Rattle.bc_disk.specs.Chain.{sets_in_chain}
 use Rattle.bc_set.specs.declared.set.Set.{Set}
 use Rattle.bc_set.specs.Records.{set_sectors, SetFound}
 use Rattle.bc_super.specs.Division.{IsGeometryOf}

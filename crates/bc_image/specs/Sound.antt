@@ -7,7 +7,7 @@ use Rattle.bc_jset.specs.Ring.{HasRoom}
 use Rattle.bc_key.specs.declared.key.Key.{Key}
 use Rattle.bc_key.specs.declared.ptr.Ptr.{Ptr}
 use Rattle.bc_key.specs.Key.{start_of, pointer_of, place_at}
-use Rattle.bc_prio.specs.Sizes.{sets_in_chain}
+use Rattle.bc_disk.specs.Chain.{sets_in_chain}
 use Rattle.bc_super.specs.Cache.{IsInitialised}
 use Rattle.bc_super.specs.Super.{IsState, state_number, data_sectors}
 use Rattle.bc_super.specs.Division.{IsPassThrough}

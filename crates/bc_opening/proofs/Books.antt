@@ -7,7 +7,7 @@ use Rattle.bc_disk.specs.declared.geometry.Geometry.{Geometry}
 use Rattle.bc_key.specs.Key.{ptr_at}
 use Rattle.bc_record.specs.Places.{bucket_at}
 use Rattle.bc_prio.specs.Chain.{IsPlace}
-use Rattle.bc_prio.specs.Sizes.{sets_in_chain}
+use Rattle.bc_disk.specs.Chain.{sets_in_chain}
 use Rattle.bc_books.specs.Index.{Pointer}
 use Rattle.bc_books.specs.Marks.{Metadata}
 use Rattle.bc_books.specs.Shelves.{Priorities}

@@ -9,7 +9,7 @@ use Rattle.bc_key.specs.Generation.{behind}
 use Rattle.bc_key.specs.Key.{place_at, pointer_of, ptr_at}
 use Rattle.bc_record.specs.Places.{bucket_at}
 use Rattle.bc_extent.proofs.LastKeys.{last_key_found}
-use Rattle.bc_prio.specs.Sizes.{sets_in_chain}
+use Rattle.bc_disk.specs.Chain.{sets_in_chain}
 use Rattle.bc_super.specs.Super.{data_sectors}
 use Rattle.bc_books.specs.Index.{is_dirty}
 use Rattle.bc_books.specs.Marks.{Dirtied, Mark, Metadata, Unmarked, any, dirty_in}

@@ -4,7 +4,7 @@ use Rattle.bc_disk.specs.declared.geometry.Geometry.{Geometry}
 use Rattle.bc_key.specs.declared.key.Key.{Key}
 use Rattle.bc_key.specs.declared.ptr.Ptr.{Ptr}
 use Rattle.bc_key.specs.Key.{pointer_of}
-use Rattle.bc_prio.specs.Sizes.{sets_in_chain}
+use Rattle.bc_disk.specs.Chain.{sets_in_chain}
 use Rattle.bc_books.specs.Marks.{Mark, Dirtied, Metadata}
 use Rattle.bc_books.specs.Shelves.{Purpose, Priorities}
 use Rattle.bc_meta.specs.Chain.{Distinct}

@@ -1,7 +1,7 @@
 -- An opening of the machine that is what was read of a pair, by what was chosen.
 use Rattle.std.specs.Prelude.{◌≡◌, ◌↔◌, ℕ, ◌+◌, ◌^◌, true, false, []}
 use Rattle.bc_disk.specs.declared.geometry.Geometry.{Geometry}
-use Rattle.bc_prio.specs.Sizes.{sets_in_chain}
+use Rattle.bc_disk.specs.Chain.{sets_in_chain}
 use Rattle.bc_record.specs.Places.{bucket_at}
 use Rattle.bc_super.specs.Super.{data_sectors}
 use Rattle.bc_books.specs.Books.{Setup}

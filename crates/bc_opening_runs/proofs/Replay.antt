@@ -28,7 +28,7 @@ use Rattle.bc_jset.specs.Entries.{AreEntries, FoundEntry, StandIn, StandsInJourn
 use Rattle.bc_jset.specs.Records.{EntryFound, entry_kind, entry_sectors}
 use Rattle.bc_jset.proofs.ExampleEntries.{found_in_sector}
 use Rattle.bc_jset.proofs.Records.{entry_codec, none_in_zeros}
-use Rattle.bc_prio.specs.Sizes.{sets_in_chain}
+use Rattle.bc_disk.specs.Chain.{sets_in_chain}
 use Rattle.bc_prio.proofs.Found.{chain_stays}
 use Rattle.bc_super.specs.Cache.{IsCacheSuper}
 use Rattle.bc_super.specs.Super.{data_sectors}

@@ -24,7 +24,7 @@ use Rattle.bc_prio.specs.Chain.{IsPlace}
 use Rattle.bc_prio.specs.Records.{ChainIn, LeadIn}
 use Rattle.bc_prio.specs.Records as prio
 use Rattle.bc_prio.specs.Set.{HasCount, next_in}
-use Rattle.bc_prio.specs.Sizes.{sets_in_chain}
+use Rattle.bc_disk.specs.Chain.{sets_in_chain}
 use Rattle.bc_prio.proofs.Found.{set_reads_back}
 use Rattle.bc_record.specs.Sectors.{Has, bytes_in, sector_bytes}
 use Rattle.bc_record.proofs.Blocks.{block_small, block_some, blocks_hold}

@@ -15,7 +15,7 @@ use Rattle.bc_super.specs.Cache.{IsBlock, IsBucket, IsCacheVersion, IsUsableCach
 use Rattle.bc_disk.specs.declared.geometry.Geometry.{Geometry}
 use Rattle.bc_image.specs.Formatted.{IsDivided}
 use Rattle.bc_image.specs.Sound.{HasSuperblocks}
-use Rattle.bc_prio.specs.Sizes.{records_in_set, sets_in_chain}
+use Rattle.bc_disk.specs.Chain.{records_in_set, sets_in_chain}
 use Rattle.bc_super.specs.Division.{IsGeometryOf}
 use Rattle.bc_super.specs.Layout.{IsLaidOut, buckets_of, per_set}
 use Rattle.bc_super.specs.Reading.{ReadsCache, ReadsSuper}

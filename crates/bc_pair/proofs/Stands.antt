@@ -14,7 +14,7 @@ use Rattle.bc_disk.specs.declared.geometry.Geometry.{Geometry}
 use Rattle.bc_disk.specs.declared.gens.BucketRecord.{BucketRecord}
 use Rattle.bc_image.specs.Formatted.{AreBlank, first_set, leaf_bucket, root_bucket, table_bucket}
 use Rattle.bc_jset.specs.declared.entry.JEntry.{JEntry}
-use Rattle.bc_prio.specs.Sizes.{sets_in_chain}
+use Rattle.bc_disk.specs.Chain.{sets_in_chain}
 use Rattle.std.proofs.lemmas.Bool.{cases_lt}
 use Rattle.bc_record.specs.Sectors.{Has}
 use Rattle.bc_record.proofs.Blocks.{block_small}

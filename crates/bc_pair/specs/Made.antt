@@ -12,7 +12,7 @@ use Rattle.bc_super.specs.declared.backing.BackingSuper.{BackingSuper}
 use Rattle.bc_super.specs.declared.cache.CacheSuper.{CacheSuper}
 use Rattle.bc_super.specs.declared.layout.Layout.{Layout}
 use Rattle.bc_disk.specs.declared.geometry.Geometry.{Geometry}
-use Rattle.bc_prio.specs.Sizes.{sets_in_chain}
+use Rattle.bc_disk.specs.Chain.{sets_in_chain}
 use Rattle.bc_pair.specs.declared.records.Records.{Records}
 use Rattle.bc_pair.specs.Records.{AreNew, AreWrites, IsRecordSector}
 use Rattle.bc_pair.specs.Runs.{Run, over, written_over}

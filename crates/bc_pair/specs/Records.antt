@@ -8,7 +8,7 @@ use Rattle.bc_jset.specs.declared.entry.JEntry.{JEntry}
 use Rattle.bc_key.specs.declared.key.Key.{Key}
 use Rattle.bc_keys.specs.Spelling.{words_of_all}
 use Rattle.bc_prio.specs.Set.{IsWrittenSet}
-use Rattle.bc_prio.specs.Sizes.{sets_in_chain}
+use Rattle.bc_disk.specs.Chain.{sets_in_chain}
 use Rattle.bc_set.specs.SetBytes.{IsSet, bytes_of, words_in}
 use Rattle.bc_set.specs.declared.set.Set.{Set}
 use Rattle.bc_set.specs.declared.set.SetKind.{SetKind}

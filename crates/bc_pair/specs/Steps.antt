@@ -14,7 +14,7 @@ use Rattle.bc_pair.specs.Runs.{Run, written_over}
 use Rattle.bc_disk.specs.declared.disk.Failed.{Failed}
 use Rattle.bc_disk.specs.declared.geometry.Geometry.{Geometry}
 use Rattle.bc_super.specs.Writing.{AreCounted}
-use Rattle.bc_prio.specs.Sizes.{sets_in_chain}
+use Rattle.bc_disk.specs.Chain.{sets_in_chain}
 use Rattle.bc_image.specs.Formatted.{first_set, leaf_bucket, root_bucket, table_bucket}
 
 -- the answer to a superblock that can't be read

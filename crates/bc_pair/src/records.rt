@@ -4,7 +4,7 @@
 //! uuid table and the first priority set; the root needs a child, since leaves stand below it.
 ghost use Rattle.std.specs.Prelude.{◌≡◌, ◌+◌, ◌-◌, ◌*◌, ◌^◌, ◌<◌, ◌≤◌, ◌++◌, [], ◌∷◌, replicate, IfOk, OnOk};
 ghost use Rattle.bc_image.specs.Formatted.{first_set, leaf_bucket, root_bucket, table_bucket};
-ghost use Rattle.bc_prio.specs.Sizes.{sets_in_chain};
+ghost use Rattle.bc_disk.specs.Chain.{sets_in_chain};
 ghost use Rattle.bc_super.specs.declared.backing.BackingSuper.{BackingSuper};
 ghost use Rattle.bc_pair.specs.Records.{AreBuckets, AreFresh, AreNew, IsFirstEntry, IsFirstSet, IsNewKey, IsRoot};
 ghost use Rattle.bc_pair.specs.Steps.{HasRoom, NamesBuckets};

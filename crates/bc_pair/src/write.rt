@@ -12,7 +12,7 @@ ghost use Rattle.bc_super.specs.Division.{IsGeometryOf};
 ghost use Rattle.bc_super.specs.Reading.{OnlyReadsCache};
 ghost use Rattle.bc_super.specs.Writing.{AreCounted};
 ghost use Rattle.bc_super.specs.declared.backing.BackingSuper.{BackingSuper};
-ghost use Rattle.bc_prio.specs.Sizes.{sets_in_chain};
+ghost use Rattle.bc_disk.specs.Chain.{sets_in_chain};
 ghost use Rattle.bc_pair.specs.Causes.{FaultRose, KeepsOthers};
 ghost use Rattle.bc_pair.specs.Found.{IsPair};
 ghost use Rattle.bc_pair.specs.Made.{IsMadeCache, IsUnfinished, PairWritten, cache_calls, record_calls};

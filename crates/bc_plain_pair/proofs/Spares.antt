@@ -9,7 +9,7 @@ use Rattle.bc_disk.specs.declared.geometry.Geometry.{Geometry}
 use Rattle.bc_image.specs.Reading.{Reading}
 use Rattle.bc_image.specs.Sound.{HasSpareBuckets}
 use Rattle.bc_image.specs.Uses.{IsSpare}
-use Rattle.bc_prio.specs.Sizes.{sets_in_chain}
+use Rattle.bc_disk.specs.Chain.{sets_in_chain}
 use Rattle.bc_plain_pair.specs.Uses.{CountsUses, SpareBelow, one_if}
 use Rattle.bc_plain_pair.proofs.UseCounts.{no_kind, some_kind}
 

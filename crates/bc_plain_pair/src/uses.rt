@@ -9,10 +9,10 @@ ghost use Rattle.bc_plain_pair.specs.Uses.{AreApart, AreLive, AreWithin, CountsU
 use crate::node::Node;
 use crate::reading::{Reading, View};
 use crate::shown::{bucket_at, is_live, place_of};
+use bc_disk::chain::sets_in_chain;
 use bc_disk::geometry::Geometry;
 use bc_key::Key;
 use bc_plain::extent::last_key;
-use bc_prio::sets_in_chain;
 use std::alloc::{AllocError, Global};
 
 // Whether a key points into a bucket.

@@ -5,7 +5,7 @@ use Rattle.std.proofs.lemmas.List.{get_or_default}
 use Rattle.bc_bytes.specs.Fields.{SameOutside}
 use Rattle.bc_disk.specs.declared.geometry.Geometry.{Geometry}
 use Rattle.bc_disk.specs.declared.gens.BucketRecord.{BucketRecord}
-use Rattle.bc_prio.specs.Sizes.{bucket_bytes, records_in_set}
+use Rattle.bc_disk.specs.Chain.{bucket_bytes, records_in_set}
 use Rattle.bc_prio.specs.Set.{next_in, HasMagic, HasChecksum, IsRecord, HoldsPart, IsWrittenSet, records_in}
 use Rattle.bc_prio.proofs.Places.{byte_kept, same_within}
 

@@ -10,7 +10,7 @@ use Rattle.bc_disk.specs.Bytes.{image_of}
 use Rattle.bc_disk.specs.Gens.{Gens}
 use Rattle.bc_disk.specs.declared.gens.BucketRecord.{BucketRecord}
 use Rattle.bc_record.proofs.Parts.{bytes_in-each}
-use Rattle.bc_prio.specs.Sizes.{records_in_set, sets_in_chain}
+use Rattle.bc_disk.specs.Chain.{records_in_set, sets_in_chain}
 use Rattle.bc_prio.specs.Set.{IsSet, IsRecord, HoldsPart, HasChecksum, next_in}
 use Rattle.bc_prio.specs.Records.{bucket_in, SetFound, ChainIn}
 use Rattle.bc_prio.specs.Example.{example_geometry, unused, example_records, example_blank, example_head, example_half, example_body, example_set, example_image}

@@ -1,4 +1,3 @@
-pub mod Amounts
 pub mod Places
 pub mod Checked
 pub mod Encoded

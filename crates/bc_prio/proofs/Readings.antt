@@ -10,12 +10,12 @@ use Rattle.bc_disk.specs.declared.geometry.Geometry.{Geometry}
 use Rattle.bc_disk.specs.declared.gens.BucketRecord.{BucketRecord}
 use Rattle.bc_prio.specs.declared.error.PrioError.{PrioError}
 use Rattle.bc_prio.specs.declared.error.PrioError.TheVariants as errors
-use Rattle.bc_prio.specs.Sizes.{bucket_bytes, records_in_set, sets_in_chain}
+use Rattle.bc_disk.specs.Chain.{bucket_bytes, records_in_set, sets_in_chain}
 use Rattle.bc_prio.specs.Set.{IsRecord, IsWrong, HoldsPart, next_in}
 use Rattle.bc_prio.specs.Chain.{IsInBucket, IsChain, Leads}
 use Rattle.bc_prio.specs.Refusal.{IsFresh, IsCause, IsRefused, HasRead, CallsUntil}
 use Rattle.bc_prio.specs.Reading.{ReadsNext}
-use Rattle.bc_prio.proofs.Amounts.{some_sets}
+use Rattle.bc_disk.proofs.Amounts.{some_sets}
 use Rattle.bc_prio.proofs.Chains.{wrong_is_cause, leads_more, leads_map, stood_before, kept_both, kept_all, read_both, calls_behind, cause_before, distinct_more}
 
 -- what was read of a bucket's sectors stands in the bucket

@@ -11,7 +11,7 @@ use Rattle.bc_record.specs.Codec.{Decided, IsCodec}
 use Rattle.bc_record.specs.Sectors.{bytes_in, bytes_to}
 use Rattle.bc_record.proofs.Blocks.{block_some}
 use Rattle.bc_record.proofs.Parts.{length-bytes_in}
-use Rattle.bc_prio.specs.Sizes.{bucket_bytes, sets_in_chain}
+use Rattle.bc_disk.specs.Chain.{bucket_bytes, sets_in_chain}
 use Rattle.bc_prio.specs.Set.{IsSet, HoldsPart, HasCount, HasMagic, HasChecksum, magic_of, next_in}
 use Rattle.bc_prio.specs.Records.{bucket_in, part_kind, SetFound, IsReadIn}
 

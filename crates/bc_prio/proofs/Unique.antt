@@ -11,10 +11,10 @@ use Rattle.bc_disk.specs.Gens.{Gens}
 use Rattle.bc_disk.specs.declared.geometry.Geometry.{Geometry}
 use Rattle.bc_disk.specs.declared.gens.BucketRecord.{BucketRecord}
 use Rattle.bc_disk.proofs.Sectors.{at_run-sectors, image_of-past, same_image}
-use Rattle.bc_prio.specs.Sizes.{records_in_set, sets_in_chain}
+use Rattle.bc_disk.specs.Chain.{records_in_set, sets_in_chain}
 use Rattle.bc_prio.specs.Set.{HoldsPart, next_in}
 use Rattle.bc_prio.specs.Chain.{IsInBucket, IsChain, Leads}
-use Rattle.bc_prio.proofs.Amounts.{records_fit, parts_reach}
+use Rattle.bc_disk.proofs.Amounts.{records_fit, parts_reach}
 
 -- the sectors of a bucket's bytes are those of the image
 sector_told : (g : Geometry) (d : DiskFacts) (image : Image) (bucket : ℕ) (bytes : List ℕ) → d.holds ≡ Some image → IsInBucket g d bucket bytes

@@ -13,7 +13,7 @@ use Rattle.bc_disk.specs.Disk.{DiskFacts, IsRead, IsWritten, IsFailedWrite, IsCo
 use Rattle.bc_disk.specs.declared.disk.Failed.{Failed}
 use Rattle.bc_disk.specs.declared.geometry.Geometry.{Geometry}
 use Rattle.bc_disk.specs.declared.gens.BucketRecord.{BucketRecord}
-use Rattle.bc_prio.specs.Sizes.{bucket_bytes, sets_in_chain}
+use Rattle.bc_disk.specs.Chain.{bucket_bytes, sets_in_chain}
 use Rattle.bc_prio.specs.Set.{IsSet, IsWrittenSet, HoldsPart, HasCount, next_in}
 use Rattle.bc_prio.specs.Chain.{IsInBucket, IsPlace, IsChain, Leads}
 use Rattle.bc_prio.specs.Writes.{WritesSets, good}

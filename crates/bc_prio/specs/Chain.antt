@@ -4,7 +4,7 @@ use Rattle.bc_model.specs.Sector.{values_of}
 use Rattle.bc_disk.specs.Disk.{DiskFacts, IsRead}
 use Rattle.bc_disk.specs.Gens.{Gens}
 use Rattle.bc_disk.specs.declared.geometry.Geometry.{Geometry}
-use Rattle.bc_prio.specs.Sizes.{bucket_bytes, sets_in_chain}
+use Rattle.bc_disk.specs.Chain.{bucket_bytes, sets_in_chain}
 use Rattle.bc_prio.specs.Set.{IsSet, HoldsPart, next_in}
 
 -- what stands in a bucket of the disk, where it tells what it holds; else any bytes that fill one

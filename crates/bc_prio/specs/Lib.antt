@@ -1,4 +1,3 @@
-pub mod Sizes
 pub mod Set
 pub mod Chain
 pub mod Refusal

@@ -4,7 +4,7 @@ use Rattle.bc_disk.specs.Disk.{DiskFacts}
 use Rattle.bc_disk.specs.Gens.{Gens}
 use Rattle.bc_disk.specs.declared.geometry.Geometry.{Geometry}
 use Rattle.bc_disk.specs.declared.gens.BucketRecord.{BucketRecord}
-use Rattle.bc_prio.specs.Sizes.{records_in_set}
+use Rattle.bc_disk.specs.Chain.{records_in_set}
 use Rattle.bc_prio.specs.Set.{IsSet, HoldsPart, next_in}
 use Rattle.bc_prio.specs.Chain.{IsInBucket}
 use Rattle.bc_prio.specs.Refusal.{IsFresh}

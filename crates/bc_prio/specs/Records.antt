@@ -7,7 +7,7 @@ use Rattle.bc_disk.specs.declared.gens.BucketRecord.{BucketRecord}
 use Rattle.bc_record.specs.Sectors.{bytes_in}
 use Rattle.bc_record.specs.Kind.{Kind, IsFound}
 use Rattle.bc_prio.specs.declared.error.PrioError.{PrioError}
-use Rattle.bc_prio.specs.Sizes.{bucket_bytes, sets_in_chain}
+use Rattle.bc_disk.specs.Chain.{bucket_bytes, sets_in_chain}
 use Rattle.bc_prio.specs.Set.{IsSet, IsWrong, HoldsPart, next_in}
 use Rattle.bc_prio.specs.Refusal.{IsFresh, IsMisplaced}
 use Rattle.bc_prio.specs.Chain.{IsPlace}

@@ -5,7 +5,7 @@ use Rattle.bc_disk.specs.Disk.{DiskFacts}
 use Rattle.bc_disk.specs.declared.geometry.Geometry.{Geometry}
 use Rattle.bc_prio.specs.declared.error.PrioError.{PrioError}
 use Rattle.bc_prio.specs.declared.error.PrioError.TheVariants as errors
-use Rattle.bc_prio.specs.Sizes.{sets_in_chain}
+use Rattle.bc_disk.specs.Chain.{sets_in_chain}
 use Rattle.bc_prio.specs.Set.{IsWrong}
 use Rattle.bc_prio.specs.Chain.{IsInBucket, IsPlace, Leads}
 

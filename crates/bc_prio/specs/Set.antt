@@ -7,7 +7,7 @@ use Rattle.bc_disk.specs.declared.geometry.Geometry.{Geometry}
 use Rattle.bc_disk.specs.declared.gens.BucketRecord.{BucketRecord}
 use Rattle.bc_prio.specs.declared.error.PrioError.{PrioError}
 use Rattle.bc_prio.specs.declared.error.PrioError.TheVariants as errors
-use Rattle.bc_prio.specs.Sizes.{bucket_bytes, records_in_set, sets_in_chain}
+use Rattle.bc_disk.specs.Chain.{bucket_bytes, records_in_set, sets_in_chain}
 
 -- what tells a priority set of this cache from other bytes
 abbrev pub magic_of : Geometry → ℕ

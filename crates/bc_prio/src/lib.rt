@@ -11,7 +11,6 @@ mod write;
 pub use error::PrioError;
 pub use read::read_chain;
 pub use set::encode_set;
-pub use sizes::{records_in_set, sets_in_chain};
 pub use write::write_chain;
 
 #[cfg(test)]

@@ -1,14 +1,14 @@
 //! Reads a chain of sets.
 ghost use Rattle.std.specs.Prelude.{◌≡◌, ℕ, ◌+◌, ◌*◌, ◌<◌, ◌≤◌, length, IfOk, IfErr, OnOk};
 ghost use Rattle.bc_disk.specs.Disk.{IsKept};
-ghost use Rattle.bc_prio.specs.Sizes.{bucket_bytes, sets_in_chain};
+ghost use Rattle.bc_disk.specs.Chain.{bucket_bytes, sets_in_chain};
 ghost use Rattle.bc_prio.specs.Chain.{IsPlace, IsChain};
 ghost use Rattle.bc_prio.specs.Refusal.{IsFresh, IsMisplaced, IsCause, IsRefused, CallsUntil, HasRead};
 ghost use Rattle.bc_prio.specs.Reading.{ReadsNext};
 
 use crate::error::PrioError;
 use crate::set::{get_records, next_of};
-use crate::sizes::sets_in_chain;
+use bc_disk::chain::sets_in_chain;
 use bc_disk::disk::Disk;
 use bc_disk::gens::Gens;
 use bc_disk::geometry::Geometry;

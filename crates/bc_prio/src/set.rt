@@ -2,12 +2,13 @@
 ghost use Rattle.std.specs.Prelude.{◌≡◌, ◌⊎◌, ◌^◌, ℕ, ◌+◌, ◌*◌, ◌<◌, ◌≤◌, ◌↔◌, length, slice_index, slice_index_or, IsTrue, IfOk, IfErr};
 ghost use Rattle.bc_bytes.specs.Fields.{SameOutside};
 ghost use Rattle.bc_disk.specs.declared.gens.BucketRecord.{BucketRecord};
-ghost use Rattle.bc_prio.specs.Sizes.{bucket_bytes, records_in_set, sets_in_chain};
+ghost use Rattle.bc_disk.specs.Chain.{bucket_bytes, records_in_set, sets_in_chain};
 ghost use Rattle.bc_prio.specs.Set.{magic_of, next_in, HasMagic, HasChecksum, IsRecord, HoldsPart, IsSet, IsWrong, IsWrittenSet, records_in};
 
 use crate::error::PrioError;
-use crate::sizes::{HEADER, RECORD, first_in_part, records_in_part, sets_in_chain};
+use crate::sizes::records_in_part;
 use bc_bytes::{crc64, get_u16, get_u64, put_u16, put_u64};
+use bc_disk::chain::{HEADER, RECORD, first_in_part, sets_in_chain};
 use bc_disk::gens::{BucketRecord, Gens};
 use bc_disk::geometry::Geometry;
 

@@ -1,39 +1,10 @@
-//! How many records and sets there are.
+//! How many records a set has.
 ghost use Rattle.std.specs.Prelude.{◌≡◌, ◌+◌, ◌*◌, ◌<◌, ◌≤◌, ◌^◌};
-ghost use Rattle.bc_prio.specs.Sizes.{bucket_bytes, records_in_set, sets_in_chain};
+ghost use Rattle.bc_disk.specs.Chain.{bucket_bytes, sets_in_chain};
 ghost use Rattle.bc_prio.specs.Set.{records_in};
 
+use bc_disk::chain::{first_in_part, records_in_set};
 use bc_disk::geometry::Geometry;
-
-/// The bytes of a set before its records.
-pub const HEADER: u32 = 40;
-
-/// The bytes of a record.
-pub const RECORD: u32 = 3;
-
-/// How many records fit into a set, which fills a bucket.
-pub fn records_in_set(g: &Geometry) -> u32
-    ensures { result ≡ records_in_set g.now }
-{
-    (512 * u32::from(g.bucket) - HEADER) / RECORD
-}
-
-/// How many sets a chain has: as many as it takes to hold a record of each bucket.
-pub fn sets_in_chain(g: &Geometry) -> u32
-    ensures { result ≡ sets_in_chain g.now }
-{
-    let fit = records_in_set(g);
-    (g.nbuckets + (fit - 1)) / fit
-}
-
-/// The bucket whose record is the first of this part.
-pub fn first_in_part(g: &Geometry, part: u32) -> u32
-    requires { part < sets_in_chain g.now }
-    ensures first { result ≡ part * records_in_set g.now }
-    ensures within { result < g.now.nbuckets }
-{
-    part * records_in_set(g)
-}
 
 /// How many records this part has.
 pub fn records_in_part(g: &Geometry, part: u32) -> u32

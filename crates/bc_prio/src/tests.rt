@@ -3,8 +3,9 @@
 ghost use Rattle.std.specs.Prelude.{◌≡◌, ◌+◌, ◌/◌, ◌≤◌, length, IfOk, IsTrue};
 ghost use Rattle.bc_disk.specs.MemDisk.{as_disk};
 
-use super::{PrioError, encode_set, read_chain, records_in_set, sets_in_chain, write_chain};
+use super::{PrioError, encode_set, read_chain, write_chain};
 use bc_bytes::{crc64, get_u64, put_u64};
+use bc_disk::chain::{records_in_set, sets_in_chain};
 use bc_disk::disk::{Disk, Failed};
 use bc_disk::gens::{BucketRecord, Gens};
 use bc_disk::geometry::Geometry;

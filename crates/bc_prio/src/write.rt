@@ -1,6 +1,6 @@
 //! Writes a chain of sets.
 ghost use Rattle.std.specs.Prelude.{◌≡◌, ◌≢◌, ℕ, ◌+◌, ◌*◌, ◌<◌, ◌≤◌, length, slice_index, All, AllPairs, OnOk};
-ghost use Rattle.bc_prio.specs.Sizes.{bucket_bytes, sets_in_chain};
+ghost use Rattle.bc_disk.specs.Chain.{bucket_bytes, sets_in_chain};
 ghost use Rattle.bc_prio.specs.Chain.{IsPlace, IsChain};
 ghost use Rattle.bc_prio.specs.Writes.{WritesSets};
 

@@ -12,7 +12,7 @@ use Rattle.bc_key.specs.Key.{ptr_at, pointer_of}
 use Rattle.bc_jset.specs.Records.{EntryFound}
 use Rattle.bc_jset.specs.Entries.{FoundEntry, StandsInJournal, bucket_start, bucket_end}
 use Rattle.bc_prio.specs.Records.{ChainIn}
-use Rattle.bc_prio.specs.Sizes.{sets_in_chain}
+use Rattle.bc_disk.specs.Chain.{sets_in_chain}
 use Rattle.bc_super.specs.Super.{data_sectors}
 use Rattle.bc_meta.specs.Facts.{In, IsAtBlock}
 use Rattle.bc_meta.specs.Entries.{Entry}

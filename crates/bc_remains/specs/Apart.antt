@@ -5,7 +5,7 @@ use Rattle.bc_disk.specs.declared.geometry.Geometry.{Geometry}
 use Rattle.bc_record.specs.Places.{bucket_at}
 use Rattle.bc_key.specs.Key.{ptr_at}
 use Rattle.bc_prio.specs.Chain.{IsPlace}
-use Rattle.bc_prio.specs.Sizes.{sets_in_chain}
+use Rattle.bc_disk.specs.Chain.{sets_in_chain}
 use Rattle.bc_image.specs.Reading.{Reading}
 use Rattle.bc_image.specs.Tree as tree
 use Rattle.bc_image.specs.Uses.{Use, Super, Journal, Priority, Uuid, Node, Data, IsUsedFor}

@@ -14,7 +14,7 @@ use Rattle.bc_key.specs.Key.{ptr_at, pointer_of}
 use Rattle.bc_key.specs.declared.key.Key.{Key}
 use Rattle.bc_key.specs.declared.ptr.Ptr.{Ptr}
 use Rattle.bc_prio.specs.Chain.{IsPlace}
-use Rattle.bc_prio.specs.Sizes.{sets_in_chain}
+use Rattle.bc_disk.specs.Chain.{sets_in_chain}
 use Rattle.bc_record.specs.Places.{bucket_at}
 use Rattle.bc_walk.specs.Rule.{Rule}
 use Rattle.bc_walk.specs.Walk.{IsTaken}

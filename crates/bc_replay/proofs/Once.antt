@@ -22,7 +22,7 @@ use Rattle.bc_key.specs.declared.key.Key.{Key}
 use Rattle.bc_key.specs.declared.ptr.Ptr.{Ptr}
 use Rattle.bc_model.specs.Sector.{Image}
 use Rattle.bc_prio.specs.Records.{ChainIn}
-use Rattle.bc_prio.specs.Sizes.{sets_in_chain}
+use Rattle.bc_disk.specs.Chain.{sets_in_chain}
 use Rattle.bc_prio.proofs.Found.{one_chain_in}
 use Rattle.bc_super.proofs.Geometries.{one_geometry}
 use Rattle.bc_super.specs.Division.{IsGeometryOf}

@@ -23,7 +23,7 @@ use Rattle.bc_node.specs.Leaf.{AreLastOfAll}
 use Rattle.bc_pair.specs.Found.{pair_of}
 use Rattle.bc_prio.specs.Chain.{IsPlace}
 use Rattle.bc_prio.specs.Records.{LeadIn, ChainIn}
-use Rattle.bc_prio.specs.Sizes.{sets_in_chain}
+use Rattle.bc_disk.specs.Chain.{sets_in_chain}
 use Rattle.bc_disk.specs.declared.gens.BucketRecord.{BucketRecord}
 use Rattle.bc_super.specs.Super.{data_sectors}
 use Rattle.bc_super.specs.declared.backing.BackingSuper.{BackingSuper}

@@ -4,7 +4,7 @@ use Rattle.bc_disk.specs.Gens.{Gens}
 use Rattle.bc_image.specs.Pointers.{PointsIntoData}
 use Rattle.bc_key.specs.declared.key.Key.{Key}
 use Rattle.bc_prio.specs.Chain.{IsPlace}
-use Rattle.bc_prio.specs.Sizes.{sets_in_chain}
+use Rattle.bc_disk.specs.Chain.{sets_in_chain}
 use Rattle.bc_walk.specs.Rule.{Rule}
 use Rattle.bc_walk.specs.declared.visit.Visit.{Visit}
 use Rattle.bc_replay.specs.declared.error.OpenError.{OpenError}

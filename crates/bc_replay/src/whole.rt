@@ -16,10 +16,10 @@ use crate::index::Index;
 use crate::pointers::barred_word;
 use crate::replay::read_index;
 use crate::uses::{Table, Use, count_spare, used_twice};
+use bc_disk::chain::sets_in_chain;
 use bc_disk::disk::Disk;
 use bc_disk::gens::Gens;
 use bc_key::Key;
-use bc_prio::sets_in_chain;
 use bc_walk::Visit;
 use std::alloc::Global;
 

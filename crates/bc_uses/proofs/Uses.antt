@@ -21,7 +21,7 @@ use Rattle.bc_collect.proofs.Spare.{law_spare}
 use Rattle.bc_data.specs.Data as flow
 use Rattle.bc_data.specs.Laws.{HasBooks}
 use Rattle.bc_data.proofs.Steps.{law_books}
-use Rattle.bc_prio.specs.Sizes.{sets_in_chain}
+use Rattle.bc_disk.specs.Chain.{sets_in_chain}
 use Rattle.bc_books.proofs.Safety.{apart, in_window}
 use Rattle.bc_meta.specs.Facts.{In}
 use Rattle.bc_meta.specs.Keys.{Ref, last_ref, ref_by}

@@ -8,7 +8,7 @@ use Rattle.bc_leaves.specs.Parts as parts
 use Rattle.bc_image.specs.Reading.{Reading, IsReading}
 use Rattle.bc_image.specs.Sound.{IsWithinWindow}
 use Rattle.bc_image.specs.Uses.{Use, Journal, Uuid, Data, IsUsedFor}
-use Rattle.bc_prio.specs.Sizes.{sets_in_chain}
+use Rattle.bc_disk.specs.Chain.{sets_in_chain}
 use Rattle.bc_facts.specs.Seen.{counted}
 use Rattle.bc_whole.specs.State.{Opening}
 use Rattle.bc_known.specs.Acts.{Event}

@@ -1,7 +1,7 @@
 use Rattle.std.proofs.Common.{◌+◌, ℕ, List, length, ap, ◌∙◌, arith}
 use Rattle.std.specs.Prelude.{slice_index_or}
 use Rattle.bc_image.specs.Formatted.{first_set}
-use Rattle.bc_prio.specs.Sizes.{sets_in_chain}
+use Rattle.bc_disk.specs.Chain.{sets_in_chain}
 use Rattle.bc_pair.specs.Found.{IsJournalSector}
 use Rattle.bc_pair.specs.Records.{IsChainOf, IsJournal, IsRecordSector}
 use Rattle.bc_pair.proofs.Bytes.{chain_inside, journal_inside}

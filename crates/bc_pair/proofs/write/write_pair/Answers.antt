@@ -1,5 +1,5 @@
 use Rattle.std.proofs.Common.{sym, subst}
-use Rattle.bc_prio.proofs.Amounts.{some_sets}
+use Rattle.bc_disk.proofs.Amounts.{some_sets}
 use Rattle.bc_super.specs.Cache.{IsUsableCache}
 use Rattle.bc_super.specs.Super.{IsUsable}
 use Rattle.bc_pair.proofs.Formatted.{of_each}

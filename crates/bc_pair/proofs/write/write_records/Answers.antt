@@ -1,5 +1,5 @@
 use Rattle.std.proofs.Common.{◌+◌}
-use Rattle.bc_prio.specs.Sizes.{sets_in_chain}
+use Rattle.bc_disk.specs.Chain.{sets_in_chain}
 use Rattle.bc_pair.specs.Records.{AreNodes, IsChainOf, IsJournal, IsRecordSector, IsTableAt, Then}
 use Rattle.bc_pair.proofs.Writes.{wrote_then}
 use Rattle.bc_pair.proofs.write.write_records.Goals as goal

@@ -1,5 +1,5 @@
 use Rattle.std.proofs.Common.{ap, ◌∙◌}
-use Rattle.bc_prio.specs.Sizes.{sets_in_chain}
+use Rattle.bc_disk.specs.Chain.{sets_in_chain}
 use Rattle.bc_plain_pair.proofs.Spares.{enough_spare, few_spare}
 use Rattle.bc_plain_pair.proofs.uses.has_spare.Goals as goal
 

@@ -1,5 +1,5 @@
 use Rattle.std.proofs.Common.{◌≡◌, length}
-use Rattle.bc_prio.specs.Sizes.{bucket_bytes}
+use Rattle.bc_disk.specs.Chain.{bucket_bytes}
 use Rattle.bc_prio.proofs.Readings.{IsReadTo}
 use Rattle.bc_prio.proofs.read.read_chain.Given as goal
 

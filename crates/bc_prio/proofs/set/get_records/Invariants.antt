@@ -1,6 +1,6 @@
 use Rattle.std.proofs.Common.{◌≡◌, ℕ, ◌+◌, ◌*◌, ◌<◌, length, slice_index_or}
 use Rattle.bc_disk.specs.declared.gens.BucketRecord.{BucketRecord}
-use Rattle.bc_prio.specs.Sizes.{records_in_set}
+use Rattle.bc_disk.specs.Chain.{records_in_set}
 use Rattle.bc_prio.specs.Set.{IsRecord}
 use Rattle.bc_prio.proofs.set.get_records.Given as goal
 

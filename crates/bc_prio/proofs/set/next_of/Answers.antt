@@ -1,9 +1,9 @@
 use Rattle.std.proofs.Common.{◌+◌, sym, ap, ◌∙◌, arith}
 use Rattle.std.proofs.lemmas.List.{take_rest}
 use Rattle.bc_bytes.specs.Checksum.{checksum}
-use Rattle.bc_prio.specs.Sizes.{sets_in_chain}
+use Rattle.bc_disk.specs.Chain.{sets_in_chain}
 use Rattle.bc_prio.specs.Set.{next_in}
-use Rattle.bc_prio.proofs.Amounts.{sets_few}
+use Rattle.bc_disk.proofs.Amounts.{sets_few}
 use Rattle.bc_prio.proofs.Checked.{same_count, other_count}
 use Rattle.bc_prio.proofs.set.next_of.Goals as goal
 

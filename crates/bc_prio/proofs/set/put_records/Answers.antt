@@ -1,5 +1,5 @@
 use Rattle.std.proofs.Common.{◌*◌, arith}
-use Rattle.bc_prio.specs.Sizes.{records_in_set}
+use Rattle.bc_disk.specs.Chain.{records_in_set}
 use Rattle.bc_prio.proofs.Encoded.{record_found, records_more}
 use Rattle.bc_prio.proofs.set.put_records.Goals as goal
 

@@ -1,5 +1,5 @@
 use Rattle.std.proofs.Common.{arith}
-use Rattle.bc_prio.proofs.Amounts.{records_fit}
+use Rattle.bc_disk.proofs.Amounts.{records_fit}
 use Rattle.bc_prio.proofs.sizes.records_in_part.Goals as goal
 
 pub returns-clause-room : goal.returns-clause-room

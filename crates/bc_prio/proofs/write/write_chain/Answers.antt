@@ -1,6 +1,6 @@
 use Rattle.std.proofs.Common.{◌*◌, slice_index, refl, ◌∙◌, arith}
 use Rattle.bc_prio.specs.Writes.{good}
-use Rattle.bc_prio.proofs.Amounts.{sets_few}
+use Rattle.bc_disk.proofs.Amounts.{sets_few}
 use Rattle.bc_prio.proofs.Writings.{write_good, write_failed, write_none, chain_there, on_disk, sector_of, counted_failed}
 use Rattle.bc_prio.proofs.write.write_chain.Goals as goal
 

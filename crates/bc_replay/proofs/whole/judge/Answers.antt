@@ -1,5 +1,5 @@
 use Rattle.std.proofs.Common.{◌<◌, ◌≤◌, List, subst, sym, arith}
-use Rattle.bc_prio.specs.Sizes.{sets_in_chain}
+use Rattle.bc_disk.specs.Chain.{sets_in_chain}
 use Rattle.bc_replay.specs.Limits.{rule_in}
 use Rattle.bc_replay.specs.Marks.{CountsNone}
 use Rattle.bc_replay.specs.declared.uses.Use.{Use}

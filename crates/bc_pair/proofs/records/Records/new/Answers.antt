@@ -1,6 +1,6 @@
 use Rattle.std.proofs.Common.{ℕ, List, sym, ap, ◌∙◌, subst}
 use Rattle.bc_disk.specs.declared.gens.BucketRecord.{BucketRecord}
-use Rattle.bc_prio.specs.Sizes.{sets_in_chain}
+use Rattle.bc_disk.specs.Chain.{sets_in_chain}
 use Rattle.bc_pair.specs.Records.{AreBuckets, AreFresh}
 use Rattle.bc_pair.proofs.records.Records.new.Goals as goal
 

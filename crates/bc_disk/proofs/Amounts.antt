@@ -2,7 +2,7 @@
 use Rattle.std.proofs.Common.{ℕ, zero, suc, ◌+◌, ◌-◌, ◌*◌, ◌/◌, ◌<◌, ◌≤◌, ◌^◌, arith}
 use Rattle.std.proofs.Math.Nat.{le-div_iff_mul-le, lt-div-mul-add, add-mul, zero-mul, div-le_self}
 use Rattle.bc_disk.specs.declared.geometry.Geometry.{Geometry}
-use Rattle.bc_prio.specs.Sizes.{bucket_bytes, records_in_set, sets_in_chain}
+use Rattle.bc_disk.specs.Chain.{bucket_bytes, records_in_set, sets_in_chain}
 
 pub record Fit (g : Geometry) : Type 0 where
   pub room : 40 + 3 * records_in_set g ≤ bucket_bytes g

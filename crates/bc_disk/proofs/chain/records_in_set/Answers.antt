@@ -1,6 +1,6 @@
 use Rattle.std.proofs.Common.{◌*◌, ◌-◌, ◌/◌, ap}
-use Rattle.bc_prio.specs.Sizes.{records_in_set}
-use Rattle.bc_prio.proofs.sizes.records_in_set.Goals as goal
+use Rattle.bc_disk.specs.Chain.{records_in_set}
+use Rattle.bc_disk.proofs.chain.records_in_set.Goals as goal
 
 pub returns : goal.returns
 unfolding records_in_set

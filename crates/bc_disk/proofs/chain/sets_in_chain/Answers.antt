@@ -1,7 +1,7 @@
 use Rattle.std.proofs.Common.{◌+◌, ◌-◌, ◌/◌, ap, arith}
-use Rattle.bc_prio.specs.Sizes.{sets_in_chain}
-use Rattle.bc_prio.proofs.Amounts.{records_fit}
-use Rattle.bc_prio.proofs.sizes.sets_in_chain.Goals as goal
+use Rattle.bc_disk.specs.Chain.{sets_in_chain}
+use Rattle.bc_disk.proofs.Amounts.{records_fit}
+use Rattle.bc_disk.proofs.chain.sets_in_chain.Goals as goal
 
 pub overflow_sub-result : goal.overflow_sub-result
 overflow_sub-result c = let fit = records_fit c.args.g.now in omega (arith, fit.many)

@@ -1,6 +1,6 @@
 use Rattle.std.proofs.Common.{◌*◌, ap, arith}
-use Rattle.bc_prio.proofs.Amounts.{records_fit, part_begins}
-use Rattle.bc_prio.proofs.sizes.first_in_part.Goals as goal
+use Rattle.bc_disk.proofs.Amounts.{records_fit, part_begins}
+use Rattle.bc_disk.proofs.chain.first_in_part.Goals as goal
 
 pub overflow_mul-result : goal.overflow_mul-result
 overflow_mul-result c =
