@@ -1,0 +1,40 @@
+-- What the flags say.
+use Rattle.std.proofs.Common.{◌≡◌, ◌≢◌, inl, inr, ℕ, ◌+◌, ◌*◌, ◌/◌, ◌%◌, ◌^◌, ◌<◌, refl, arith}
+use Rattle.bc_super.specs.Super.{IsUsable, state_number, mode_number}
+use Rattle.bc_super.specs.declared.backing.BackingSuper.{BackingSuper}
+use Rattle.bc_super.specs.declared.state.BackingState.{BackingState}
+use Rattle.bc_super.specs.declared.state.BackingState.TheVariants as state
+use Rattle.bc_state.specs.State.{IsCached, flags_with, number_of, super_in}
+use Rattle.bc_state.specs.Laws.{LawFlags, LawUsable}
+
+-- the number is read as it was set
+pub number_again : (n flags : ℕ) → n < 4 → state_number (flags_with n flags) ≡ n
+number_again n flags small = omega arith
+
+same_mode : (n flags : ℕ) → mode_number (flags_with n flags) ≡ mode_number flags
+same_mode n flags = omega arith
+
+within : (n flags : ℕ) → n < 4 → flags < 2 ^ 64 → flags_with n flags < 2 ^ 64
+within n flags small low = omega arith
+
+pub law_flags : LawFlags
+law_flags state.None flags low = (within 0 flags (omega arith) low, number_again 0 flags (omega arith), same_mode 0 flags)
+law_flags state.Clean flags low = (within 1 flags (omega arith) low, number_again 1 flags (omega arith), same_mode 1 flags)
+law_flags state.Dirty flags low = (within 2 flags (omega arith) low, number_again 2 flags (omega arith), same_mode 2 flags)
+law_flags state.Stale flags low = (within 3 flags (omega arith) low, number_again 3 flags (omega arith), same_mode 3 flags)
+
+-- a device with a cache is clean or dirty, and never stale
+pub not_stale : (state : BackingState) (flags : ℕ) → IsCached state
+    → state_number (flags_with (number_of state) flags) ≢ 3
+not_stale state.None flags cached = absurd cached
+not_stale state.Clean flags cached = let is = number_again 1 flags (omega arith) in λ three. absurd (omega arith)
+not_stale state.Dirty flags cached = let is = number_again 2 flags (omega arith) in λ three. absurd (omega arith)
+not_stale state.Stale flags cached = absurd cached
+
+pub law_usable : LawUsable
+law_usable sectors s state cached usable = record {
+  version = usable.version;
+  fixed = usable.fixed;
+  data_offset = usable.data_offset;
+  state = not_stale state s.flags cached;
+}
