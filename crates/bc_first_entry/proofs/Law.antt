@@ -1,5 +1,5 @@
 -- The laws on an opening's entry.
-use Rattle.std.proofs.Common.{◌≡◌, inl, ℕ, ◌+◌, ◌<◌, ◌≤◌, Bool, true, false, ◌||◌, List, [], ◌∷◌, length, Option, Some, None, refl, sym, ap, ◌∙◌, subst, arith, if◌then◌else◌}
+use Rattle.std.proofs.Common.{◌≡◌, inl, ℕ, ◌+◌, ◌<◌, ◌≤◌, Bool, true, false, ◌||◌, List, [], ◌∷◌, length, ◌++◌, Option, Some, None, refl, sym, ap, ◌∙◌, subst, arith, if◌then◌else◌}
 use Rattle.std.specs.Prelude.{IfSome, Vec}
 use Rattle.std.specs.declared.alloc.Global.{Global}
 use Rattle.bc_model.specs.Sector.{Value, at_run}
@@ -27,8 +27,8 @@ use Rattle.bc_events.specs.Run as core
 use Rattle.bc_events.specs.Run.{CanDo}
 use Rattle.bc_events.specs.declared.event.Deed.{Deed}
 use Rattle.bc_events.specs.declared.event.Deed.TheVariants as deed
-use Rattle.bc_first_entry.specs.Entry.{FirstEntry, bucket_for, place_for, entry_for, CanFirst, seal_of, write_of, by_first, first_deeds, failed_barrier, failed_write, EachStopped}
-use Rattle.bc_first_entry.specs.Laws.{IsReady, LawFirst, LawStopped, LawQuiet}
+use Rattle.bc_first_entry.specs.Entry.{Entering, FirstEntry, begin_acts, entering, entering_acts, bucket_for, place_for, entry_for, CanFirst, seal_of, write_of, by_first, first_deeds, failed_barrier, failed_write, EachStopped}
+use Rattle.bc_first_entry.specs.Laws.{IsReady, LawEnters, LawFirst, LawStopped, LawQuiet}
 
 -- a place that metadata may be written to
 pub record IsFree (w : whole.Opening) (k : book.Books) (t : ℕ) : Type 0 where
@@ -37,13 +37,13 @@ pub record IsFree (w : whole.Opening) (k : book.Books) (t : ℕ) : Type 0 where
   pub fixed : w.flow.books.fixed (w.flow.books.bucket t) ≡ true
 
 -- what the entry finds, once its bucket is begun
-pub record IsBefore (w : whole.Opening) (x : parts.State) (p : FirstEntry)
+pub record IsBefore (w : whole.Opening) (x : parts.State) (p : Entering)
     (st : State) : Type 0 where
   pub running : st.whole.flow.halted ≡ false
   pub none_waits : st.whole.flow.books.journal.waiting ≡ false
-  pub seal : CanSealNext st.whole.parts w.store.newest.last_seq
-  pub entry : same_root st.whole.parts.records w.store.newest.last_seq
-      st.whole.parts.records.newest.prio p.rest.items ≡ entry_for w x p
+  pub seal : CanSealNext st.whole.parts p.last_seq
+  pub entry : same_root st.whole.parts.records p.last_seq
+      st.whole.parts.records.newest.prio p.rest ≡ entry_for w x p
   pub place : st.whole.store.places.ring_next st.whole.store.places.records.bucket
       ≡ place_for w p.begun
   pub bucket : st.whole.store.places.records.bucket ≡ bucket_for w p.begun
@@ -51,13 +51,10 @@ pub record IsBefore (w : whole.Opening) (x : parts.State) (p : FirstEntry)
       → t < place_for w p.begun + entry_len w.layout (entry_for w x p)
       → IsFree w st.whole.flow.books t
 
-module _ (w : whole.Opening) (x : parts.State) (p : FirstEntry) (can : CanFirst w x p)
+module _ (w : whole.Opening) (x : parts.State) (p : Entering) (can : CanFirst w x p)
     (st : State) (h : IsBefore w x p st) where
-  low : ℕ
-  low = w.store.newest.last_seq
-
   abbrev s1 : State
-  s1 = after w st 0 (Seal w.store.newest.last_seq p.rest.items SameRoot SameChain)
+  s1 = after w st 0 (Seal p.last_seq p.rest SameRoot SameChain)
 
   abbrev s2 : State
   s2 = after w s1 0 CacheBarrier
@@ -68,7 +65,7 @@ module _ (w : whole.Opening) (x : parts.State) (p : FirstEntry) (can : CanFirst 
   abbrev s4 : State
   s4 = after w s3 0 CacheBarrier
 
-  pub seals : IsEnabled w st 0 (Seal w.store.newest.last_seq p.rest.items SameRoot SameChain)
+  pub seals : IsEnabled w st 0 (Seal p.last_seq p.rest SameRoot SameChain)
   seals = record {
     data_allows = (record { heard = h.running; steps = (h.none_waits, tt); can = tt }, tt);
     asks = (h.seal, tt);
@@ -203,9 +200,6 @@ module _ (w : whole.Opening) (x : parts.State) (n : ℕ) (sound : IsSound w x) w
   newest : x.records.newest ≡ w.store.newest
   newest = ap (λ (r : Records). r.newest) records
 
-  reaches : w.store.newest.last_seq ≤ w.store.newest.number
-  reaches = sound.whole.store.whole.sound.entries.down.1
-
   -- a place in a journal bucket
   free : (q t : ℕ) → q < w.layout.journal → w.layout.first q ≤ t
       → t < w.layout.first q + w.layout.bucket_sectors → IsFree w (book.opened w.flow.books) t
@@ -227,15 +221,16 @@ module _ (w : whole.Opening) (x : parts.State) (n : ℕ) (sound : IsSound w x) w
       is_fixed q in_ = by_bool (w.flow.books.fixed q) (λ c. c ≡ true) (λ _. refl)
           (λ off. let a = (sound.laid.area q off).0 in absurd (omega (arith, a, in_)))
 
-  can_seal : {p : FirstEntry} → CanFirst w x p → CanSealNext x w.store.newest.last_seq
+  can_seal : {p : Entering} → CanFirst w x p → CanSealNext x p.last_seq
   can_seal can =
       let low = ap (λ (e : Entry). e.last_seq) newest in
       let number = ap (λ (e : Entry). e.number) newest in
-      let most = reaches in
-      (idle, omega (arith, low), omega (arith, most, number), can.pending)
+      let from = can.from in
+      let to = can.to in
+      (idle, omega (arith, low, from), omega (arith, to, number), can.pending)
 
   -- the entry goes on in the bucket of the one before
-  pub goes_on : (p : FirstEntry) → CanFirst w x p → p.begun ≡ None → IsBefore w x p (start w x n)
+  pub goes_on : (p : Entering) → CanFirst w x p → p.begun ≡ None → IsBefore w x p (start w x n)
   goes_on p can is = record {
     running = refl;
     none_waits = refl;
@@ -256,7 +251,7 @@ module _ (w : whole.Opening) (x : parts.State) (n : ℕ) (sound : IsSound w x) w
   }
 
   -- it goes to the front of the next one, which holds older entries alone
-  pub begins : (b : ℕ) (p : FirstEntry) → CanFirst w x p → p.begun ≡ Some b
+  pub begins : (b : ℕ) (p : Entering) → CanFirst w x p → p.begun ≡ Some b
       → IsEnabled w (start w x n) 0 (BeginBucket b)
       × IsBefore w x p (after w (start w x n) 0 (BeginBucket b))
   begins b p can is = (
@@ -298,6 +293,25 @@ module _ (w : whole.Opening) (x : parts.State) (n : ℕ) (sound : IsSound w x) w
       older : (e : Entry) → In e (w.store.ring b) → e.number < w.store.newest.last_seq
       older = fits.1
 
+-- ---- acts
+
+pub law_enters : LawEnters
+law_enters w x n p sound can = go p.begun refl
+  where
+    then_ : (st : State) → IsBefore w x p st
+        → IsRun w st (core.by 0 (Seal p.last_seq p.rest SameRoot SameChain ∷ CacheBarrier
+        ∷ WriteCache OfEntry p.values ∷ []))
+    then_ st h = (seals w x p can st h, (settles w x p can st h, (writes w x p can st h, tt)))
+
+    go : (o : Option ℕ) → p.begun ≡ o → IsRun w (start w x n) (core.by 0 (entering_acts p))
+    go None is = subst (λ o. IsRun w (start w x n) (core.by 0 (begin_acts o
+        ++ (Seal p.last_seq p.rest SameRoot SameChain ∷ CacheBarrier ∷ WriteCache OfEntry p.values ∷ []))))
+        (sym is) (then_ (start w x n) (goes_on w x n sound p can is))
+    go (Some b) is = let a = begins w x n sound b p can is in
+        subst (λ o. IsRun w (start w x n) (core.by 0 (begin_acts o
+        ++ (Seal p.last_seq p.rest SameRoot SameChain ∷ CacheBarrier ∷ WriteCache OfEntry p.values ∷ []))))
+        (sym is) (a.0, then_ (after w (start w x n) 0 (BeginBucket b)) a.1)
+
 -- ---- deeds
 
 two : (b : Bool) → b ≡ true → b ≡ false → ⊥
@@ -317,25 +331,26 @@ can_do w st d acts cached course fit its_line = record {
 
 -- What is done behind the seal, in a state in which the entry may be sealed.
 module _ (w : core.Opening) (x : parts.State) (p : FirstEntry) (cached : w.machine.flow.plain ≡ false)
-    (can : CanFirst w.machine x p) (st : core.State) (h : IsBefore w.machine x p st.machine) where
+    (can : CanFirst w.machine x (entering p)) (st : core.State)
+    (h : IsBefore w.machine x (entering p) st.machine) where
   abbrev m : whole.Opening
   m = w.machine
 
   abbrev t1 : core.State
-  t1 = record { machine = after m st.machine 0 (Seal m.store.newest.last_seq p.rest.items SameRoot SameChain); line = st.line }
+  t1 = record { machine = after m st.machine 0 (Seal p.last_seq p.rest.items SameRoot SameChain); line = st.line }
 
   pub behind : core.IsRun w t1 (by_first (deed.CacheBarrier ∷ write_of w p ∷ deed.CacheBarrier ∷ deed.Sealed ∷ []))
   behind = (
-    can_do w t1 deed.CacheBarrier (CacheBarrier ∷ []) cached (settles m x p can st.machine h, tt) tt tt,
+    can_do w t1 deed.CacheBarrier (CacheBarrier ∷ []) cached (settles m x (entering p) can st.machine h, tt) tt tt,
     (
       can_do w _ (write_of w p) (WriteCache OfEntry p.values ∷ []) cached
-          (writes m x p can st.machine h, tt) (at m x p can st.machine h) tt,
+          (writes m x (entering p) can st.machine h, tt) (at m x (entering p) can st.machine h) tt,
       (
         can_do w _ deed.CacheBarrier (CacheBarrier ∷ []) cached
-            (settles_again m x p can st.machine h, tt) tt tt,
+            (settles_again m x (entering p) can st.machine h, tt) tt tt,
         (
           can_do w _ deed.Sealed (MakeDurable ∷ []) cached
-              (is_durable m x p can st.machine h, tt) tt tt,
+              (is_durable m x (entering p) can st.machine h, tt) tt tt,
           tt,
         ),
       ),
@@ -348,27 +363,27 @@ module _ (w : core.Opening) (x : parts.State) (p : FirstEntry) (cached : w.machi
   behind_stopped = (
     (
       can_do w t1 failed_barrier (Alone (flow.Fail flow.BarrierFault) ∷ []) cached
-          (fails_to_settle m x p can st.machine h, tt) tt tt,
+          (fails_to_settle m x (entering p) can st.machine h, tt) tt tt,
       tt,
     ),
     (
       can_do w t1 deed.CacheBarrier (CacheBarrier ∷ []) cached
-          (settles m x p can st.machine h, tt) tt tt,
+          (settles m x (entering p) can st.machine h, tt) tt tt,
       (
         can_do w _ (failed_write w p) (FailCache OfEntry p.values ∷ []) cached
-            (fails_to_write m x p can st.machine h, tt) (at m x p can st.machine h) tt,
+            (fails_to_write m x (entering p) can st.machine h, tt) (at m x (entering p) can st.machine h) tt,
         tt,
       ),
     ),
     (
       can_do w t1 deed.CacheBarrier (CacheBarrier ∷ []) cached
-          (settles m x p can st.machine h, tt) tt tt,
+          (settles m x (entering p) can st.machine h, tt) tt tt,
       (
         can_do w _ (write_of w p) (WriteCache OfEntry p.values ∷ []) cached
-            (writes m x p can st.machine h, tt) (at m x p can st.machine h) tt,
+            (writes m x (entering p) can st.machine h, tt) (at m x (entering p) can st.machine h) tt,
         (
           can_do w _ failed_barrier (Alone (flow.Fail flow.BarrierFault) ∷ []) cached
-              (fails_again m x p can st.machine h, tt) tt tt,
+              (fails_again m x (entering p) can st.machine h, tt) tt tt,
           tt,
         ),
       ),
@@ -377,9 +392,9 @@ module _ (w : core.Opening) (x : parts.State) (p : FirstEntry) (cached : w.machi
 
 -- ---- by whether a bucket is begun
 
-module _ (w : core.Opening) (x : parts.State) (n : ℕ) (rest : Vec ℕ Global) (values : List Value) where
+module _ (w : core.Opening) (x : parts.State) (n low : ℕ) (rest : Vec ℕ Global) (values : List Value) where
   abbrev entry : Option ℕ → FirstEntry
-  entry o = record { begun = o; rest = rest; values = values }
+  entry o = record { last_seq = low; begun = o; rest = rest; values = values }
 
   -- the seal, and what may follow it
   all_of : (o : Option ℕ) → IsReady w x (entry o)
@@ -388,10 +403,10 @@ module _ (w : core.Opening) (x : parts.State) (n : ℕ) (rest : Vec ℕ Global) 
   all_of None h =
       let p = entry None in
       let st = core.start w x n in
-      let b = goes_on w.machine x n h.sound p h.can refl in
+      let b = goes_on w.machine x n h.sound (entering p) h.can refl in
       let seal = can_do w st (seal_of w p)
-      (Seal w.machine.store.newest.last_seq rest.items SameRoot SameChain ∷ []) h.cached
-      (seals w.machine x p h.can st.machine b, tt) tt tt in
+      (Seal low rest.items SameRoot SameChain ∷ []) h.cached
+      (seals w.machine x (entering p) h.can st.machine b, tt) tt tt in
       let next = behind w x p h.cached h.can st b in
       let stops = behind_stopped w x p h.cached h.can st b in (
         (seal, next),
@@ -404,11 +419,11 @@ module _ (w : core.Opening) (x : parts.State) (n : ℕ) (rest : Vec ℕ Global) 
   all_of (Some q) h =
       let p = entry (Some q) in
       let st = core.start w x n in
-      let a = begins w.machine x n h.sound q p h.can refl in
+      let a = begins w.machine x n h.sound q (entering p) h.can refl in
       let begun : core.State = record { machine = after w.machine st.machine 0 (BeginBucket q); line = st.line } in
       let seal = can_do w st (seal_of w p) (BeginBucket q
-      ∷ Seal w.machine.store.newest.last_seq rest.items SameRoot SameChain ∷ []) h.cached
-      (a.0, (seals w.machine x p h.can begun.machine a.1, tt)) tt tt in
+      ∷ Seal low rest.items SameRoot SameChain ∷ []) h.cached
+      (a.0, (seals w.machine x (entering p) h.can begun.machine a.1, tt)) tt tt in
       let next = behind w x p h.cached h.can begun a.1 in
       let stops = behind_stopped w x p h.cached h.can begun a.1 in (
         (seal, next),
@@ -427,10 +442,10 @@ module _ (w : core.Opening) (x : parts.State) (n : ℕ) (rest : Vec ℕ Global) 
       (refl, record { at_first_barrier = refl; at_write = refl; at_second_barrier = refl })
 
 pub law_first : LawFirst
-law_first w x n p h = (all_of w x n p.rest p.values p.begun h).0
+law_first w x n p h = (all_of w x n p.last_seq p.rest p.values p.begun h).0
 
 pub law_stopped : LawStopped
-law_stopped w x n p h = (all_of w x n p.rest p.values p.begun h).1
+law_stopped w x n p h = (all_of w x n p.last_seq p.rest p.values p.begun h).1
 
 pub law_quiet : LawQuiet
-law_quiet w x n p = quiet w x n p.rest p.values p.begun
+law_quiet w x n p = quiet w x n p.last_seq p.rest p.values p.begun
