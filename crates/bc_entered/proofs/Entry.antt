@@ -17,7 +17,7 @@ use Rattle.bc_leaves.specs.Parts.{AllFrom, NoNode, Pending}
 use Rattle.bc_leaves.specs.Parts as parts
 use Rattle.bc_image.specs.Pair.{Pair}
 use Rattle.bc_image.specs.Reading.{Reading, View}
-use Rattle.bc_image.specs.Tree.{IsWalk, Node}
+use Rattle.bc_image.specs.Tree.{IsWalk, Node, node_of}
 use Rattle.bc_facts.specs.Layout.{IsLayoutOf}
 use Rattle.bc_facts.specs.Reads.{back}
 use Rattle.bc_facts.specs.Seen as seen
@@ -50,10 +50,10 @@ was_read g es e i = seen_in (λ f. seen_entry g f.item) es e
 -- the first node that a walk meets
 pub root_in : (g : Geometry) (image : Image) (l from : ℕ) (key : Key) (nodes : List Node)
     → IsWalk g image l from key nodes → (n : Node) × In n nodes × (n.key ≡ key)
-root_in g image zero from key nodes walk =
-    (_, subst (λ (ns : List Node). In _ ns) (sym walk.2) (inl refl), refl)
-root_in g image (suc l) from key nodes walk =
-    (_, subst (λ (ns : List Node). In _ ns) (sym walk.4) (inl refl), refl)
+root_in g image zero from key nodes walk = let n = node_of zero from key walk.0 in
+    (n, subst (λ (ns : List Node). In n ns) (sym walk.2) (inl refl), refl)
+root_in g image (suc l) from key nodes walk = let n = node_of (suc l) from key walk.0 in
+    (n, subst (λ (ns : List Node). In n ns) (sym walk.4) (inl refl), refl)
 
 module _ (p : Pair) (v : View) (layout : Layout) (c : Choices) (w : whole.Opening) (x : parts.State)
     (o : IsOpenedAs p v layout c w x) (e : JEntry) (b at : ℕ) (values : List Value)

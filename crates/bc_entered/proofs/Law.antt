@@ -55,7 +55,7 @@ use Rattle.bc_first_entry.proofs.Law.{law_enters}
 use Rattle.bc_state.specs.State.{IsCached, view_in, with_sector}
 use Rattle.bc_state.proofs.State.{law_state}
 use Rattle.bc_entered.specs.Entry.{IsBehind, IsEntryAt, IsInFront, IsOpeningEntry}
-use Rattle.bc_entered.specs.Laws.{IsEntered, IsLeft, IsMarked, LawEntered, LawLeft, ShowsTheSame}
+use Rattle.bc_entered.specs.Laws.{IsEntered, IsLeft, IsMarked, IsSameImage, LawEntered, LawLeft, ShowsTheSame}
 use Rattle.bc_entered.proofs.Entry.{can_behind, can_front, entering, entry_is, root_in, same_bucket, same_front, same_place, was_read}
 use Rattle.bc_entered.proofs.Since.{AreNeeded, since, since_from, since_replays}
 
@@ -72,10 +72,10 @@ to_cell (Some v) old new (inr is) = let same : v ≡ new = cc in inl (sym same)
 
 from_cell : (o : Option Value) (old new : Value) → Among new (besides o (old ∷ [])) → Cell o old new
 from_cell None old new (inl is) = inl is
-from_cell None old new (inr no) = absurd no
+from_cell None old new (inr n) = absurd n
 from_cell (Some v) old new (inl is) = inr (ap Some (sym is))
 from_cell (Some v) old new (inr (inl is)) = inl is
-from_cell (Some v) old new (inr (inr no)) = absurd no
+from_cell (Some v) old new (inr (inr n)) = absurd n
 
 to_leave : (at : ℕ) (values : List Value) (old left : Image) → Torn at values old left
     → MayLeave (written at values (settled (quiet old))) left
@@ -292,23 +292,25 @@ law_entered p v e b at values view sound is =
       opening = opened.2;
       sound = opened.3;
     } in
-    let needed = λ i. since_from e.last_seq (chosen.0.pending i) in
+    let needed : (i : ℕ) → parts.AllFrom e.last_seq (c.pending i) =
+    λ i. since_from e.last_seq (chosen.0.pending i) in
     elim is.place.place [
       inl h ↦ enters_behind p v (made g) c opened.0 opened.1 o may e b at values is needed h
     | inr h ↦ enters_front p v (made g) c opened.0 opened.1 o may e b at values is needed h
     ]
 
 pub law_left : LawLeft
-law_left p v e b at values view sound is left h = elim h.backing [
-  inl same ↦ law_entered p v e b at values view sound is left (record {
-    cache = h.cache;
-    backing = same;
-    cache_sectors = h.cache_sectors;
-    backing_sectors = h.backing_sectors;
-  })
-| inr m ↦ marked m
-]
+law_left p v e b at values view sound is left h =
+    elim h.backing [ inl same ↦ as_it_was same | inr m ↦ marked m ]
   where
+    as_it_was : IsSameImage p.backing left.backing → ShowsTheSame p v left
+    as_it_was same = law_entered p v e b at values view sound is left (record {
+      cache = h.cache;
+      backing = same;
+      cache_sectors = h.cache_sectors;
+      backing_sectors = h.backing_sectors;
+    })
+
     marked : IsMarked p v left.backing → ShowsTheSame p v left
     marked m =
         let same = law_state p v m.state m.bytes m.cached view sound m.sector in

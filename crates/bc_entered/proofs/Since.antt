@@ -21,21 +21,17 @@ since_in : (low : ℕ) (xs : List Pending) (y : Pending) → In y (since low xs)
 since_in low [] y i = i
 since_in low (x ∷ xs) y i = by_le low x.number
     (λ b. In y (if b then x ∷ since low xs else since low xs) → In y (x ∷ xs))
-    (λ le i. go i) (λ lt i. inr (since_in low xs y i)) i
-  where
-    go : In y (x ∷ since low xs) → In y (x ∷ xs)
-    go (inl e) = inl e
-    go (inr i) = inr (since_in low xs y i)
+    (λ le i. elim i [ inl e ↦ inl e | inr j ↦ inr (since_in low xs y j) ])
+    (λ lt i. inr (since_in low xs y i)) i
 
 pub since_from : (low : ℕ) (xs : List Pending) → AllFrom low (since low xs)
 since_from low [] y i = absurd i
 since_from low (x ∷ xs) y i = by_le low x.number
     (λ b. In y (if b then x ∷ since low xs else since low xs) → low ≤ y.number)
-    (λ le i. go le i) (λ lt i. since_from low xs y i) i
-  where
-    go : low ≤ x.number → In y (x ∷ since low xs) → low ≤ y.number
-    go le (inl e) = let same = ap (λ (z : Pending). z.number) e in omega (arith, le, same)
-    go le (inr i) = since_from low xs y i
+    (λ le i. elim i [
+      inl e ↦ (let same = ap (λ (z : Pending). z.number) e in omega (arith, le, same))
+    | inr j ↦ since_from low xs y j
+    ]) (λ lt i. since_from low xs y i) i
 
 lower : (n m : ℕ) (xs : List Pending) → n ≤ m → Ordered n xs → Ordered m xs
 lower n m [] le o = tt
