@@ -200,9 +200,9 @@ module _ (p : Pair) (v : View) (layout : Layout) (c : Choices) (w : whole.Openin
         elim (is.no_torn image k q f
         (subst (λ i. Torn at values i image) same
         (subst (λ n. Torn n values w.store.image image) same_p torn)) lt block whole) [
-          inl there ↦ inl (subst (λ (i : Image). IsWhole (entry_kind g) i (bucket_end g k) q f)
+          | inl there ↦ inl (subst (λ (i : Image). IsWhole (entry_kind g) i (bucket_end g k) q f)
               (sym same) there)
-        | inr one ↦ inr (subst (λ (l : List (ℕ × ℕ × Entry)). Wrote l k q (seen_entry g f)) (sym log)
+          | inr one ↦ inr (subst (λ (l : List (ℕ × ℕ × Entry)). Wrote l k q (seen_entry g f)) (sym log)
               (wrote bucket here entry same_b same_p same_e k q f one))
         ];
     sets = λ image q left mine. absurd (no_true (ap (λ (f : ℕ → Bool). f q) (sym own) ∙ mine));
@@ -295,8 +295,8 @@ law_entered p v e b at values view sound is =
     let needed : (i : ℕ) → parts.AllFrom e.last_seq (c.pending i) =
     λ i. since_from e.last_seq (chosen.0.pending i) in
     elim is.place.place [
-      inl h ↦ enters_behind p v (made g) c opened.0 opened.1 o may e b at values is needed h
-    | inr h ↦ enters_front p v (made g) c opened.0 opened.1 o may e b at values is needed h
+      | inl h ↦ enters_behind p v (made g) c opened.0 opened.1 o may e b at values is needed h
+      | inr h ↦ enters_front p v (made g) c opened.0 opened.1 o may e b at values is needed h
     ]
 
 pub law_left : LawLeft

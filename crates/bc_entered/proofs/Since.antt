@@ -29,8 +29,8 @@ since_from low [] y i = absurd i
 since_from low (x ∷ xs) y i = by_le low x.number
     (λ b. In y (if b then x ∷ since low xs else since low xs) → low ≤ y.number)
     (λ le i. elim i [
-      inl e ↦ (let same = ap (λ (z : Pending). z.number) e in omega (arith, le, same))
-    | inr j ↦ since_from low xs y j
+      | inl e ↦ (let same = ap (λ (z : Pending). z.number) e in omega (arith, le, same))
+      | inr j ↦ since_from low xs y j
     ]) (λ lt i. since_from low xs y i) i
 
 lower : (n m : ℕ) (xs : List Pending) → n ≤ m → Ordered n xs → Ordered m xs

@@ -10,6 +10,7 @@ use bc_super::state::BackingState;
 
 /// The place of the lower bit of the state in the flags, and that behind the upper one.
 const STATE: u64 = 1 << 61;
+
 const BEHIND: u64 = 1 << 63;
 
 /// The number that names a state.
