@@ -85,7 +85,9 @@ module _ (p : Pair) (v : View) (layout : Layout) (c : Choices) (w : whole.Openin
   pub entry_is : (begun : Option ℕ) → entry_for w x (entering begun) ≡ seen_entry g e
   entry_is begun =
       let n = before in
-      let number : suc x.records.newest.number ≡ e.seq = let here = ap (λ (z : Entry). z.number) n in let next = is.entry.number in omega (arith, here, next) in
+      let here = ap (λ (z : Entry). z.number) n in
+      let next = is.entry.number in
+      let number : suc x.records.newest.number ≡ e.seq = omega (arith, here, next) in
       let root = ap (λ (z : Entry). z.root) n ∙ ap (seen.bucket_of g) (sym is.entry.root) in
       let word = ap (λ (z : Entry). z.word) n ∙ ap word_of (sym is.entry.root) in
       let level = ap (λ (z : Entry). z.level) n ∙ sym is.entry.level in
@@ -112,7 +114,8 @@ module _ (p : Pair) (v : View) (layout : Layout) (c : Choices) (w : whole.Openin
   long begun = w.layout.entries.long tt values (entry_for w x (entering begun)) (spelled begun)
 
   low : w.store.newest.last_seq ≤ e.last_seq
-  low = let same = ap (λ (z : Entry). z.last_seq) newest_is in let from = is.entry.from in omega (arith, same, from)
+  low = let same = ap (λ (z : Entry). z.last_seq) newest_is in
+      let from = is.entry.from in omega (arith, same, from)
 
   high : e.last_seq ≤ w.store.newest.number + 1
   high = let same = ap (λ (z : Entry). z.number) newest_is in
@@ -128,9 +131,10 @@ module _ (p : Pair) (v : View) (layout : Layout) (c : Choices) (w : whole.Openin
 
   -- ---- behind the last entry
 
-  module _ (h : IsBehind v.geometry v.reading b at) where
+  module _ (h : IsBehind v.geometry v.reading.entries v.reading.newest b at) where
     pub same_bucket : w.store.bucket ≡ b
-    same_bucket = let here = o.opening.store.opens.bucket in let there = h.bucket in omega (arith, here, there)
+    same_bucket = let here = o.opening.store.opens.bucket in
+        let there = h.bucket in omega (arith, here, there)
 
     pub same_place : w.store.ring_next w.store.bucket ≡ at
     same_place = one_next g r.entries r.newest (w.store.ring_next w.store.bucket) at
@@ -154,15 +158,16 @@ module _ (p : Pair) (v : View) (layout : Layout) (c : Choices) (w : whole.Openin
 
   -- ---- in front of a bucket
 
-  module _ (h : IsInFront v.geometry p.cache v.reading b at) where
+  module _ (h : IsInFront v.geometry is.all v.reading.newest b at) where
     pub same_front : w.layout.first b ≡ at
     same_front = lay.first b ∙ sym h.first
 
     older : (z : Entry) → In z (w.store.ring b) → z.number < w.store.newest.last_seq
     older z i =
-        let f = law_ring p v layout c w x o.is_layout o.opening o.sound h.all h.stand b is.place.journal z i in
+        let f = law_ring p v layout c w x o.is_layout o.opening o.sound is.all is.stand b
+        is.place.journal z i in
         let less = all_in (λ (f : FoundEntry). bucket_of g f ≡ g.first_bucket + b
-        → f.item.seq < r.newest.item.last_seq) h.all f.0 h.free f.1 f.2 in
+        → f.item.seq < r.newest.item.last_seq) is.all f.0 h.free f.1 f.2 in
         let number = ap (λ (y : Entry). y.number) f.3 in
         let same = ap (λ (y : Entry). y.last_seq) newest_is in
         omega (arith, less, number, same)
@@ -171,7 +176,10 @@ module _ (p : Pair) (v : View) (layout : Layout) (c : Choices) (w : whole.Openin
     can_front = record {
       from = low;
       to = high;
-      begun = (let here = is.place.journal in let same = lay.journal in omega (arith, here, same), older);
+      begun = (
+        let here = is.place.journal in let same = lay.journal in omega (arith, here, same),
+        older,
+      );
       pending = pending;
       spelled = spelled (Some b);
       inside =

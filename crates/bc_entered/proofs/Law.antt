@@ -220,7 +220,7 @@ module _ (p : Pair) (v : View) (layout : Layout) (c : Choices) (w : whole.Openin
       → MayLeave (quiet w.flow.backing) image
   backing_left image same s = inl (same s ∙ sym (o.opening.devices.backing s))
 
-  enters_behind : IsBehind v.geometry v.reading b at → Enters None
+  enters_behind : IsBehind v.geometry v.reading.entries v.reading.newest b at → Enters None
   enters_behind h =
       let place = same_place p v layout c w x o e b at values is needed h in
       shows None (law_enters w x 0 (entering p v layout c w x o e b at values is needed None) o.sound
@@ -237,7 +237,7 @@ module _ (p : Pair) (v : View) (layout : Layout) (c : Choices) (w : whole.Openin
   put_here f k y = by_test k k (λ t. (if t then y else f k) ≡ y) (λ e. refl)
       (λ ne. absurd (ne refl))
 
-  enters_front : IsInFront v.geometry p.cache v.reading b at → Enters (Some b)
+  enters_front : IsInFront v.geometry is.all v.reading.newest b at → Enters (Some b)
   enters_front h =
       let here = if b == b then w.layout.first b else w.store.ring_next b in
       let place = put_here w.store.ring_next b (w.layout.first b)
@@ -253,7 +253,8 @@ module _ (p : Pair) (v : View) (layout : Layout) (c : Choices) (w : whole.Openin
 
 -- ---- of each sound pair
 
-needed_of : (g : Geometry) (r : Reading) (e : JEntry) (older : List Entry) → IsOpeningEntry r e
+needed_of : (g : Geometry) (r : Reading) (e : JEntry) (older : List Entry)
+    → IsOpeningEntry r.entries r.newest e
     → seen_entries g r.entries ≡ seen_entry g r.newest.item ∷ older
     → AreNeeded e.last_seq (seen_entry g r.newest.item ∷ older)
 needed_of g r e older is entries z i some =

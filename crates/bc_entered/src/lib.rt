@@ -5,8 +5,8 @@
 //! journal, and the backing device says that its cache may have what it lacks. A power cut may come
 //! on the way: the entry is there in part, the backing device says the one state or the other. The
 //! laws here say of two images, whatever of the entry and of the state they have, that they are a
-//! sound pair which shows what the pair showed. So a program that does no more than these two writes,
-//! in whatever order and however far it gets, loses nothing.
+//! sound pair which shows what the pair showed. So a program that does no more than these two
+//! writes, in whatever order and however far it gets, loses nothing.
 //!
 //! Read `specs/` in this order: Entry, Laws.
 #![tactic(auto)]

@@ -32,7 +32,8 @@ sector_whole : (v : Value) → length v ≡ 512 → sector_bytes v ≡ v
 sector_whole v whole = subst (λ n. take n (v ++ replicate 512 0) ≡ v) whole
     (take-append_seam v (replicate 512 0))
 
-front : (image : Image) (v : Value) → image 8 ≡ v → length v ≡ 512 → take 512 (super_bytes image) ≡ v
+front : (image : Image) (v : Value) → image 8 ≡ v → length v ≡ 512
+    → take 512 (super_bytes image) ≡ v
 unfolding bytes_in
 front image v is whole =
     ap (λ x. take 512 (x ++ bytes_in image 9 4)) (ap sector_bytes is ∙ sector_whole v whole)
@@ -52,7 +53,8 @@ behind offset s bytes old far = by_test (offset + s) 8 (λ b. (if b then bytes e
     (λ is. absurd (omega arith)) (λ no. refl)
 
 module _ (p : Pair) (v : View) (state : BackingState) (bytes : Value) (cached : IsCached state)
-    (is : IsView p v) (parts : HasSoundParts p v) (sector : IsBackingSector bytes (super_in state v.backing)) where
+    (is : IsView p v) (parts : HasSoundParts p v)
+    (sector : IsBackingSector bytes (super_in state v.backing)) where
   usable : IsUsable p.backing_sectors (super_in state v.backing)
   usable = law_usable p.backing_sectors v.backing state cached is.backing.1.usable
 
@@ -100,7 +102,8 @@ module _ (p : Pair) (v : View) (state : BackingState) (bytes : Value) (cached : 
   }
 
   shows : (s : ℕ) → shown_by (with_sector p bytes) (view_in state v) s ≡ shown_by p v s
-  shows s = ap (λ x. value_by v.geometry v.reading.gens p.cache (key_of v.reading s) s x) (data_same s)
+  shows s = ap (λ x. value_by v.geometry v.reading.gens p.cache (key_of v.reading s) s x)
+      (data_same s)
 
 pub law_state : LawState
 law_state p v state bytes cached is parts sector = record {

@@ -46,8 +46,10 @@ pub fn write_state<D: Disk>(
 ) -> Result<(), Failed>
     requires usable { IsUsable (D.facts disk.old).sectors s.now }
     requires cached { IsCached state }
-    ensures ok { OnOk result (IsBackingStored (super_in state s.now) (D.facts disk.old) (D.facts disk.new)) }
-    ensures failed { OnErr result (IsBackingTorn (super_in state s.now) (D.facts disk.old) (D.facts disk.new)) }
+    ensures ok { OnOk result
+        (IsBackingStored (super_in state s.now) (D.facts disk.old) (D.facts disk.new)) }
+    ensures failed { OnErr result
+        (IsBackingTorn (super_in state s.now) (D.facts disk.old) (D.facts disk.new)) }
     ensures counted { AreCounted 2 result (D.facts disk.old) (D.facts disk.new) }
 {
     write_backing(disk, &in_state(s, state))
