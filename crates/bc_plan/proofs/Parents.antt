@@ -6,13 +6,15 @@ use Rattle.bc_inner.specs.Inner.{CoverRange, Inner}
 use Rattle.bc_key.specs.declared.key.Key.{Key}
 use Rattle.bc_plan.specs.Parent.{TakesBy, TakesSet}
 use Rattle.bc_tree.specs.Append.{HasBelowMore, HasMoreIf, HasRootMore}
-use Rattle.bc_tree.specs.Next.{leaves_next, node_next, nodes_next, root_next}
+use Rattle.bc_tree.specs.Group.{CanStand}
+use Rattle.bc_tree.specs.Next.{below_next, leaves_next, node_next, nodes_next, root_next}
 use Rattle.bc_tree.specs.Plan.{CanTake, Fits}
 use Rattle.bc_tree.specs.Same.{SameShape, SameShapes}
 use Rattle.bc_tree.specs.Spine.{Spine, bottom}
 use Rattle.bc_tree.specs.declared.change.NodeChange.{NodeChange}
 use Rattle.bc_tree.specs.declared.change.NodeChange.TheVariants.{Move, Set}
 use Rattle.bc_tree.specs.declared.plan.Plan.{Plan}
+use Rattle.bc_plan.proofs.Writes.{beside_shape}
 use Rattle.bc_tree.proofs.Appends.{more_shape}
 use Rattle.bc_tree.proofs.Same.{same_shape, same_shapes, shape_set, spine_shape}
 
@@ -111,8 +113,9 @@ root_fits_more r keys s t plan has f = subst (λ (v : Spine). Fits v plan) (sym 
           takes = takes_shape f.node at.0 plan.bottom at.2 at.3 f.takes;
           root_takes = some_takes s.root t.root plan.top same spare f.root_takes;
           alone = f.alone;
-          tree = spine_shape s.geometry (root_next s.root s.below plan.bottom plan.top) (root_next t.root s.below plan.bottom plan.top) (nodes_next s.below plan.place plan.bottom) (nodes_next s.below plan.place plan.bottom)
-              (leaves_next s.leaves plan.leaves) roots (same_shapes (nodes_next s.below plan.place plan.bottom)) f.tree;
+          stands = f.stands;
+          tree = spine_shape s.geometry (root_next s.root s.below plan.bottom plan.top) (root_next t.root s.below plan.bottom plan.top) (below_next s.below plan.place plan.bottom plan.beside) (below_next s.below plan.place plan.bottom plan.beside)
+              (leaves_next s.leaves plan.leaves) roots (same_shapes (below_next s.below plan.place plan.bottom plan.beside)) f.tree;
           end = roots.end ∙ f.end ∙ sym same.end;
         }
 
@@ -140,8 +143,10 @@ below_fits_more r place keys s t plan has f = subst (λ (v : Spine). Fits v plan
           takes = takes_shape f.node at.0 plan.bottom at.2 at.3 f.takes;
           root_takes = f.root_takes;
           alone = λ none. f.alone (sym same_bottom.2 ∙ none);
-          tree = spine_shape s.geometry (root_next s.root s.below plan.bottom plan.top) (root_next s.root below plan.bottom plan.top) (nodes_next s.below plan.place plan.bottom) (nodes_next below plan.place plan.bottom)
-              (leaves_next s.leaves plan.leaves) roots (nodes_shape s.below below plan.place plan.bottom (shape_set s.below place has.node has.next has.there same)) f.tree;
+          stands = subst (λ n. CanStand n s.room plan.place plan.beside) (sym same_bottom.2) f.stands;
+          tree = spine_shape s.geometry (root_next s.root s.below plan.bottom plan.top) (root_next s.root below plan.bottom plan.top) (below_next s.below plan.place plan.bottom plan.beside) (below_next below plan.place plan.bottom plan.beside)
+              (leaves_next s.leaves plan.leaves) roots
+              (beside_shape (nodes_next s.below plan.place plan.bottom) (nodes_next below plan.place plan.bottom) plan.place plan.beside (nodes_shape s.below below plan.place plan.bottom (shape_set s.below place has.node has.next has.there same))) f.tree;
           end = roots.end ∙ f.end;
         }
 

@@ -6,7 +6,7 @@ ghost use Rattle.bc_set.specs.Records.{set_sectors};
 ghost use Rattle.bc_set.specs.SetBytes.{bytes_of};
 ghost use Rattle.bc_tree.specs.Plan.{Fits};
 ghost use Rattle.bc_tree.specs.Spine.{Spine};
-ghost use Rattle.bc_plan.specs.Write.{CanWrite, FirstSet, HasFirstSet, HasMoved, HasNodeWritten, IsFirstWrite, IsUnwritten, IsUnwrittenInner, inner_set, leaf_set};
+ghost use Rattle.bc_plan.specs.Write.{CanWrite, FirstSet, HasFirstSet, HasMoved, HasNodeWritten, IsFirstWrite, IsUnwritten, IsUnwrittenInner, behind_of, inner_set, leaf_set, lowest_of, with_behind, with_lowest};
 ghost use Rattle.bc_tree.specs.declared.change.NodeChange.{NodeChange};
 ghost use Rattle.bc_tree.specs.declared.change.NodeChange.TheVariants as changes;
 
@@ -14,7 +14,7 @@ use bc_disk::disk::{Disk, Failed};
 use bc_disk::geometry::Geometry;
 use bc_inner::Inner;
 use bc_node::Leaf;
-use bc_tree::{NodeChange, Plan};
+use bc_tree::{Beside, NodeChange, Plan};
 
 /// A new node that a plan brings.
 #[derive(Clone, Copy, Debug, PartialEq, Eq)]
@@ -27,6 +27,10 @@ pub enum NewNode {
     Parent,
     /// The root, where it is another node and moves.
     Root,
+    /// The node behind the one that moves, where it is new: it comes, or moves too.
+    Behind,
+    /// The node of the lower sectors, where two come below a new root.
+    Lowest,
 }
 
 /// Writes the first set of a leaf that comes.
@@ -132,6 +136,57 @@ fn write_root<D: Disk>(
     }
 }
 
+/// Writes the first set of the node that comes behind another.
+fn write_behind<D: Disk>(
+    beside: &mut Beside,
+    disk: &mut D,
+    g: &Geometry,
+    buffer: &mut [u8],
+) -> Result<(), Failed>
+    requires unwritten { (node : Inner) × (behind_of beside.old ≡ Some node)
+        × IsUnwrittenInner g.now (D.facts disk.old).sectors node
+        × (bytes_of (children_set node) ≤ 512 * g.now.node_sectors) }
+    requires whole { length buffer.old ≡ 512 * g.now.node_sectors }
+    ensures node { (node : Inner) × (behind_of beside.old ≡ Some node) × IsFirstWrite g.now
+        (inner_set node) buffer.new (D.facts disk.old) (D.facts disk.new) result }
+    ensures written { OnOk result ((a : Inner) × (b : Inner) × (behind_of beside.old ≡ Some a)
+        × (beside.new ≡ with_behind beside.old b)
+        × HasTaken (set_sectors g.now (children_set a)) a b) }
+    ensures kept { OnErr result (beside.new ≡ beside.old) }
+{
+    match beside {
+        Beside::Comes(node) => write_inner(node, disk, g, buffer),
+        Beside::Moves(node) => write_inner(node, disk, g, buffer),
+        Beside::Under(_, node) => write_inner(node, disk, g, buffer),
+        Beside::Stays => Ok(()),
+        Beside::Goes => Ok(()),
+    }
+}
+
+/// Writes the first set of the lower one of two nodes that come below a new root.
+fn write_lowest<D: Disk>(
+    beside: &mut Beside,
+    disk: &mut D,
+    g: &Geometry,
+    buffer: &mut [u8],
+) -> Result<(), Failed>
+    requires unwritten { (node : Inner) × (lowest_of beside.old ≡ Some node)
+        × IsUnwrittenInner g.now (D.facts disk.old).sectors node
+        × (bytes_of (children_set node) ≤ 512 * g.now.node_sectors) }
+    requires whole { length buffer.old ≡ 512 * g.now.node_sectors }
+    ensures node { (node : Inner) × (lowest_of beside.old ≡ Some node) × IsFirstWrite g.now
+        (inner_set node) buffer.new (D.facts disk.old) (D.facts disk.new) result }
+    ensures written { OnOk result ((a : Inner) × (b : Inner) × (lowest_of beside.old ≡ Some a)
+        × (beside.new ≡ with_lowest beside.old b)
+        × HasTaken (set_sectors g.now (children_set a)) a b) }
+    ensures kept { OnErr result (beside.new ≡ beside.old) }
+{
+    if let Beside::Under(node, _) = beside {
+        return write_inner(node, disk, g, buffer);
+    }
+    Ok(())
+}
+
 /// Writes a new node of a plan: its first set, with zeros over the rest of the node. After `Failed`
 /// the plan is as it was. The buffer has what was written. Takes no memory.
 pub fn write_node<D: Disk>(
@@ -155,5 +210,7 @@ pub fn write_node<D: Disk>(
         NewNode::Second => write_second(&mut plan.second, disk, g, buffer),
         NewNode::Parent => write_moved(&mut plan.bottom, disk, g, buffer),
         NewNode::Root => write_root(&mut plan.top, disk, g, buffer),
+        NewNode::Behind => write_behind(&mut plan.beside, disk, g, buffer),
+        NewNode::Lowest => write_lowest(&mut plan.beside, disk, g, buffer),
     }
 }

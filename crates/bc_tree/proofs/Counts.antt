@@ -55,10 +55,10 @@ rewrite_places s sector place k is spine (n, (p, held, needed), count) =
 moves_of : (s : Spine) (node : Inner) (n : ℕ) (a b d : Bool) → has_room s.geometry node n ≡ a → (s.root.level == 1) ≡ b → has_room s.geometry s.root 3 ≡ d → moves s node n ≡ (if a then 0 else if b then 1 else if d then 1 else 2)
 moves_of s node n a b d one two three = rw (one, two, three) refl
 
-low_level : (root : Inner) (below : List Inner) → IsRootOf root below → below ≡ [] → (root.level == 1) ≡ true
+pub low_level : (root : Inner) (below : List Inner) → IsRootOf root below → below ≡ [] → (root.level == 1) ≡ true
 low_level root below is none = let level : root.level ≡ 1 = subst (λ (ns : List Inner). IsRootOf root ns) none is in eq-eqb root.level 1 level
 
-high_level : (root m : Inner) (nodes below : List Inner) → IsRootOf root below → below ≡ m ∷ nodes → (root.level == 1) ≡ false
+pub high_level : (root m : Inner) (nodes below : List Inner) → IsRootOf root below → below ≡ m ∷ nodes → (root.level == 1) ≡ false
 high_level root m nodes below is some =
     let level = (subst (λ (ns : List Inner). IsRootOf root ns) some is).0 in
     elim (eqb_tells root.level 1) [

@@ -16,6 +16,7 @@ use Rattle.bc_tree.specs.Next.{leaves_next, node_next, nodes_next, root_next}
 use Rattle.bc_tree.specs.Plan.{CanExchange, CanTake, Fits, HasRoomAt, IsAbove, IsTopChange}
 use Rattle.bc_tree.specs.Same.{IsSameTree, SameNode}
 use Rattle.bc_tree.specs.Spine.{IsSpine, Spine, bottom}
+use Rattle.bc_tree.specs.declared.beside.Beside.TheVariants.{Stays}
 use Rattle.bc_tree.specs.declared.change.NodeChange.{NodeChange}
 use Rattle.bc_tree.specs.declared.change.NodeChange.TheVariants.{Move, Set}
 use Rattle.bc_tree.specs.declared.place.LeafPlace.{LeafPlace}
@@ -48,7 +49,7 @@ pub fits_after : (s t : Spine) (e : Exchange) (first : Leaf) (second : Option Le
     → IsSpine s.geometry s.root s.below s.leaves → CanExchange s e place gone come → set_words gone come ≤ 8
     → slice_get (bottom s.root s.below) place.node ≡ Some node → IsAbove s node place.node place.child gone come to seq change top
     → IsSameTree s t → t.spare ≡ s.spare → HasRoomAt t place.node
-    → Fits t (record { leaves = e; first = first; second = second; place = place.node; bottom = change; top = top })
+    → Fits t (record { leaves = e; first = first; second = second; place = place.node; bottom = change; beside = Stays; top = top })
 fits_after s t e first second place gone come to seq node change top spine can few there above same spare room =
     let g = s.geometry in
     let can_node = subst (λ (n : Inner). CanChange g n place.child gone come) (same_there s place.node can.node node can.there there) can.can in
@@ -67,6 +68,7 @@ fits_after s t e first second place gone come to seq node change top spine can f
       takes = can_take g node got.0 place.child gone come to seq change can_node above.change_is got.2 (let four = room.1 got.0 got.1 in omega (arith, four, few_keys come, few));
       root_takes = top_takes g s.root t.root s.below s.leaves place.node node change to seq top spine there next.end same.root_is room.0 above.top_is;
       alone = λ none. no_top s.geometry s.root s.below place.node change to seq top above.top_is (omega (arith, none, long_same s.below t.below same.below_are));
+      stands = tt;
       tree = subst (λ (x : Geometry). IsSpine x (root_next t.root t.below change top) (nodes_next t.below place.node change) (leaves_next t.leaves e)) (sym same.geometry_is)
           (subst (λ (ls : List LeafRange). IsSpine g (root_next t.root t.below change top) (nodes_next t.below place.node change) (leaves_next ls e)) (sym same.leaves_are) tree_there);
       end = roots.node.end ∙ after.1 ∙ sym same.root_is.node.end;

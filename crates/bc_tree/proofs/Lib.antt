@@ -17,3 +17,8 @@ pub mod Moves
 pub mod Splits
 pub mod Joins
 pub mod Appends
+pub mod Groups
+pub mod Twos
+pub mod Besides
+pub mod Halved
+pub mod Halving

@@ -113,7 +113,7 @@ key_of key end ptr ends points one = record { end = ends; ptr = pointer_at key p
 pub above_kept : (s t : Spine) (place : LeafPlace) (gone : ℕ) (come : List Key) (to : List Ptr) (seq : ℕ) (plan : Plan) → IsSameButSpare s t → IsPlannedAbove t place gone come to seq plan → IsPlannedAbove s place gone come to seq plan
 above_kept s t place gone come to seq plan only is =
     let there = subst (λ (v : Spine). IsPlannedAbove v place gone come to seq plan) only is in
-    record { place_is = there.place_is; node = there.node; there = there.there; above = record { change_is = there.above.change_is; top_is = there.above.top_is }; moved = there.moved }
+    record { place_is = there.place_is; node = there.node; there = there.there; above = record { change_is = there.above.change_is; top_is = there.above.top_is }; beside_is = there.beside_is; moved = there.moved }
 
 pub move_planned : (s t : Spine) (e : Exchange) (first : Leaf) (place : LeafPlace) (key : Key) (to : List Ptr) (seq : ℕ) (ptr : Ptr) → IsSameButSpare s t → IsMovedLeaf t.leaves place.leaf ptr e → ptr ≡ first.ptr
     → IsKeyOf first.end first.ptr key → (plan : Plan) → IsPlanOf t (record { leaves = e; first = first; second = None }) place 1 (key ∷ []) to seq plan → IsMovePlan s place first to seq plan

@@ -123,7 +123,7 @@ long_same [] (y ∷ ys) same = absurd same
 long_same (x ∷ xs) [] same = absurd same
 long_same (x ∷ xs) (y ∷ ys) same = ap suc (long_same xs ys same.1)
 
-take_same : (n : ℕ) (xs ys : List Inner) → SameNodes xs ys → SameNodes (take n xs) (take n ys)
+pub take_same : (n : ℕ) (xs ys : List Inner) → SameNodes xs ys → SameNodes (take n xs) (take n ys)
 take_same zero xs ys same = tt
 take_same (suc n) [] [] same = tt
 take_same (suc n) [] (y ∷ ys) same = absurd same

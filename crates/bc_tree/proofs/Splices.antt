@@ -27,17 +27,17 @@ rise_append : (from : ℕ) (xs ys : List Key) → Rise from xs → Rise (last_en
 rise_append from [] ys one two = two
 rise_append from (x ∷ xs) ys one two = (one.0, one.1, rise_append x.end xs ys one.2 two)
 
-rise_take : (n from : ℕ) (xs : List Key) → Rise from xs → Rise from (take n xs)
+pub rise_take : (n from : ℕ) (xs : List Key) → Rise from xs → Rise from (take n xs)
 rise_take zero from xs rise = tt
 rise_take (suc n) from [] rise = tt
 rise_take (suc n) from (x ∷ xs) rise = (rise.0, rise.1, rise_take n x.end xs rise.2)
 
-rise_drop : (n from : ℕ) (xs : List Key) → Rise from xs → Rise (last_end from (take n xs)) (drop n xs)
+pub rise_drop : (n from : ℕ) (xs : List Key) → Rise from xs → Rise (last_end from (take n xs)) (drop n xs)
 rise_drop zero from xs rise = rise
 rise_drop (suc n) from [] rise = tt
 rise_drop (suc n) from (x ∷ xs) rise = rise_drop n x.end xs rise.2
 
-end_drop : (n from : ℕ) (xs : List Key) → last_end (last_end from (take n xs)) (drop n xs) ≡ last_end from xs
+pub end_drop : (n from : ℕ) (xs : List Key) → last_end (last_end from (take n xs)) (drop n xs) ≡ last_end from xs
 end_drop zero from xs = refl
 end_drop (suc n) from [] = refl
 end_drop (suc n) from (x ∷ xs) = end_drop n x.end xs
@@ -48,7 +48,7 @@ rise_above low from (x ∷ xs) less rise =
     let here = rise.0 in
     All-cons (λ (c : Key). low < c.end) x xs (omega arith) (rise_above low x.end xs (omega arith) rise.2)
 
-end_least : (from : ℕ) (xs : List Key) → Rise from xs → from ≤ last_end from xs
+pub end_least : (from : ℕ) (xs : List Key) → Rise from xs → from ≤ last_end from xs
 end_least from [] rise = omega arith
 end_least from (x ∷ xs) rise = omega (arith, rise.0, end_least x.end xs rise.2)
 

@@ -37,11 +37,11 @@ use Rattle.bc_tree.proofs.Splices.{can_replace}
 pub two_words : (low high : Key) → low.count ≡ 1 → high.count ≡ 1 → words (low ∷ high ∷ []) ≡ 6
 two_words low high one two = omega (arith, words_cons low (high ∷ []), words_cons high [], length-words_of low, length-words_of high, one, two)
 
-two_named : (low high : Key) (first other : LeafRange) (second : Option LeafRange) → second ≡ Some other → first.end ≡ low.end → first.ptr ≡ ptr_at low 0 → other.end ≡ high.end → other.ptr ≡ ptr_at high 0
+pub two_named : (low high : Key) (first other : LeafRange) (second : Option LeafRange) → second ≡ Some other → first.end ≡ low.end → first.ptr ≡ ptr_at low 0 → other.end ≡ high.end → other.ptr ≡ ptr_at high 0
     → NameLeaves (low ∷ high ∷ []) (first ∷ option_to_list second)
 two_named low high first other second is end ptr end2 ptr2 = subst (λ (o : Option LeafRange). NameLeaves (low ∷ high ∷ []) (first ∷ option_to_list o)) (sym is) (end, ptr, (end2, ptr2, tt))
 
-two_long : (first other : LeafRange) (second : Option LeafRange) → second ≡ Some other → length (first ∷ option_to_list second) ≡ 2
+pub two_long : (first other : LeafRange) (second : Option LeafRange) → second ≡ Some other → length (first ∷ option_to_list second) ≡ 2
 two_long first other second is = subst (λ (o : Option LeafRange). length (first ∷ option_to_list o) ≡ 2) (sym is) refl
 
 pub can_split : (s : Spine) (sector : ℕ) (place : LeafPlace) (cut : ℕ) (p q : Ptr) (low high : Key) (e : Exchange) (is : IsPlaceAt s sector place) → IsSpine s.geometry s.root s.below s.leaves → IsSplit s.leaves place.leaf cut p q e

@@ -4,6 +4,7 @@ pub mod Spine
 pub mod Needs
 pub mod Change
 pub mod Next
+pub mod Group
 pub mod Same
 pub mod Append
 pub mod Plan

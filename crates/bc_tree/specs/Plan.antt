@@ -1,5 +1,5 @@
 -- A change of the tree, as it is planned.
-use Rattle.std.specs.Prelude.{◌≡◌, ◌⊎◌, ℕ, ◌+◌, ◌%◌, ◌^◌, ◌<◌, ◌≤◌, false, List, [], ◌∷◌, ◌++◌, Option, Some, None, IfSome, length, option_to_list, take, drop, slice_get, if◌then◌else◌}
+use Rattle.std.specs.Prelude.{◌≡◌, ◌⊎◌, ℕ, ◌+◌, ◌/◌, ◌%◌, ◌^◌, ◌<◌, ◌≤◌, true, false, List, [], ◌∷◌, ◌++◌, Option, Some, None, All, IfSome, length, option_to_list, take, drop, slice_get, if◌then◌else◌}
 use Rattle.bc_disk.specs.declared.geometry.Geometry.{Geometry}
 use Rattle.bc_extent.specs.Extents.{IsInOrder, Shows}
 use Rattle.bc_extent.specs.LastKey.{last_key}
@@ -13,10 +13,14 @@ use Rattle.bc_spine.specs.Exchange.{IsFor, IsMerged, IsMoved as IsMovedLeaf, IsS
 use Rattle.bc_spine.specs.Leaves.{Spans}
 use Rattle.bc_spine.specs.declared.leaf.LeafRange.{LeafRange}
 use Rattle.bc_tree.specs.Change.{CanChange, IsChangeOf, set_words}
+use Rattle.bc_tree.specs.Children.{HasPointer, children_after}
+use Rattle.bc_tree.specs.Group.{AreTwo, CanStand, IsFresh, beside_count}
 use Rattle.bc_tree.specs.Needs.{fits_node, has_room, is_low, words}
-use Rattle.bc_tree.specs.Next.{leaves_next, nodes_next, root_next}
+use Rattle.bc_tree.specs.Next.{below_next, leaves_next, root_next}
 use Rattle.bc_tree.specs.Parts.{IsNearMiddle, bounded}
 use Rattle.bc_tree.specs.Spine.{IsParentAt, IsPlaceAt, IsSpine, NameLeaves, Spine, bottom, children_in}
+use Rattle.bc_tree.specs.declared.beside.Beside.{Beside}
+use Rattle.bc_tree.specs.declared.beside.Beside.TheVariants.{Comes, Stays, Under}
 use Rattle.bc_tree.specs.declared.change.NodeChange.{NodeChange}
 use Rattle.bc_tree.specs.declared.change.NodeChange.TheVariants.{Move, Set}
 use Rattle.bc_spine.specs.declared.exchange.Exchange.{Exchange}
@@ -115,8 +119,9 @@ pub record Fits (spine : Spine) (plan : Plan) : Type 0 where
   pub root_takes : IfSome plan.top (CanTake spine.root)
   -- where the leaves are the root's children, nothing becomes of it beside this
   pub alone : length spine.below ≡ 0 → plan.top ≡ None
+  pub stands : CanStand (length spine.below) spine.room plan.place plan.beside
   pub tree : IsSpine spine.geometry (root_next spine.root spine.below plan.bottom plan.top)
-      (nodes_next spine.below plan.place plan.bottom) (leaves_next spine.leaves plan.leaves)
+      (below_next spine.below plan.place plan.bottom plan.beside) (leaves_next spine.leaves plan.leaves)
   pub end : (root_next spine.root spine.below plan.bottom plan.top).end ≡ spine.root.end
 
 -- ---- what is planned
@@ -141,9 +146,13 @@ abbrev pub top_count : Option NodeChange → ℕ
 top_count None = 0
 top_count (Some change) = moved_count change
 
--- how many new nodes the plan brings: leaves, and nodes that move
+-- how many new nodes above leaves the plan brings
+abbrev pub above_count : Plan → ℕ
+above_count plan = moved_count plan.bottom + top_count plan.top + beside_count plan.beside
+
+-- how many new nodes it brings: leaves, and nodes above them
 abbrev pub new_count : Plan → ℕ
-new_count plan = 1 + length (option_to_list plan.second) + (moved_count plan.bottom + top_count plan.top)
+new_count plan = 1 + length (option_to_list plan.second) + above_count plan
 
 -- the plan says what becomes of the nodes above leaves, where so many children give way to others
 pub record IsPlannedAbove (spine : Spine) (place : LeafPlace) (gone : ℕ) (come : List Key) (to : List Ptr) (seq : ℕ) (plan : Plan) : Type 0 where
@@ -151,7 +160,83 @@ pub record IsPlannedAbove (spine : Spine) (place : LeafPlace) (gone : ℕ) (come
   pub node : Inner
   pub there : slice_get (bottom spine.root spine.below) place.node ≡ Some node
   pub above : IsAbove spine node place.node place.child gone come to seq plan.bottom plan.top
-  pub moved : moved_count plan.bottom + top_count plan.top ≡ moves spine node (set_words gone come)
+  pub beside_is : plan.beside ≡ Stays
+  pub moved : above_count plan ≡ moves spine node (set_words gone come)
+
+-- ---- a node above leaves that gives way to two
+
+-- the root, whose children were leaves, gives way to these two, and to one of level 2 above them
+pub record IsRaised (old : Inner) (low high : Inner) (to : List Ptr) (seq : ℕ) (bottom : NodeChange) (top : Option NodeChange) : Type 0 where
+  pub low_key : Key
+  pub high_key : Key
+  pub names : Names low_key low × Names high_key high
+  pub ptr : Ptr
+  pub first_place : slice_get to 0 ≡ Some ptr
+  pub root : Inner
+  pub root_is : IsFresh 2 old.from old.end (low_key ∷ high_key ∷ []) ptr seq root
+  pub bottom_is : bottom ≡ Move root
+  pub none : top ≡ None
+
+-- these two come in the place of so many below the root, which names them
+pub record IsRegrouped (g : Geometry) (root : Inner) (place gone : ℕ) (low high : Inner) (to : List Ptr) (seq : ℕ) (bottom : NodeChange) (top : Option NodeChange) : Type 0 where
+  pub low_key : Key
+  pub high_key : Key
+  pub names : Names low_key low × Names high_key high
+  pub change : NodeChange
+  pub change_is : IsChangeOf g root place gone (low_key ∷ high_key ∷ []) to seq change
+  pub bottom_is : bottom ≡ Move low
+  pub top_is : top ≡ Some change
+
+-- what becomes of the root, and of the nodes below it, where two come in the place of the one above a leaf
+abbrev pub IsAboveHalves : Geometry → Inner → List Inner → ℕ → Inner → Inner → List Ptr → ℕ → NodeChange → Option NodeChange → Beside → Type 0
+IsAboveHalves g root [] place low high to seq bottom top beside = IsRaised root low high to seq bottom top × (beside ≡ Under low high)
+IsAboveHalves g root (m ∷ below) place low high to seq bottom top beside = IsRegrouped g root place 1 low high to seq bottom top × (beside ≡ Comes high)
+
+-- the node at a place above leaves gives way to two: each has half of the children that it has after the change
+pub record IsHalved (g : Geometry) (root : Inner) (below : List Inner) (node : Inner) (place at : ℕ) (come : List Key) (to : List Ptr) (seq : ℕ) (bottom : NodeChange) (top : Option NodeChange) (beside : Beside) : Type 0 where
+  pub low : Inner
+  pub high : Inner
+  pub two : AreTwo node.from node.end (length (children_after node.children at 1 come) / 2) (children_after node.children at 1 come) to seq low high
+  pub above : IsAboveHalves g root below place low high (drop 2 to) ((seq + 2) % 2 ^ 64) bottom top beside
+
+-- how many new nodes above leaves that makes
+abbrev pub halves_count : Spine → ℕ
+halves_count spine = if is_low spine then 3 else if has_room spine.geometry spine.root 6 then 2 else 3
+
+-- a leaf can give way to two of these keys, and the node above it to two that have its children after that
+pub record CanHalve (g : Geometry) (root : Inner) (below : List Inner) (node : Inner) (place at : ℕ) (come : List Key) : Type 0 where
+  pub there : slice_get (bottom root below) place ≡ Some node
+  pub within : at < length node.children
+  pub size : words come ≡ 6
+  pub live : All HasPointer come
+  pub long : length come ≡ 2
+  pub cover : CoverRange node.from node.end (children_after node.children at 1 come)
+  pub fits : 0 < length below → fits_node g (words root.children + 3) ≡ true
+
+-- leaves give way to others by an exchange, and so does the key of the first among the children of the node above
+pub record CanHalveAt (spine : Spine) (e : Exchange) (place : LeafPlace) (come : List Key) : Type 0 where
+  pub leaves_fit : IsFor spine.leaves e
+  pub spare : length (coming e) ≤ spine.spare + e.gone
+  pub gone_is : e.gone ≡ 1
+  pub before : e.place ≡ length (children_in (take place.node (bottom spine.root spine.below))) + place.child
+  pub names : NameLeaves come (coming e)
+  pub node : Inner
+  pub can : CanHalve spine.geometry spine.root spine.below node place.node place.child come
+
+-- the plan says so of the nodes above a leaf
+pub record IsHalvedAbove (spine : Spine) (place : LeafPlace) (come : List Key) (to : List Ptr) (seq : ℕ) (plan : Plan) : Type 0 where
+  pub place_is : plan.place ≡ place.node
+  pub node : Inner
+  pub there : slice_get (bottom spine.root spine.below) place.node ≡ Some node
+  pub above : IsHalved spine.geometry spine.root spine.below node place.node place.child come to seq plan.bottom plan.top plan.beside
+  pub count : above_count plan ≡ halves_count spine
+
+-- the plan exchanges these leaves, and halves the node above them
+pub record IsHalvingOf (spine : Spine) (new : NewLeaves) (place : LeafPlace) (come : List Key) (to : List Ptr) (seq : ℕ) (plan : Plan) : Type 0 where
+  pub leaves_are : plan.leaves ≡ new.leaves
+  pub first_is : plan.first ≡ new.first
+  pub second_is : plan.second ≡ new.second
+  pub above : IsHalvedAbove spine place come to seq plan
 
 -- the plan exchanges these leaves, and says what becomes of the nodes above them
 pub record IsPlanOf (spine : Spine) (new : NewLeaves) (place : LeafPlace) (gone : ℕ) (come : List Key) (to : List Ptr) (seq : ℕ) (plan : Plan) : Type 0 where
@@ -203,6 +288,30 @@ pub record IsSplitPlan (spine : Spine) (place : LeafPlace) (low high : Leaf) (to
   pub high_names : IsKeyOf high.end high.ptr high_key
   pub above : IsPlannedAbove spine place 1 (low_key ∷ high_key ∷ []) to seq plan
 
+-- two leaves come in the place of the one that stands here, and two nodes in the place of the one above it
+pub record IsHalvesPlan (spine : Spine) (place : LeafPlace) (low high : Leaf) (to : List Ptr) (seq : ℕ) (plan : Plan) : Type 0 where
+  pub leaves_are : IsSplit spine.leaves place.leaf low.end low.ptr high.ptr plan.leaves
+  pub first_is : plan.first ≡ low
+  pub second_is : plan.second ≡ Some high
+  pub low_key : Key
+  pub low_names : IsKeyOf low.end low.ptr low_key
+  pub high_key : Key
+  pub high_names : IsKeyOf high.end high.ptr high_key
+  pub above : IsHalvedAbove spine place (low_key ∷ high_key ∷ []) to seq plan
+
+-- there are as many places as the new nodes above leaves take, where a node has one child more or gives way to two
+abbrev pub AreSplitPlaces : Spine → Inner → ℕ → Type 0
+AreSplitPlaces spine node k =
+    ((fits_node spine.geometry (words node.children + 3) ≡ true) × (k ≡ moves spine node 6))
+    ⊎ ((fits_node spine.geometry (words node.children + 3) ≡ false) × (k ≡ halves_count spine)
+    × (0 < length spine.below → fits_node spine.geometry (words spine.root.children + 3) ≡ true))
+
+-- the node above has room for one child more, or gives way to two
+abbrev pub IsMadeSplit : Spine → LeafPlace → Inner → Leaf → Leaf → List Ptr → ℕ → Plan → Type 0
+IsMadeSplit spine place node low high to seq plan =
+    ((fits_node spine.geometry (words node.children + 3) ≡ true) × IsSplitPlan spine place low high to seq plan)
+    ⊎ ((fits_node spine.geometry (words node.children + 3) ≡ false) × IsHalvesPlan spine place low high to seq plan)
+
 -- the leaves of the keys that a leaf has below a sector, and of those that it has from there on
 pub record AreHalves (g : Geometry) (leaf : Leaf) (cut : ℕ) (to : List Ptr) (seq : ℕ) (low high : Leaf) : Type 0 where
   pub low_ptr : Ptr
@@ -222,7 +331,7 @@ pub record IsLeafSplit (spine : Spine) (leaf : Leaf) (to : List Ptr) (seq : ℕ)
   pub middle : IsNearMiddle leaf.from leaf.keys cut
   pub high : Leaf
   pub halves : AreHalves spine.geometry leaf cut to seq plan.first high
-  pub moves : IsSplitPlan spine place plan.first high (drop 2 to) ((seq + 2) % 2 ^ 64) plan
+  pub moves : IsMadeSplit spine place stands.parent plan.first high (drop 2 to) ((seq + 2) % 2 ^ 64) plan
 
 -- the leaf of the keys on one side of a sector doesn't fit in a node
 abbrev pub IsHalfTooLarge : Geometry → Leaf → ℕ → Type 0
@@ -234,11 +343,10 @@ IsNoHalf g leaf cut Large = IsHalfTooLarge g leaf cut
 IsNoHalf g leaf cut Deep = ⊥
 IsNoHalf g leaf cut Memory = Unit {0}
 
--- why a leaf isn't split: one of the two doesn't fit in a node, or the node above has no room for one child more
+-- why a leaf isn't split: one of the two doesn't fit in a node
 abbrev pub IsNotSplit : Spine → Leaf → PlanError → Type 0
 IsNotSplit spine leaf Large = (cut : ℕ) × IsNearMiddle leaf.from leaf.keys cut × IsHalfTooLarge spine.geometry leaf cut
-IsNotSplit spine leaf Deep =
-    (parent : Inner) × IsParentAt spine leaf.from parent × (fits_node spine.geometry (words parent.children + 3) ≡ false)
+IsNotSplit spine leaf Deep = ⊥
 IsNotSplit spine leaf Memory = Unit {0}
 
 -- ---- two leaves become one

@@ -21,6 +21,8 @@ pub record Spine : Type 0 where
   pub leaves : List LeafRange
   -- how many more leaves have room
   pub spare : ℕ
+  -- how many more nodes have room below the root
+  pub room : ℕ
 
 -- the ends rise from a sector on, by multiples of 256
 abbrev pub Rise : ℕ → List Key → Type 0

@@ -1,11 +1,12 @@
 //! A plan, put into the tree.
-ghost use Rattle.std.specs.Prelude.{◌≡◌, IfSome, Some, slice_get};
+ghost use Rattle.std.specs.Prelude.{◌≡◌, IfSome, Some, slice_get, vec_capacity};
 ghost use Rattle.bc_inner.specs.Inner.{Inner};
-ghost use Rattle.bc_tree.specs.Next.{leaves_next, nodes_next, root_next};
+ghost use Rattle.bc_tree.specs.Next.{below_next, leaves_next, nodes_next, root_next};
 ghost use Rattle.bc_tree.specs.Plan.{CanTake, Fits};
 ghost use Rattle.bc_tree.specs.Same.{SameNode, SameNodes};
 ghost use Rattle.bc_tree.specs.Spine.{bottom};
 
+use crate::beside::set_beside;
 use crate::change::NodeChange;
 use crate::plan::{Plan, change};
 use crate::spine::Spine;
@@ -37,6 +38,7 @@ fn change_nodes(
     requires root { IfSome upper (CanTake root.old) }
     ensures root { SameNode (root_next root.old below.old.items lower upper) root.new }
     ensures below { SameNodes (nodes_next below.old.items place lower) below.new.items }
+    ensures room { vec_capacity below.new ≡ vec_capacity below.old }
 {
     if below.is_empty() {
         change(root, lower);
@@ -56,7 +58,8 @@ impl Spine {
         ensures geometry { self.new.geometry ≡ self.old.geometry }
         ensures root { SameNode (root_next self.old.root self.old.below plan.bottom plan.top)
             self.new.root }
-        ensures below { SameNodes (nodes_next self.old.below plan.place plan.bottom) self.new.below }
+        ensures below { SameNodes
+            (below_next self.old.below plan.place plan.bottom plan.beside) self.new.below }
         ensures leaves { self.new.leaves ≡ leaves_next self.old.leaves plan.leaves }
         ensures exchange { result.leaves ≡ plan.leaves }
         ensures first { result.first ≡ plan.first }
@@ -68,10 +71,12 @@ impl Spine {
             second,
             place,
             bottom,
+            beside,
             top,
         } = plan;
         self.leaves.install(&leaves);
         change_nodes(&mut self.root, &mut self.below, place, bottom, top);
+        set_beside(&mut self.below, place, beside);
         NewLeaves {
             leaves,
             first,

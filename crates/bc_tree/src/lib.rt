@@ -15,9 +15,12 @@
 
 mod above;
 mod append;
+mod beside;
 mod build;
 mod change;
 mod children;
+mod group;
+mod halves;
 mod install;
 pub mod laws;
 mod merge;
@@ -32,6 +35,7 @@ mod split;
 #[cfg(test)]
 mod tests;
 
+pub use beside::Beside;
 pub use change::NodeChange;
 pub use children::{first_half, replaced, set_keys};
 pub use install::NewLeaves;

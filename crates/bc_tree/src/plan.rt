@@ -7,6 +7,7 @@ ghost use Rattle.bc_tree.specs.Plan.{CanTake, IsComing, IsLeafWith};
 ghost use Rattle.bc_tree.specs.Same.{SameNode};
 ghost use Rattle.bc_tree.specs.declared.plan.PlanError.TheVariants as errors;
 
+use crate::beside::Beside;
 use crate::change::NodeChange;
 use crate::parts::keys_between;
 use bc_extent::Extents;
@@ -29,6 +30,8 @@ pub struct Plan {
     pub place: usize,
     /// What becomes of it.
     pub bottom: NodeChange,
+    /// What becomes of the one behind it.
+    pub beside: Beside,
     /// What becomes of the root, where that is another node and changes.
     pub top: Option<NodeChange>,
 }

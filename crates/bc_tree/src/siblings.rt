@@ -6,6 +6,7 @@ ghost use Rattle.bc_tree.specs.Plan.{CanExchange, Fits, HasRoomAt, IsPlanOf, mov
 ghost use Rattle.bc_tree.specs.Same.{IsSameTree};
 ghost use Rattle.bc_tree.specs.Spine.{bottom};
 
+use crate::beside::Beside;
 use crate::install::NewLeaves;
 use crate::place::LeafPlace;
 use crate::plan::Plan;
@@ -58,6 +59,7 @@ impl Spine {
             second: new.second,
             place: place.node,
             bottom: above.bottom,
+            beside: Beside::Stays,
             top: above.top,
         })
     }

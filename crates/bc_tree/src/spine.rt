@@ -23,7 +23,7 @@ pub struct Spine {
 }
 
 impl Model for Spine {
-    ghost use Rattle.std.specs.Prelude.{◌≡◌};
+    ghost use Rattle.std.specs.Prelude.{◌≡◌, ◌-◌, vec_capacity, vec_len};
     ghost use Rattle.bc_tree.specs.Spine.{IsSpine, Spine};
 
     ghost Value = { Spine };
@@ -34,6 +34,7 @@ impl Model for Spine {
       below = s.below.items;
       leaves = s.leaves.leaves;
       spare = s.leaves.spare;
+      room = vec_capacity s.below - vec_len s.below;
     } };
 
     ghost invariant = { λ s. IsSpine s.g s.root s.below.items s.leaves.leaves

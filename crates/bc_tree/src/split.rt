@@ -2,7 +2,7 @@
 ghost use Rattle.std.specs.Prelude.{◌≡◌, ◌+◌, ◌%◌, ◌<◌, ◌≤◌, true, length, slice_get, Some, IfErr, IfOk};
 ghost use Rattle.bc_inner.specs.Inner.{Inner};
 ghost use Rattle.bc_tree.specs.Needs.{IsNeeded, fits_node, split_needs, words};
-ghost use Rattle.bc_tree.specs.Plan.{AreHalves, Fits, IsNoHalf, IsLeafSplit, IsNotSplit, IsOfSpine, IsSplitPlan, moves, new_count};
+ghost use Rattle.bc_tree.specs.Plan.{AreHalves, AreSplitPlaces, Fits, IsLeafSplit, IsMadeSplit, IsNoHalf, IsNotSplit, IsOfSpine, IsSplitPlan, above_count, moves, new_count};
 ghost use Rattle.bc_tree.specs.Same.{IsSameTree};
 ghost use Rattle.bc_tree.specs.Spine.{IsPlaceAt, bottom};
 ghost use Rattle.bc_tree.specs.declared.needs.Needs.{Needs};
@@ -92,13 +92,44 @@ impl Spine {
         self.plan_siblings(alloc, new, place, 1, &[low_key, high_key], to, seq)
     }
 
+    /// Plans that two leaves come in the place of the one that stands here. Where the node above has
+    /// no room for one child more, two come in its place too. The new nodes above go to these places.
+    fn split_here(
+        &mut self,
+        alloc: Global,
+        place: &LeafPlace,
+        two: Halves,
+        to: &[Ptr],
+        seq: u64,
+    ) -> Result<Plan, AllocError>
+        requires stands { IsPlaceAt self.old two.low.from place.now }
+        requires cut { (place.now.range.from < two.low.end) × (two.low.end < place.now.range.end)
+            × (two.low.end % 256 ≡ 0) }
+        requires end { two.high.end ≡ place.now.range.end }
+        requires places { (node : Inner)
+            → slice_get (bottom self.old.root self.old.below) place.now.node ≡ Some node
+            → AreSplitPlaces self.old node (length to.now) }
+        ensures fits { IfOk result (Fits self.new) }
+        ensures plan { IfOk result (λ plan. (node : Inner)
+            × (slice_get (bottom self.old.root self.old.below) place.now.node ≡ Some node)
+            × IsMadeSplit self.old place.now node two.low two.high to.now seq plan) }
+        ensures count { IfOk result (λ plan. above_count plan ≡ length to.now) }
+        ensures tree { IsSameTree self.old self.new }
+    {
+        let _ = self.root();
+        if fits_node(self.geometry(), self.node(place.node), 3) {
+            return self.split_to(alloc, place, two, to, seq);
+        }
+        self.halve_to(alloc, place, two, to, seq)
+    }
+
     /// Plans that a leaf of more than 256 sectors is split: two with its keys come in its place, at
     /// the first two places and with numbers from this one on, and the nodes above it that take no
-    /// further set move to the others. There are as many places as `split_needs` says. The tree
-    /// stays as it is, but for its room, until `install`.
+    /// further set move to the others. Where the node above has no room for one child more, two come
+    /// in its place too. There are as many places as `split_needs` says. The tree stays as it is, but
+    /// for its room, until `install`.
     ///
-    /// The refusal is `Large` where the keys of one of the two don't fit in a node, `Deep` where the
-    /// node above has no room for one child more, and `Memory`.
+    /// The refusal is `Large` where the keys of one of the two don't fit in a node, and `Memory`.
     pub fn plan_split(
         &mut self,
         alloc: Global,
@@ -119,12 +150,9 @@ impl Spine {
     {
         let _ = self.root();
         let place = self.place(leaf.from());
-        if !fits_node(self.geometry(), self.node(place.node), 3) {
-            return Err(PlanError::Deep);
-        }
         let cut = cut_of(leaf.keys(), leaf.from(), leaf.end());
         let two = cut_leaf(alloc, self.geometry(), leaf, cut, to, seq)?;
-        let plan = self.split_to(alloc, &place, two, &to[2..], seq.wrapping_add(2))?;
+        let plan = self.split_here(alloc, &place, two, &to[2..], seq.wrapping_add(2))?;
         Ok(plan)
     }
 }
