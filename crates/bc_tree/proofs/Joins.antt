@@ -48,13 +48,13 @@ more_there node i key cover there less =
           absurd (omega (arith, less, ends)))
     ]
 
-named_there : (keys : List Key) (leaves : List LeafRange) (i : ℕ) (key : Key) → NameLeaves keys leaves → slice_get keys i ≡ Some key → (leaf : LeafRange) × (slice_get leaves i ≡ Some leaf) × (leaf.end ≡ key.end)
+pub named_there : (keys : List Key) (leaves : List LeafRange) (i : ℕ) (key : Key) → NameLeaves keys leaves → slice_get keys i ≡ Some key → (leaf : LeafRange) × (slice_get leaves i ≡ Some leaf) × (leaf.end ≡ key.end)
 named_there [] leaves i key names there = absurd (cc)
 named_there (k ∷ keys) [] i key names there = absurd names
 named_there (k ∷ keys) (l ∷ leaves) zero key names there = let same : k ≡ key = cc in (l, refl, names.0 ∙ ap (λ (x : Key). x.end) same)
 named_there (k ∷ keys) (l ∷ leaves) (suc i) key names there = named_there keys leaves i key names.2 there
 
-row_next : (a b : ℕ) (leaves : List LeafRange) (i : ℕ) (left right : LeafRange) → IsRow a leaves b → slice_get leaves i ≡ Some left → slice_get leaves (suc i) ≡ Some right → (right.from ≡ left.end) × (right.from < right.end)
+pub row_next : (a b : ℕ) (leaves : List LeafRange) (i : ℕ) (left right : LeafRange) → IsRow a leaves b → slice_get leaves i ≡ Some left → slice_get leaves (suc i) ≡ Some right → (right.from ≡ left.end) × (right.from < right.end)
 row_next a b [] i left right row one two = absurd (cc)
 row_next a b (l ∷ []) zero left right row one two = absurd (cc)
 row_next a b (l ∷ (r ∷ leaves)) zero left right row one two =

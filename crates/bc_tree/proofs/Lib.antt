@@ -22,3 +22,6 @@ pub mod Twos
 pub mod Besides
 pub mod Halved
 pub mod Halving
+pub mod Crossed
+pub mod Acrossing
+pub mod Crossings

@@ -92,11 +92,11 @@ take_behind : {X : Type 0} (front rest : List X) (i : ℕ) → take (length fron
 take_behind [] rest i = let e : 0 + i ≡ i = omega arith in ap (λ n. take n rest) e
 take_behind (x ∷ front) rest i = let e : suc (length front) + i ≡ suc (length front + i) = omega arith in ap (λ n. take n (x ∷ (front ++ rest))) e ∙ ap (λ ys. x ∷ ys) (take_behind front rest i)
 
-drop_behind : {X : Type 0} (front rest : List X) (i : ℕ) → drop (length front + i) (front ++ rest) ≡ drop i rest
+pub drop_behind : {X : Type 0} (front rest : List X) (i : ℕ) → drop (length front + i) (front ++ rest) ≡ drop i rest
 drop_behind [] rest i = let e : 0 + i ≡ i = omega arith in ap (λ n. drop n rest) e
 drop_behind (x ∷ front) rest i = let e : suc (length front) + i ≡ suc (length front + i) = omega arith in ap (λ n. drop n (x ∷ (front ++ rest))) e ∙ drop_behind front rest i
 
-take_front : {X : Type 0} (n : ℕ) (xs ys : List X) → n ≤ length xs → take n (xs ++ ys) ≡ take n xs
+pub take_front : {X : Type 0} (n : ℕ) (xs ys : List X) → n ≤ length xs → take n (xs ++ ys) ≡ take n xs
 take_front zero xs ys within = refl
 take_front (suc n) [] ys within = absurd (omega arith)
 take_front (suc n) (x ∷ xs) ys within = ap (λ zs. x ∷ zs) (take_front n xs ys (omega arith))

@@ -66,7 +66,7 @@ children_split (m ∷ nodes) (suc n) node there =
     let more = children_split nodes n node there in
     (more.0, ap (λ ks. m.children ++ ks) more.1 ∙ sym (append_assoc m.children (children_in (take n nodes)) (node.children ++ more.0)))
 
-spans_some : (node : Inner) → Covers node → node.from < node.end
+pub spans_some : (node : Inner) → Covers node → node.from < node.end
 spans_some node cover =
     let some = cover.reach in
     let at = cover.within some.0 some.1 some.2 in

@@ -50,7 +50,7 @@ rise_at from [] i d rise inside = absurd (omega arith)
 rise_at from (key ∷ keys) zero d rise inside = (rise.0, rise.1)
 rise_at from (key ∷ keys) (suc i) d rise inside = rise_at key.end keys i d rise.2 (omega arith)
 
-end_push : (from : ℕ) (keys : List Key) (key : Key) → last_end from (keys ++ key ∷ []) ≡ key.end
+pub end_push : (from : ℕ) (keys : List Key) (key : Key) → last_end from (keys ++ key ∷ []) ≡ key.end
 end_push from [] key = refl
 end_push from (k ∷ keys) key = end_push k.end keys key
 

@@ -23,7 +23,7 @@ pub end_append : (from : ℕ) (xs ys : List Key) → last_end from (xs ++ ys) �
 end_append from [] ys = refl
 end_append from (x ∷ xs) ys = end_append x.end xs ys
 
-rise_append : (from : ℕ) (xs ys : List Key) → Rise from xs → Rise (last_end from xs) ys → Rise from (xs ++ ys)
+pub rise_append : (from : ℕ) (xs ys : List Key) → Rise from xs → Rise (last_end from xs) ys → Rise from (xs ++ ys)
 rise_append from [] ys one two = two
 rise_append from (x ∷ xs) ys one two = (one.0, one.1, rise_append x.end xs ys one.2 two)
 

@@ -25,7 +25,7 @@ use Rattle.bc_tree.specs.declared.needs.Needs.{Needs}
 use Rattle.bc_tree.specs.declared.place.LeafPlace.{LeafPlace}
 use Rattle.bc_tree.specs.declared.plan.Plan.{Plan}
 use Rattle.bc_tree.specs.declared.plan.PlanError.{PlanError}
-use Rattle.bc_tree.specs.declared.plan.PlanError.TheVariants.{Deep, Large, Memory}
+use Rattle.bc_tree.specs.declared.plan.PlanError.TheVariants.{Large, Memory}
 use Rattle.bc_tree.proofs.Choices.{split_moves, split_set, test}
 use Rattle.bc_tree.proofs.Coming.{same_there}
 use Rattle.bc_tree.proofs.Counts.{low_count, total}
@@ -118,7 +118,6 @@ split_places s sector place k is spine fits (n, (p, held, needed), count) =
 pub not_split : (s : Spine) (leaf : Leaf) (g : Geometry) (keys : List Key) (from cut : ℕ) (e : PlanError) → g ≡ s.geometry → keys ≡ leaf.keys → from ≡ leaf.from → IsNearMiddle from keys cut → IsNoHalf g leaf cut e → IsNotSplit s leaf e
 not_split s leaf g keys from cut Large same are begins middle why =
     (cut, subst (λ (ks : List Key). IsNearMiddle leaf.from ks cut) are (subst (λ n. IsNearMiddle n keys cut) begins middle), subst (λ (x : Geometry). IsHalfTooLarge x leaf cut) same why)
-not_split s leaf g keys from cut Deep same are begins middle why = absurd why
 not_split s leaf g keys from cut Memory same are begins middle why = tt
 
 pub room_at : (s : Spine) (sector : ℕ) (place : LeafPlace) (is : IsPlaceAt s sector place) (g : Geometry) (node : Inner) (r : Bool) → slice_get (bottom s.root s.below) place.node ≡ Some node → g ≡ s.geometry → r ≡ fits_node g (words node.children + 3)

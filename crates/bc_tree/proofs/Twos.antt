@@ -24,7 +24,7 @@ rise_some : (from : ℕ) (xs : List Key) → Rise from xs → 0 < length xs → 
 rise_some from [] rise some = absurd (omega (arith, some))
 rise_some from (x ∷ xs) rise some = omega (arith, rise.0, end_least x.end xs rise.2)
 
-rise_cut : (from : ℕ) (xs : List Key) → Rise from xs → 0 < length xs → last_end from xs % 256 ≡ 0
+pub rise_cut : (from : ℕ) (xs : List Key) → Rise from xs → 0 < length xs → last_end from xs % 256 ≡ 0
 rise_cut from [] rise some = absurd (omega (arith, some))
 rise_cut from (x ∷ []) rise some = rise.1
 rise_cut from (x ∷ (y ∷ xs)) rise some = rise_cut x.end (y ∷ xs) rise.2 (omega arith)

@@ -82,11 +82,11 @@ split_needs spine parent =
 abbrev pub fits_half : Geometry → ℕ → Bool
 fits_half g n = nat_le (set_bytes n) (256 * g.node_sectors)
 
--- two neighbouring nodes become one: they take at most half a node together, or the left one has
+-- two neighbouring nodes become one: they take at most half a node together, or the right one has
 -- no child but the leaf that goes
 abbrev pub become_one : Geometry → Inner → Inner → Bool
 become_one g left right =
-    length left.children == 1 || fits_half g (words left.children + words right.children)
+    length right.children == 1 || fits_half g (words left.children + words right.children)
 
 -- two leaves of one parent become one
 abbrev pub inside_needs : Spine → Inner → Needs

@@ -1,5 +1,5 @@
 -- A change of the tree, as it is planned.
-use Rattle.std.specs.Prelude.{◌≡◌, ◌⊎◌, ℕ, ◌+◌, ◌/◌, ◌%◌, ◌^◌, ◌<◌, ◌≤◌, true, false, List, [], ◌∷◌, ◌++◌, Option, Some, None, All, IfSome, length, option_to_list, take, drop, slice_get, if◌then◌else◌}
+use Rattle.std.specs.Prelude.{◌≡◌, ◌⊎◌, ℕ, ◌+◌, ◌-◌, ◌/◌, ◌%◌, ◌^◌, ◌<◌, ◌≤◌, true, false, List, [], ◌∷◌, ◌++◌, Option, Some, None, All, IfSome, length, option_to_list, take, drop, slice_get, if◌then◌else◌}
 use Rattle.bc_disk.specs.declared.geometry.Geometry.{Geometry}
 use Rattle.bc_extent.specs.Extents.{IsInOrder, Shows}
 use Rattle.bc_extent.specs.LastKey.{last_key}
@@ -15,19 +15,19 @@ use Rattle.bc_spine.specs.declared.leaf.LeafRange.{LeafRange}
 use Rattle.bc_tree.specs.Change.{CanChange, IsChangeOf, set_words}
 use Rattle.bc_tree.specs.Children.{HasPointer, children_after}
 use Rattle.bc_tree.specs.Group.{AreTwo, CanStand, IsFresh, beside_count}
-use Rattle.bc_tree.specs.Needs.{fits_node, has_room, is_low, words}
+use Rattle.bc_tree.specs.Needs.{become_one, fits_node, has_room, is_low, words}
 use Rattle.bc_tree.specs.Next.{below_next, leaves_next, root_next}
 use Rattle.bc_tree.specs.Parts.{IsNearMiddle, bounded}
 use Rattle.bc_tree.specs.Spine.{IsParentAt, IsPlaceAt, IsSpine, NameLeaves, Spine, bottom, children_in}
 use Rattle.bc_tree.specs.declared.beside.Beside.{Beside}
-use Rattle.bc_tree.specs.declared.beside.Beside.TheVariants.{Comes, Stays, Under}
+use Rattle.bc_tree.specs.declared.beside.Beside.TheVariants.{Comes, Goes, Moves, Stays, Under}
 use Rattle.bc_tree.specs.declared.change.NodeChange.{NodeChange}
 use Rattle.bc_tree.specs.declared.change.NodeChange.TheVariants.{Move, Set}
 use Rattle.bc_spine.specs.declared.exchange.Exchange.{Exchange}
 use Rattle.bc_tree.specs.declared.install.NewLeaves.{NewLeaves}
 use Rattle.bc_tree.specs.declared.plan.Plan.{Plan}
 use Rattle.bc_tree.specs.declared.plan.PlanError.{PlanError}
-use Rattle.bc_tree.specs.declared.plan.PlanError.TheVariants.{Deep, Large, Memory}
+use Rattle.bc_tree.specs.declared.plan.PlanError.TheVariants.{Large, Memory}
 use Rattle.bc_tree.specs.declared.place.LeafPlace.{LeafPlace}
 
 -- ---- the leaf that comes
@@ -238,6 +238,85 @@ pub record IsHalvingOf (spine : Spine) (new : NewLeaves) (place : LeafPlace) (co
   pub second_is : plan.second ≡ new.second
   pub above : IsHalvedAbove spine place come to seq plan
 
+-- ---- two leaves of two nodes become one
+
+-- the children of two neighbouring nodes, where the last of the one and the first of the other give way to one
+abbrev pub children_across : Inner → Inner → Key → List Key
+children_across left right key = children_after (left.children ++ right.children) (length left.children - 1) 2 (key ∷ [])
+
+-- one node comes in the place of two below the root, which names it
+pub record IsOneBelow (g : Geometry) (root : Inner) (place : ℕ) (one : Inner) (to : List Ptr) (seq : ℕ) (bottom : NodeChange) (top : Option NodeChange) : Type 0 where
+  pub key : Key
+  pub names : Names key one
+  pub change : NodeChange
+  pub change_is : IsChangeOf g root place 2 (key ∷ []) to seq change
+  pub bottom_is : bottom ≡ Move one
+  pub top_is : top ≡ Some change
+
+-- it has the children of both
+pub record IsOneAcross (g : Geometry) (root left right : Inner) (place : ℕ) (key : Key) (to : List Ptr) (seq : ℕ) (bottom : NodeChange) (top : Option NodeChange) (beside : Beside) : Type 0 where
+  pub one : Inner
+  pub ptr : Ptr
+  pub first_place : slice_get to 0 ≡ Some ptr
+  pub one_is : IsFresh 1 left.from right.end (children_across left right key) ptr seq one
+  pub above : IsOneBelow g root place one (drop 1 to) ((seq + 1) % 2 ^ 64) bottom top
+  pub beside_is : beside ≡ Goes
+
+-- two come in the place of both, and the first has as many children as before
+pub record IsTwoAcross (g : Geometry) (root left right : Inner) (place : ℕ) (key : Key) (to : List Ptr) (seq : ℕ) (bottom : NodeChange) (top : Option NodeChange) (beside : Beside) : Type 0 where
+  pub low : Inner
+  pub high : Inner
+  pub two : AreTwo left.from right.end (length left.children) (children_across left right key) to seq low high
+  pub above : IsRegrouped g root place 2 low high (drop 2 to) ((seq + 2) % 2 ^ 64) bottom top
+  pub beside_is : beside ≡ Moves high
+
+-- two neighbouring nodes become one where that is small enough, and else move both
+abbrev pub IsAcross : Geometry → Inner → Inner → Inner → ℕ → Key → List Ptr → ℕ → NodeChange → Option NodeChange → Beside → Type 0
+IsAcross g root left right place key to seq bottom top beside =
+    ((become_one g left right ≡ true) × IsOneAcross g root left right place key to seq bottom top beside)
+    ⊎ ((become_one g left right ≡ false) × IsTwoAcross g root left right place key to seq bottom top beside)
+
+-- how many new nodes above leaves that makes
+abbrev pub across_count : Spine → Inner → Inner → ℕ
+across_count spine left right =
+    if become_one spine.geometry left right then (if has_room spine.geometry spine.root 5 then 1 else 2)
+    else (if has_room spine.geometry spine.root 8 then 2 else 3)
+
+-- a key can come in the place of the last child of a node below the root, and of the first one of the next
+pub record CanJoinAcross (below : List Inner) (left right : Inner) (place : ℕ) (key : Key) : Type 0 where
+  pub there : slice_get below place ≡ Some left
+  pub behind : slice_get below (place + 1) ≡ Some right
+  pub some : (0 < length left.children) × (0 < length right.children)
+  pub one : key.count ≡ 1
+  pub cover : CoverRange left.from right.end (children_across left right key)
+  pub later : left.end < key.end
+
+-- so can a leaf, by an exchange
+pub record CanJoinAt (spine : Spine) (e : Exchange) (left right : Inner) (place : LeafPlace) (key : Key) : Type 0 where
+  pub leaves_fit : IsFor spine.leaves e
+  pub spare : length (coming e) ≤ spine.spare + e.gone
+  pub gone_is : e.gone ≡ 2
+  pub before : e.place ≡ length (children_in (take place.node spine.below)) + (length left.children - 1)
+  pub names : NameLeaves (key ∷ []) (coming e)
+  pub can : CanJoinAcross spine.below left right place.node key
+
+-- the plan says so of the nodes above two leaves
+pub record IsJoinedAcross (spine : Spine) (place : LeafPlace) (key : Key) (to : List Ptr) (seq : ℕ) (plan : Plan) : Type 0 where
+  pub place_is : plan.place ≡ place.node
+  pub left : Inner
+  pub right : Inner
+  pub there : slice_get spine.below place.node ≡ Some left
+  pub behind : slice_get spine.below (place.node + 1) ≡ Some right
+  pub above : IsAcross spine.geometry spine.root left right place.node key to seq plan.bottom plan.top plan.beside
+  pub count : above_count plan ≡ across_count spine left right
+
+-- the plan exchanges these leaves, and joins the nodes above them
+pub record IsAcrossOf (spine : Spine) (new : NewLeaves) (place : LeafPlace) (key : Key) (to : List Ptr) (seq : ℕ) (plan : Plan) : Type 0 where
+  pub leaves_are : plan.leaves ≡ new.leaves
+  pub first_is : plan.first ≡ new.first
+  pub second_is : plan.second ≡ new.second
+  pub above : IsJoinedAcross spine place key to seq plan
+
 -- the plan exchanges these leaves, and says what becomes of the nodes above them
 pub record IsPlanOf (spine : Spine) (new : NewLeaves) (place : LeafPlace) (gone : ℕ) (come : List Key) (to : List Ptr) (seq : ℕ) (plan : Plan) : Type 0 where
   pub leaves_are : plan.leaves ≡ new.leaves
@@ -272,7 +351,6 @@ IsTooLarge g leaf from end =
 -- why a leaf isn't moved: the leaf that would come doesn't fit in a node
 abbrev pub IsNotRewritten : Spine → Leaf → PlanError → Type 0
 IsNotRewritten spine leaf Large = IsTooLarge spine.geometry leaf leaf.from leaf.end
-IsNotRewritten spine leaf Deep = ⊥
 IsNotRewritten spine leaf Memory = Unit {0}
 
 -- ---- a leaf is split
@@ -340,13 +418,11 @@ IsHalfTooLarge g leaf cut = IsTooLarge g leaf leaf.from cut ⊎ IsTooLarge g lea
 -- why the two aren't made
 abbrev pub IsNoHalf : Geometry → Leaf → ℕ → PlanError → Type 0
 IsNoHalf g leaf cut Large = IsHalfTooLarge g leaf cut
-IsNoHalf g leaf cut Deep = ⊥
 IsNoHalf g leaf cut Memory = Unit {0}
 
 -- why a leaf isn't split: one of the two doesn't fit in a node
 abbrev pub IsNotSplit : Spine → Leaf → PlanError → Type 0
 IsNotSplit spine leaf Large = (cut : ℕ) × IsNearMiddle leaf.from leaf.keys cut × IsHalfTooLarge spine.geometry leaf cut
-IsNotSplit spine leaf Deep = ⊥
 IsNotSplit spine leaf Memory = Unit {0}
 
 -- ---- two leaves become one
@@ -371,6 +447,39 @@ pub record IsMergePlan (spine : Spine) (place : LeafPlace) (first : Leaf) (to : 
   pub names : IsKeyOf first.end first.ptr key
   pub above : IsPlannedAbove spine place 2 (key ∷ []) to seq plan
 
+-- the leaf is the last child of its node, and the next leaf, which ends at a sector, is the first one of the next node
+pub record HasNextAcross (spine : Spine) (place : LeafPlace) (left right : Inner) (until : ℕ) : Type 0 where
+  pub there : slice_get spine.below place.node ≡ Some left
+  pub behind : slice_get spine.below (place.node + 1) ≡ Some right
+  pub last : place.child + 1 ≡ length left.children
+  pub key : Key
+  pub child : slice_get right.children 0 ≡ Some key
+  pub leaf : LeafRange
+  pub leaf_there : slice_get spine.leaves (place.leaf + 1) ≡ Some leaf
+  pub ends : leaf.end ≡ key.end
+  pub end : leaf.end ≡ until
+  pub before : place.leaf ≡ length (children_in (take place.node spine.below)) + place.child
+
+-- a leaf comes in the place of the one that stands here and of the next, and the nodes above them become one, or both move
+pub record IsAcrossPlan (spine : Spine) (place : LeafPlace) (first : Leaf) (to : List Ptr) (seq : ℕ) (plan : Plan) : Type 0 where
+  pub leaves_are : IsMerged spine.leaves place.leaf first.ptr plan.leaves
+  pub first_is : plan.first ≡ first
+  pub alone : plan.second ≡ None
+  pub key : Key
+  pub names : IsKeyOf first.end first.ptr key
+  pub above : IsJoinedAcross spine place key to seq plan
+
+-- the leaf that stands here and the next, which begins at a sector and ends at another, are children of this node, or of this and the next one; and there are as many places as the new nodes above take where they become one
+abbrev pub CanJoinHere : Spine → LeafPlace → Inner → ℕ → ℕ → ℕ → Type 0
+CanJoinHere spine place node next until k =
+    ((next < node.end) × HasNextLeaf spine place until × (k ≡ moves spine node 5))
+    ⊎ ((node.end ≤ next) × ((other : Inner) × HasNextAcross spine place node other until × (k ≡ across_count spine node other)))
+
+-- a leaf comes in their place
+abbrev pub IsMadeJoin : Spine → LeafPlace → Inner → ℕ → Leaf → List Ptr → ℕ → Plan → Type 0
+IsMadeJoin spine place node next first to seq plan =
+    ((next < node.end) × IsMergePlan spine place first to seq plan) ⊎ ((node.end ≤ next) × IsAcrossPlan spine place first to seq plan)
+
 -- the leaf of the keys of two neighbours
 abbrev pub IsJoined : Leaf → Leaf → Ptr → ℕ → Leaf → Type 0
 IsJoined left right to seq leaf = IsLeafWith left.from right.end to seq (left.keys ++ right.keys) leaf
@@ -383,10 +492,9 @@ pub record IsLeafMerge (spine : Spine) (left right : Leaf) (to : List Ptr) (seq 
   pub first_place : slice_get to 0 ≡ Some ptr
   pub leaf_comes : IsJoined left right ptr seq plan.first
   pub leaf_fits : ¬ (IsFull spine.geometry plan.first)
-  pub moves : IsMergePlan spine place plan.first (drop 1 to) ((seq + 1) % 2 ^ 64) plan
+  pub moves : IsMadeJoin spine place stands.parent right.from plan.first (drop 1 to) ((seq + 1) % 2 ^ 64) plan
 
--- why two leaves don't become one: the one doesn't fit in a node, or they have two parents
+-- why two leaves don't become one: the one doesn't fit in a node
 abbrev pub IsNotMerged : Spine → Leaf → Leaf → PlanError → Type 0
 IsNotMerged spine left right Large = (to : Ptr) × (seq : ℕ) × (leaf : Leaf) × IsJoined left right to seq leaf × IsFull spine.geometry leaf
-IsNotMerged spine left right Deep = (parent : Inner) × IsParentAt spine left.from parent × (parent.end ≤ right.from)
 IsNotMerged spine left right Memory = Unit {0}

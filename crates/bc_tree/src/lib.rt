@@ -14,6 +14,7 @@
 #![tactic(auto)]
 
 mod above;
+mod across;
 mod append;
 mod beside;
 mod build;

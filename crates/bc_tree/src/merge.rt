@@ -2,7 +2,7 @@
 ghost use Rattle.std.specs.Prelude.{◌≡◌, ◌↔◌, ◌+◌, ◌≤◌, ◌++◌, true, false, length, slice_get, Some, IfErr, IfOk, IfSome, IsNone, OnOk, Option};
 ghost use Rattle.bc_inner.specs.Inner.{Inner};
 ghost use Rattle.bc_tree.specs.Needs.{IsNeededForBoth, can_merge};
-ghost use Rattle.bc_tree.specs.Plan.{Fits, HasNextLeaf, IsJoined, IsLeafMerge, IsMergePlan, IsNotMerged, IsOfSpine, moves, new_count};
+ghost use Rattle.bc_tree.specs.Plan.{CanJoinHere, Fits, HasNextLeaf, IsJoined, IsLeafMerge, IsMadeJoin, IsMergePlan, IsNotMerged, IsOfSpine, above_count, moves, new_count};
 ghost use Rattle.bc_tree.specs.Same.{IsSameTree};
 ghost use Rattle.bc_tree.specs.Spine.{IsPlaceAt, bottom};
 ghost use Rattle.bc_tree.specs.declared.needs.Needs.{Needs};
@@ -71,6 +71,35 @@ impl Spine {
         self.plan_siblings(alloc, new, place, 2, &[key], to, seq)
     }
 
+    /// Plans that a leaf comes in the place of the one that stands here and of the next, which begins
+    /// at a sector. The new nodes above go to these places.
+    fn join_here(
+        &mut self,
+        alloc: Global,
+        place: &LeafPlace,
+        first: Leaf,
+        next: u64,
+        to: &[Ptr],
+        seq: u64,
+    ) -> Result<Plan, AllocError>
+        requires stands { IsPlaceAt self.old first.from place.now }
+        requires can { (node : Inner)
+            × (slice_get (bottom self.old.root self.old.below) place.now.node ≡ Some node)
+            × CanJoinHere self.old place.now node next first.end (length to.now) }
+        ensures fits { IfOk result (Fits self.new) }
+        ensures plan { IfOk result (λ plan. (node : Inner)
+            × (slice_get (bottom self.old.root self.old.below) place.now.node ≡ Some node)
+            × IsMadeJoin self.old place.now node next first to.now seq plan) }
+        ensures count { IfOk result (λ plan. above_count plan ≡ length to.now) }
+        ensures tree { IsSameTree self.old self.new }
+    {
+        let _ = self.root();
+        if next < self.node(place.node).end() {
+            return self.join_to(alloc, place, first, to, seq);
+        }
+        self.across_to(alloc, place, first, to, seq)
+    }
+
     /// Plans what `plan_merge` does, where both leaves together take at most half a node.
     fn plan_join(
         &mut self,
@@ -95,25 +124,25 @@ impl Spine {
         let _ = self.len();
         let _ = self.root();
         let place = self.place(left.from());
-        if self.node(place.node).end() <= right.from() {
-            return Err(PlanError::Deep);
-        }
         let first = joined(alloc, left, right, &to[0], seq)?;
         if first.is_full(self.geometry()) {
             return Err(PlanError::Large);
         }
-        let plan = self.join_to(alloc, &place, first, &to[1..], seq.wrapping_add(1))?;
+        let next = right.from();
+        let number = seq.wrapping_add(1);
+        let plan = self.join_here(alloc, &place, first, next, &to[1..], number)?;
         Ok(plan)
     }
 
     /// Plans that a leaf becomes one with the next: a leaf with the keys of both comes in their
     /// place, at the first of these places and with this number, and the nodes above them that take
-    /// no further set move to the others. There are as many places as `merge_needs` says. None
-    /// exactly where the keys of both take more than half a node together. The tree stays as it is,
-    /// but for its room, until `install`.
+    /// no further set move to the others. Where the leaves are children of two nodes, one comes in
+    /// the place of both if it takes at most half a node, or if the second has no other child; else
+    /// both move. There are as many places as `merge_needs` says. None exactly where the keys of
+    /// both take more than half a node together. The tree stays as it is, but for its room, until
+    /// `install`.
     ///
-    /// The refusal is `Large` where the keys don't fit in a node, `Deep` where the leaves are
-    /// children of two nodes, and `Memory`.
+    /// The refusal is `Large` where the keys don't fit in a node, and `Memory`.
     pub fn plan_merge(
         &mut self,
         alloc: Global,

@@ -58,13 +58,13 @@ pub(crate) fn can_merge(g: &Geometry, left: &Leaf, right: &Leaf) -> bool
 
 /// Whether one node comes in the place of two neighbouring ones, when the last leaf of the one and
 /// the first of the other become one.
-fn become_one(g: &Geometry, left: &Inner, right: &Inner) -> bool
+pub(crate) fn become_one(g: &Geometry, left: &Inner, right: &Inner) -> bool
     requires left { IsProper g.now left.now }
     requires right { IsProper g.now right.now }
     ensures { result ≡ become_one g.now left.now right.now }
 {
     let half = 256 * usize::from(g.node_sectors);
-    left.children().len() == 1 || left.length() + right.length() - 32 <= half
+    right.children().len() == 1 || left.length() + right.length() - 32 <= half
 }
 
 impl Spine {

@@ -41,8 +41,6 @@ pub struct Plan {
 pub enum PlanError {
     /// A leaf that would come doesn't fit in a node.
     Large,
-    /// A node above leaves would have to give way to two, or two of them to one.
-    Deep,
     /// Memory ran out.
     Memory,
 }
