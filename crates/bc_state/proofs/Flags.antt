@@ -1,10 +1,9 @@
 -- What the flags say.
-use Rattle.std.proofs.Common.{◌≡◌, ◌≢◌, inl, inr, ℕ, ◌+◌, ◌*◌, ◌/◌, ◌%◌, ◌^◌, ◌<◌, refl, arith}
-use Rattle.bc_super.specs.Super.{IsUsable, state_number, mode_number}
-use Rattle.bc_super.specs.declared.backing.BackingSuper.{BackingSuper}
+use Rattle.std.proofs.Common.{◌≡◌, ◌≢◌, ℕ, ◌^◌, ◌<◌, arith}
+use Rattle.bc_super.specs.Super.{state_number, mode_number}
 use Rattle.bc_super.specs.declared.state.BackingState.{BackingState}
 use Rattle.bc_super.specs.declared.state.BackingState.TheVariants as state
-use Rattle.bc_state.specs.State.{IsCached, flags_with, number_of, super_in}
+use Rattle.bc_state.specs.State.{IsCached, flags_with, number_of}
 use Rattle.bc_state.specs.Laws.{LawFlags, LawUsable}
 
 -- the number is read as it was set

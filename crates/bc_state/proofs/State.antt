@@ -1,6 +1,6 @@
 -- A pair in another state.
-use Rattle.std.proofs.Common.{◌≡◌, ◌≢◌, ◌⊎◌, inl, inr, ℕ, Bool, ◌+◌, ◌*◌, ◌<◌, ◌≤◌, true, false, refl, sym, ap, ◌∙◌, subst, arith, if◌then◌else◌}
-use Rattle.std.specs.Prelude.{◌==◌, List, ◌++◌, take, length, replicate}
+use Rattle.std.proofs.Common.{◌≡◌, ◌≢◌, ◌⊎◌, inl, inr, ℕ, Bool, ◌+◌, ◌≤◌, true, false, refl, sym, ap, ◌∙◌, subst, arith, if◌then◌else◌}
+use Rattle.std.specs.Prelude.{◌==◌, ◌++◌, take, length, replicate}
 use Rattle.std.proofs.Math.Seq.{take-append_seam}
 use Rattle.bc_model.specs.Sector.{Value, Image}
 use Rattle.std.proofs.lemmas.Bool.Decides.{eqb_tells}
@@ -14,9 +14,9 @@ use Rattle.bc_super.proofs.Sectors.{written_again}
 use Rattle.bc_image.specs.Pair.{Pair, super_bytes}
 use Rattle.bc_image.specs.Reading.{View, IsView, key_of}
 use Rattle.bc_image.specs.Shown.{shown_by, value_by}
-use Rattle.bc_image.specs.Sound.{HasSoundParts, HasSuperblocks}
-use Rattle.bc_state.specs.State.{IsCached, flags_with, number_of, super_in, with_sector, view_in}
-use Rattle.bc_state.specs.Laws.{IsSamePair, LawState}
+use Rattle.bc_image.specs.Sound.{HasSoundParts}
+use Rattle.bc_state.specs.State.{IsCached, super_in, with_sector, view_in}
+use Rattle.bc_state.specs.Laws.{LawState}
 use Rattle.bc_state.proofs.Flags.{number_again, law_usable}
 
 states : (x : BackingState) (s : BackingSuper) → IsCached x

@@ -1,5 +1,5 @@
 -- The state is told by one sector, and nothing else of a pair rests on it.
-use Rattle.std.specs.Prelude.{◌≡◌, ℕ, ◌%◌, ◌<◌, ◌^◌}
+use Rattle.std.specs.Prelude.{◌≡◌, ℕ, ◌<◌, ◌^◌}
 use Rattle.bc_model.specs.Sector.{Value}
 use Rattle.bc_super.specs.Super.{IsUsable, IsState, mode_number, state_number}
 use Rattle.bc_super.specs.Writing.{IsBackingSector}
