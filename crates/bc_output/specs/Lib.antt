@@ -1,3 +1,4 @@
 pub mod Put
+pub mod Status
 pub mod Lines
 pub mod Message
