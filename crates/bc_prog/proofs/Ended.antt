@@ -1,37 +1,39 @@
 -- What a status of 0 says.
-use Rattle.std.specs.Prelude.{◌≡◌, ◌⊎◌, ℕ, Option, Some, None, IsNone, IfSome, refl}
-use Rattle.std.proofs.Common.{sym, ◌∙◌, arith, inl, inr}
+use Rattle.std.specs.Prelude.{◌≡◌, ◌⊎◌, Option, Some, None, IsNone, IfSome, refl}
+use Rattle.std.proofs.Common.{sym, ◌∙◌, inl, inr}
 use Rattle.bc_prog.specs.Refusal.{status_of as refusal_status}
 use Rattle.bc_prog.specs.declared.refusal.Refusal.{Refusal}
 use Rattle.bc_prog.specs.declared.refusal.Refusal.TheVariants as refusals
 use Rattle.bc_disk.specs.Stream.{StreamFacts}
+use Rattle.bc_output.specs.declared.status.Status.{Status}
+use Rattle.bc_output.specs.declared.status.Status.TheVariants as statuses
 use Rattle.bc_top.specs.Stops.{status_of}
 use Rattle.bc_top.specs.Top.{LacksMemory}
 use Rattle.bc_top.specs.declared.stop.Stop.{Stop}
 use Rattle.bc_top.specs.declared.stop.Stop.TheVariants.{Usage, Trace, Source, Fault, Superblock, Image, Unserved, Memory}
 
-stops_above_zero : (stop : Stop) → status_of stop ≡ 0 → ⊥
-stops_above_zero Usage zero = omega (arith, zero)
-stops_above_zero (Trace error) zero = omega (arith, zero)
-stops_above_zero Source zero = omega (arith, zero)
-stops_above_zero (Fault device) zero = omega (arith, zero)
-stops_above_zero (Superblock device number) zero = omega (arith, zero)
-stops_above_zero (Image number) zero = omega (arith, zero)
-stops_above_zero Unserved zero = omega (arith, zero)
-stops_above_zero Memory zero = omega (arith, zero)
+stops_above_zero : (stop : Stop) → status_of stop ≡ statuses.Done → ⊥
+stops_above_zero Usage zero = cc
+stops_above_zero (Trace error) zero = cc
+stops_above_zero Source zero = cc
+stops_above_zero (Fault device) zero = cc
+stops_above_zero (Superblock device number) zero = cc
+stops_above_zero (Image number) zero = cc
+stops_above_zero Unserved zero = cc
+stops_above_zero Memory zero = cc
 
 -- a run began
-pub began : {A : Type 0} {P : A → Type 0} (pass : Option A) (status : ℕ) → (IsNone pass → (stop : Stop) × (status ≡ status_of stop)) → IfSome pass P → status ≡ 0 → (a : A) × P a
+pub began : {A : Type 0} {P : A → Type 0} (pass : Option A) (status : Status) → (IsNone pass → (stop : Stop) × (status ≡ status_of stop)) → IfSome pass P → status ≡ statuses.Done → (a : A) × P a
 began (Some pass) status stopped run zero = (pass, run)
 began None status stopped run zero = let it = stopped refl in absurd (stops_above_zero it.0 (sym it.1 ∙ zero))
 
 -- a refusal that isn't one of memory
-pub refused : (refusal : Refusal) (status : ℕ) → (refusal ≡ refusals.Memory → ⊥) → status ≡ refusal_status refusal → (status ≡ 2) ⊎ ((status ≡ 6) ⊎ (status ≡ 9))
+pub refused : (refusal : Refusal) (status : Status) → (refusal ≡ refusals.Memory → ⊥) → status ≡ refusal_status refusal → (status ≡ statuses.Usage) ⊎ ((status ≡ statuses.Device) ⊎ (status ≡ statuses.Memory))
 refused refusals.Usage status other ended = inl ended
 refused (refusals.NotOpened device) status other ended = inr (inl ended)
 refused refusals.Memory status other ended = absurd (other refl)
 
 -- words that spell no command, or for which there was no memory
-pub unknown : {C B : Type 0} {cache cache' : C} {backing backing' : B} {old new : StreamFacts} (status : ℕ) → (status ≡ 2) ⊎ LacksMemory status cache cache' backing backing' old new → (status ≡ 2) ⊎ ((status ≡ 6) ⊎ (status ≡ 9))
+pub unknown : {C B : Type 0} {cache cache' : C} {backing backing' : B} {old new : StreamFacts} (status : Status) → (status ≡ statuses.Usage) ⊎ LacksMemory status cache cache' backing backing' old new → (status ≡ statuses.Usage) ⊎ ((status ≡ statuses.Device) ⊎ (status ≡ statuses.Memory))
 unknown status (inl two) = inl two
 unknown status (inr lacks) = inr (inr lacks.status_is)

@@ -9,8 +9,8 @@ use Rattle.bc_script.specs.declared.answer.Answer.{Answer}
 use Rattle.bc_output.specs.Lines.{AreLines}
 use Rattle.bc_output.specs.Put.{Takes}
 
--- the trace was read to its end, its lines were served over so many data sectors and with this history, and the sink has
--- taken the lines of the answers
+-- the trace was read to its end, its lines were served over so many data sectors and with this
+-- history, and the sink has taken the lines of the answers
 pub record IsDone (source left before after : StreamFacts) : Type 0 where
   pub lines : List Line
   pub trace : IsTrace lines

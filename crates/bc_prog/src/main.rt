@@ -4,14 +4,14 @@
 #![tactic(auto)]
 
 mod command_line;
+mod files;
 mod refusal;
-mod running;
 
 use bc_file::file_in::FileIn;
 use bc_file::file_out::FileOut;
 use command_line::words_given;
+use files::run;
 use refusal::refuse;
-use running::run;
 use std::fs::File;
 use std::io;
 use std::process::ExitCode;
@@ -26,5 +26,5 @@ fn main(rt: HostRuntime) -> ExitCode {
         Ok(words) => run(&rt, rt.alloc(), &words, &mut trace, &mut out),
         Err(refusal) => refuse(refusal, &mut out),
     };
-    ExitCode::from(status)
+    ExitCode::from(status.number())
 }

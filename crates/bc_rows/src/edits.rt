@@ -6,7 +6,8 @@
 use crate::pair::{CACHE_SECTORS, Pair, formatted, test_run};
 use bc_bytes::{crc64, put_u64};
 use bc_disk::mem_disk::MemDisk;
-use bc_top::ran::Ran;
+use bc_output::status::Status;
+use bc_top::exit::Exit;
 use std::alloc::Global;
 use std::process::Abort;
 use std::sync::Wait;
@@ -106,8 +107,8 @@ fn edited<R: Abort>(
     let cache = MemDisk::new(alloc, bytes, 0)?;
     let backing = Vec::from_slice(alloc, pair.backing.bytes())?;
     assert!(rt; backing.len() % 512 == 0 && backing.len() < 20000 * 512);
-    Ok(Ran {
-        status: 0,
+    Ok(Exit {
+        status: Status::Done,
         cache,
         backing: MemDisk::new(alloc, backing, 0)?,
         pass: None,

@@ -10,7 +10,7 @@ use bc_model::history::Entry;
 use bc_model::sector::sector_at;
 use bc_model::values::Values;
 use bc_plain::history::{is_allowed, is_legal};
-use bc_top::ran::Ran;
+use bc_top::exit::Exit;
 use std::alloc::Global;
 use std::process::Abort;
 use std::sync::Wait;
@@ -58,10 +58,10 @@ fn test_reads<R: Abort>(rt: &R, opening: &[u8], pass: &Pass, again: &Pass)
 }
 
 // The same of what such a call left.
-fn test_again<R: Abort>(rt: &R, opening: &[u8], pass: &Pass, again: &Ran<MemDisk, MemDisk>)
+fn test_again<R: Abort>(rt: &R, opening: &[u8], pass: &Pass, again: &Exit<MemDisk, MemDisk>)
     requires { length opening.now ≡ 512 * 304 }
 {
-    assert_eq!(rt; again.status, 0);
+    assert_eq!(rt; again.status.number(), 0);
     assert!(rt; again.pass.is_some());
     if let Some(next) = &again.pass {
         test_reads(rt, opening, pass, next);
@@ -136,12 +136,12 @@ fn test_ran<R: Abort + Wait>(
     rt: &R,
     alloc: Global,
     opening: &[u8],
-    ran: &Ran<MemDisk, MemDisk>,
+    ran: &Exit<MemDisk, MemDisk>,
     status: u8,
 ) -> Result<(), Fail>
     requires { length opening.now ≡ 512 * 320 }
 {
-    assert_eq!(rt; ran.status, status);
+    assert_eq!(rt; ran.status.number(), status);
     if let Some(pass) = &ran.pass {
         return test_crashes(rt, alloc, opening, pass, &ran.backing);
     }

@@ -5,7 +5,8 @@ use crate::serving::test_end;
 use bc_disk::mem_disk::MemDisk;
 use bc_disk::mem_sink::MemSink;
 use bc_disk::mem_source::MemSource;
-use bc_top::ran::Ran;
+use bc_output::status::Status;
+use bc_top::exit::Exit;
 use bc_top::top::bcache;
 use std::alloc::Global;
 use std::process::Abort;
@@ -67,15 +68,15 @@ fn device(alloc: Global, sectors: usize, byte: u8, superblock: &[u8]) -> Result<
 }
 
 /// Two devices, or what a command left of them.
-pub type Pair = Ran<MemDisk, MemDisk>;
+pub type Pair = Exit<MemDisk, MemDisk>;
 
 /// Devices of so many sectors that have no superblock.
 pub fn blank(alloc: Global, cache: usize, backing: usize) -> Result<Pair, Fail>
     requires { (8 ≤ cache) × (cache < 20000) × (8 ≤ backing) × (backing < 20000) }
 {
     let cache = device(alloc, cache, 0xca, &[])?;
-    Ok(Ran {
-        status: 0,
+    Ok(Exit {
+        status: Status::Done,
         cache,
         backing: device(alloc, backing, 0xba, &[])?,
         pass: None,
@@ -87,8 +88,8 @@ pub fn made(alloc: Global, backing: usize) -> Result<Pair, Fail>
     requires { (16 ≤ backing) × (backing < 20000) }
 {
     let cache = device(alloc, CACHE_SECTORS, 0, &MADE_CACHE)?;
-    Ok(Ran {
-        status: 0,
+    Ok(Exit {
+        status: Status::Done,
         cache,
         backing: device(alloc, backing, 0, &MADE_BACKING)?,
         pass: None,

@@ -8,7 +8,7 @@ use bc_disk::mem_sink::MemSink;
 use bc_disk::mem_source::MemSource;
 use bc_disk::stream::{Sink, Source};
 use bc_super::backing::{BackingSuper, write_backing};
-use bc_top::ran::Ran;
+use bc_top::exit::Exit;
 use bc_top::top::bcache;
 use std::alloc::{AllocError, Global};
 use std::process::Abort;
@@ -60,7 +60,7 @@ pub fn serve<R: Wait, S: Source + Drop, K: Sink>(
     source: S,
     backing: MemDisk,
     out: &mut K,
-) -> Result<Ran<MemDisk, MemDisk>, Fail> {
+) -> Result<Exit<MemDisk, MemDisk>, Fail> {
     let mut source = source;
     let words = [String::from_str(alloc, word)?];
     let cache = MemDisk::new(alloc, Vec::new(alloc), 0)?;
@@ -70,17 +70,17 @@ pub fn serve<R: Wait, S: Source + Drop, K: Sink>(
 /// Tests how a run ended: what was printed, and the status.
 pub fn test_end<R: Abort>(
     rt: &R,
-    ran: &Ran<MemDisk, MemDisk>,
+    ran: &Exit<MemDisk, MemDisk>,
     printed: &[u8],
     text: &[u8],
     status: u8,
 ) {
-    assert_eq!(rt; ran.status, status);
+    assert_eq!(rt; ran.status.number(), status);
     assert_eq!(rt; printed, text);
 }
 
 /// Tests how many calls were made of the two devices.
-pub fn test_calls<R: Abort>(rt: &R, ran: &Ran<MemDisk, MemDisk>, cache: u64, backing: u64) {
+pub fn test_calls<R: Abort>(rt: &R, ran: &Exit<MemDisk, MemDisk>, cache: u64, backing: u64) {
     assert_eq!(rt; ran.cache.calls(), cache);
     assert_eq!(rt; ran.backing.calls(), backing);
 }
@@ -93,7 +93,7 @@ pub fn test_serve<R: Abort + Wait>(
     backing: MemDisk,
     text: &str,
     status: u8,
-) -> Result<Ran<MemDisk, MemDisk>, Fail> {
+) -> Result<Exit<MemDisk, MemDisk>, Fail> {
     let source = source(alloc, words.1)?;
     let mut out = MemSink::new(alloc, 1000)?;
     let ran = serve(rt, alloc, words.0, source, backing, &mut out)?;

@@ -4,7 +4,7 @@ use crate::slow::{SlowSink, SlowSource};
 use bc_disk::mem_disk::MemDisk;
 use bc_disk::mem_sink::MemSink;
 use bc_disk::stream::Sink;
-use bc_top::ran::Ran;
+use bc_top::exit::Exit;
 use std::alloc::Global;
 use std::process::Abort;
 use std::sync::Wait;
@@ -28,7 +28,7 @@ fn serve_to<R: Wait, K: Sink>(
     word: &str,
     trace: &str,
     out: &mut K,
-) -> Result<Ran<MemDisk, MemDisk>, Fail> {
+) -> Result<Exit<MemDisk, MemDisk>, Fail> {
     let trace = source(alloc, trace)?;
     serve(rt, alloc, word, trace, device(alloc)?, out)
 }
@@ -57,7 +57,7 @@ fn one_byte_at_a_time(rt: HostRuntime) -> Result<(), Fail> {
 fn test_unchanged<R: Abort>(
     rt: &R,
     alloc: Global,
-    ran: &Ran<MemDisk, MemDisk>,
+    ran: &Exit<MemDisk, MemDisk>,
 ) -> Result<(), Fail> {
     let opening = image(alloc, 80, false)?;
     assert!(rt; ran.pass.is_none());
@@ -128,7 +128,7 @@ fn test_message<R: Abort + Wait>(
 ) -> Result<(), Fail> {
     let mut out = MemSink::new(alloc, 4)?;
     let ran = serve_to(rt, alloc, word, trace, &mut out)?;
-    assert_eq!(rt; ran.status, status);
+    assert_eq!(rt; ran.status.number(), status);
     assert_eq!(rt; out.bytes().len(), 4);
     Ok(())
 }

@@ -14,9 +14,11 @@ use Rattle.bc_check.specs.declared.verdict.Verdict.{Verdict}
 use Rattle.bc_check.specs.declared.verdict.Verdict.TheVariants as verdicts
 use Rattle.bc_replay.specs.declared.error.OpenError.{OpenError}
 use Rattle.bc_replay.specs.declared.error.OpenError.TheVariants as errors
+use Rattle.bc_output.specs.declared.status.Status.{Status}
+use Rattle.bc_output.specs.declared.status.Status.TheVariants as statuses
 use Rattle.bc_top.specs.Ended.{HasStopped}
 use Rattle.bc_top.specs.Pairs.{EndsChecking}
-use Rattle.bc_top.specs.Stops.{IsStatus, check_stop, status_of, stop_of, verdict_status}
+use Rattle.bc_top.specs.Stops.{check_stop, status_of, open_stop, verdict_status}
 use Rattle.bc_top.specs.Top.{AreSame, OneHasRisen}
 use Rattle.bc_top.proofs.Pairing.{EndsQuietly}
 use Rattle.bc_serve.proofs.Failing.{next_rises}
@@ -29,54 +31,54 @@ same_checked cache cache' backing backing' kept = (same_kept cache cache' kept.c
 -- ---- which statuses there are
 
 -- what a check ends with: a verdict, a refusal, a fault of a device or of the sink, or want of memory
-data Ending (status : ℕ) : Type 0 where
-  sound : status ≡ 0 → Ending status
-  unsound : status ≡ 5 → Ending status
-  refused : status ≡ 4 → Ending status
-  failed : status ≡ 6 → Ending status
-  lacks : status ≡ 9 → Ending status
-  cut : status ≡ 8 → Ending status
+data Ending (status : Status) : Type 0 where
+  sound : status ≡ statuses.Done → Ending status
+  unsound : status ≡ statuses.Image → Ending status
+  refused : status ≡ statuses.Superblock → Ending status
+  failed : status ≡ statuses.Device → Ending status
+  lacks : status ≡ statuses.Memory → Ending status
+  cut : status ≡ statuses.Sink → Ending status
 
-by_verdict : (v : Verdict) (status : ℕ) → status ≡ verdict_status v → Ending status
+by_verdict : (v : Verdict) (status : Status) → status ≡ verdict_status v → Ending status
 by_verdict verdicts.PassThrough status is = sound is
 by_verdict (verdicts.Sound dirty clean) status is = sound is
 by_verdict (verdicts.Journal bucket) status is = unsound is
 by_verdict (verdicts.Age sector) status is = unsound is
 by_verdict (verdicts.Agree sector) status is = unsound is
 
-by_reason : (why : OpenError) (status : ℕ) → IsReason why → status ≡ status_of (stop_of why) → Ending status
+by_reason : (why : OpenError) (status : Status) → IsReason why → status ≡ status_of (open_stop why) → Ending status
 by_reason (errors.Super d why) status reason is = refused is
 by_reason (errors.Fault d) status reason is = absurd reason
 by_reason errors.Memory status reason is = absurd reason
 by_reason why status reason is = unsound is
 
-module _ (cache cache' backing backing' : DiskFacts) (answer : Result Told CheckError) (status : ℕ) (old new : StreamFacts) (cause : IfErr answer (IsCheckCause cache backing))
+module _ (cache cache' backing backing' : DiskFacts) (answer : Result Told CheckError) (status : Status) (old new : StreamFacts) (cause : IfErr answer (IsCheckCause cache backing))
     (faults : IfErr answer (λ e. CountsFault e cache cache' backing backing')) (ends : EndsChecking answer status old new) where
-  rises_at : (e : CheckError) → CountsFault e cache cache' backing backing' → IsCheckCause cache backing e → status ≡ status_of (check_stop e) → status ≡ 6 → OneHasRisen cache cache' backing backing'
+  rises_at : (e : CheckError) → CountsFault e cache cache' backing backing' → IsCheckCause cache backing e → status ≡ status_of (check_stop e) → status ≡ statuses.Device → OneHasRisen cache cache' backing backing'
   rises_at (checks.Fault device.Cache) counts cause is six = inl (subst (HasRisen cache.faults) (sym counts.0) (next_rises cache.faults))
   rises_at (checks.Fault device.Backing) counts cause is six = inr (subst (HasRisen backing.faults) (sym counts.1) (next_rises backing.faults))
-  rises_at checks.Memory counts cause is six = absurd (omega (arith, is, six))
+  rises_at checks.Memory counts cause is six = absurd (cc)
   rises_at (checks.Open why) counts cause is six = never (by_reason why status cause.0 is)
     where
       never : Ending status → OneHasRisen cache cache' backing backing'
-      never (sound s) = absurd (omega (arith, s, six))
-      never (unsound s) = absurd (omega (arith, s, six))
+      never (sound s) = absurd (cc)
+      never (unsound s) = absurd (cc)
       never (refused s) = absurd (other why cause.0 is)
         where
-          other : (why : OpenError) → IsReason why → status ≡ status_of (stop_of why) → ⊥
-          other (errors.Super d w) reason at = omega (arith, at, six)
+          other : (why : OpenError) → IsReason why → status ≡ status_of (open_stop why) → ⊥
+          other (errors.Super d w) reason at = cc
           other (errors.Fault d) reason at = reason
           other errors.Memory reason at = reason
-          other w reason at = omega (arith, at, six)
+          other w reason at = cc
       never (failed s) = absurd (other why cause.0 is)
         where
-          other : (why : OpenError) → IsReason why → status ≡ status_of (stop_of why) → ⊥
-          other (errors.Super d w) reason at = omega (arith, at, six)
+          other : (why : OpenError) → IsReason why → status ≡ status_of (open_stop why) → ⊥
+          other (errors.Super d w) reason at = cc
           other (errors.Fault d) reason at = reason
           other errors.Memory reason at = reason
-          other w reason at = omega (arith, at, six)
-      never (lacks s) = absurd (omega (arith, s, six))
-      never (cut s) = absurd (omega (arith, s, six))
+          other w reason at = cc
+      never (lacks s) = absurd (cc)
+      never (cut s) = absurd (cc)
 
   by_error : (e : CheckError) → IsCheckCause cache backing e → status ≡ status_of (check_stop e) → Ending status
   by_error (checks.Open why) cause is = by_reason why status cause.0 is
@@ -91,7 +93,7 @@ module _ (cache cache' backing backing' : DiskFacts) (answer : Result Told Check
       go (Ok told) cause (inr short) = cut short.0
       go (Err e) cause ends = by_error e cause ends.0
 
-  pub checking_rises : status ≡ 6 → OneHasRisen cache cache' backing backing'
+  pub checking_rises : status ≡ statuses.Device → OneHasRisen cache cache' backing backing'
   checking_rises six = go answer cause faults ends
     where
       go : (r : Result Told CheckError) → IfErr r (IsCheckCause cache backing) → IfErr r (λ e. CountsFault e cache cache' backing backing') → EndsChecking r status old new → OneHasRisen cache cache' backing backing'
@@ -101,34 +103,34 @@ module _ (cache cache' backing backing' : DiskFacts) (answer : Result Told Check
           never e = not_six told.verdict done.0
             where
               not_six : (v : Verdict) → status ≡ verdict_status v → ⊥
-              not_six verdicts.PassThrough is = omega (arith, is, six)
-              not_six (verdicts.Sound dirty clean) is = omega (arith, is, six)
-              not_six (verdicts.Journal bucket) is = omega (arith, is, six)
-              not_six (verdicts.Age sector) is = omega (arith, is, six)
-              not_six (verdicts.Agree sector) is = omega (arith, is, six)
-      go (Ok told) cause faults (inr short) = (let eight = short.0 in absurd (omega (arith, eight, six)))
+              not_six verdicts.PassThrough is = cc
+              not_six (verdicts.Sound dirty clean) is = cc
+              not_six (verdicts.Journal bucket) is = cc
+              not_six (verdicts.Age sector) is = cc
+              not_six (verdicts.Agree sector) is = cc
+      go (Ok told) cause faults (inr short) = (let eight = short.0 in absurd (cc))
       go (Err e) cause faults ends = rises_at e faults cause ends.0 six
 
-  pub checking_stops : status ≡ 8 → HasStopped old new
+  pub checking_stops : status ≡ statuses.Sink → HasStopped old new
   checking_stops eight = go answer cause ends
     where
       not_eight : (e : CheckError) → IsCheckCause cache backing e → status ≡ status_of (check_stop e) → ⊥
-      not_eight (checks.Fault d) cause is = omega (arith, is, eight)
-      not_eight checks.Memory cause is = omega (arith, is, eight)
+      not_eight (checks.Fault d) cause is = cc
+      not_eight checks.Memory cause is = cc
       not_eight (checks.Open why) cause is = other why cause.0 is
         where
-          other : (why : OpenError) → IsReason why → status ≡ status_of (stop_of why) → ⊥
-          other (errors.Super d w) reason at = omega (arith, at, eight)
+          other : (why : OpenError) → IsReason why → status ≡ status_of (open_stop why) → ⊥
+          other (errors.Super d w) reason at = cc
           other (errors.Fault d) reason at = reason
           other errors.Memory reason at = reason
-          other w reason at = omega (arith, at, eight)
+          other w reason at = cc
 
       by_told : (v : Verdict) → status ≡ verdict_status v → ⊥
-      by_told verdicts.PassThrough is = omega (arith, is, eight)
-      by_told (verdicts.Sound dirty clean) is = omega (arith, is, eight)
-      by_told (verdicts.Journal bucket) is = omega (arith, is, eight)
-      by_told (verdicts.Age sector) is = omega (arith, is, eight)
-      by_told (verdicts.Agree sector) is = omega (arith, is, eight)
+      by_told verdicts.PassThrough is = cc
+      by_told (verdicts.Sound dirty clean) is = cc
+      by_told (verdicts.Journal bucket) is = cc
+      by_told (verdicts.Age sector) is = cc
+      by_told (verdicts.Agree sector) is = cc
 
       go : (r : Result Told CheckError) → IfErr r (IsCheckCause cache backing) → EndsChecking r status old new → HasStopped old new
       go (Ok told) cause (inl done) = absurd (by_told told.verdict done.0)
@@ -136,37 +138,27 @@ module _ (cache cache' backing backing' : DiskFacts) (answer : Result Told Check
       go (Err e) cause ends = absurd (not_eight e cause ends.0)
 
   -- neither the words, nor a trace, nor its source
-  pub checking_known : IsStatus status
-  checking_known = elim ending [
-    | sound s ↦ inl s
-    | unsound s ↦ inr (inl (inr (inr (inr s))))
-    | refused s ↦ inr (inl (inr (inr (inl s))))
-    | failed s ↦ inr (inr (inl s))
-    | lacks s ↦ inr (inr (inr (inr (inr s))))
-    | cut s ↦ inr (inr (inr (inr (inl s))))
-  ]
-
-  pub not_usage : status ≡ 2 → ⊥
+  pub not_usage : status ≡ statuses.Usage → ⊥
   not_usage two = elim ending [
-    | sound s ↦ omega (arith, s, two)
-    | unsound s ↦ omega (arith, s, two)
-    | refused s ↦ omega (arith, s, two)
-    | failed s ↦ omega (arith, s, two)
-    | lacks s ↦ omega (arith, s, two)
-    | cut s ↦ omega (arith, s, two)
+    | sound s ↦ cc
+    | unsound s ↦ cc
+    | refused s ↦ cc
+    | failed s ↦ cc
+    | lacks s ↦ cc
+    | cut s ↦ cc
   ]
 
-  pub not_source : status ≡ 7 → ⊥
+  pub not_source : status ≡ statuses.Source → ⊥
   not_source seven = elim ending [
-    | sound s ↦ omega (arith, s, seven)
-    | unsound s ↦ omega (arith, s, seven)
-    | refused s ↦ omega (arith, s, seven)
-    | failed s ↦ omega (arith, s, seven)
-    | lacks s ↦ omega (arith, s, seven)
-    | cut s ↦ omega (arith, s, seven)
+    | sound s ↦ cc
+    | unsound s ↦ cc
+    | refused s ↦ cc
+    | failed s ↦ cc
+    | lacks s ↦ cc
+    | cut s ↦ cc
   ]
 
-  pub checking_ends : (OneHasRisen cache cache' backing backing' → ⊥) → (HasStopped old new → ⊥) → EndsQuietly status ⊎ (status ≡ 5)
+  pub checking_ends : (OneHasRisen cache cache' backing backing' → ⊥) → (HasStopped old new → ⊥) → EndsQuietly status ⊎ (status ≡ statuses.Image)
   checking_ends still takes = elim ending [
     | sound s ↦ inl (inl s)
     | unsound s ↦ inr s

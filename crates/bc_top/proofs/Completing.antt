@@ -1,11 +1,13 @@
 -- Why no run began: each cause needs a fault of what was handed in.
 use Rattle.std.proofs.Common.{◌≡◌, ◌≢◌, inl, inr, ℕ, ◌+◌, ◌*◌, ◌<◌, List, Option, Some, None, refl, sym, subst, arith}
-use Rattle.bc_disk.specs.Device.{HasRisen}
+use Rattle.bc_disk.specs.Device.{HasRisen, next_count}
 use Rattle.bc_disk.specs.Disk.{DiskFacts}
 use Rattle.bc_disk.specs.Stream.{StreamFacts, BothToldText}
+use Rattle.bc_disk.specs.declared.disk.Device.{Device}
 use Rattle.bc_disk.specs.declared.disk.Device.TheVariants as device
 use Rattle.bc_script.specs.Trace.{IsCause as IsScriptCause, IsFirstRefused, IsTaken}
 use Rattle.bc_script.specs.declared.script.ScriptError.{ScriptError}
+use Rattle.bc_script.specs.declared.script.TraceError.{TraceError}
 use Rattle.bc_script.specs.declared.script.TraceError.TheVariants as trace
 use Rattle.bc_script.proofs.OneReading.{read_or_refused}
 use Rattle.bc_super.specs.Super.{IsBackingSuper}
@@ -18,11 +20,14 @@ use Rattle.bc_super.proofs.Told.{same_bytes, super_before}
 use Rattle.bc_super.specs.Division.{IsPassThrough}
 use Rattle.bc_replay.specs.declared.error.OpenError.{OpenError}
 use Rattle.bc_replay.specs.declared.error.OpenError.TheVariants as opening
-use Rattle.bc_top.specs.Opened.{IsLoneCause, IsOpeningCause, IsSameDevice, AsksForNone}
-use Rattle.bc_top.specs.Stops.{status_of}
-use Rattle.bc_top.specs.Top.{SpellsTrace, IsServeCause}
+use Rattle.bc_output.specs.declared.status.Status.{Status}
+use Rattle.bc_output.specs.declared.status.Status.TheVariants as statuses
+use Rattle.bc_top.specs.Opened.{IsLoneCause, IsOpeningCause, IsPairCause, IsSameDevice, AsksForNone}
+use Rattle.bc_top.specs.Stops.{open_stop, status_of, trace_stop}
+use Rattle.bc_top.specs.Top.{SpellsTrace, IsServeCause, OneHasRisen}
 use Rattle.bc_top.specs.declared.stop.Stop.{Stop}
 use Rattle.bc_top.specs.declared.stop.Stop.TheVariants as stop
+use Rattle.bc_top.proofs.Settled.{next_risen}
 
 -- a source that spells a trace isn't refused
 pub never_refused : (source left : StreamFacts) (e : ScriptError) → SpellsTrace source → IsScriptCause source left (trace.Script e) → ⊥
@@ -67,7 +72,7 @@ module _ (cache cache' old new : DiskFacts) (asks : AsksForNone old) (same : IsS
       never (subst IsPassThrough (one_super read.0 old.sectors asks.2.0 s there read.2) asks.2.2)
 
   not_lone : (error : OpenError) → (HasRisen old.faults new.faults → ⊥) → IsLoneCause error old new → ⊥
-  not_lone (opening.Fault device.Backing) still rose = still rose
+  not_lone (opening.Fault device.Backing) still cause = still (next_risen old.faults new.faults cause.0)
   not_lone (opening.Super device.Backing why) still refuses = not_cause why refuses.0.0 refuses.0.1
   not_lone error still cause = absurd cause
 
@@ -77,9 +82,49 @@ module _ (cache cache' old new : DiskFacts) (asks : AsksForNone old) (same : IsS
 
   -- with such a device and a source that spells a trace only want of memory is left
   pub only_memory : (source left : StreamFacts) (why : Stop) → SpellsTrace source → (HasRisen source.faults left.faults → ⊥) → (HasRisen old.faults new.faults → ⊥)
-      → IsServeCause why source left cache cache' old new → status_of why ≡ 9
+      → IsServeCause why source left cache cache' old new → status_of why ≡ statuses.Memory
   only_memory source left stop.Usage spells quiet still cause = absurd cause
   only_memory source left (stop.Trace e) spells quiet still cause = absurd (never_refused source left e spells cause.0)
   only_memory source left stop.Source spells quiet still cause = absurd (quiet cause.0)
   only_memory source left stop.Memory spells quiet still cause = refl
   only_memory source left why spells quiet still cause = absurd (not_opened why still cause.1)
+
+-- a trace that isn't read is why it isn't served
+pub unread : (source left : StreamFacts) (cache backing : DiskFacts) (e : TraceError) → IsScriptCause source left e
+    → IsServeCause (trace_stop e) source left cache cache backing backing
+unread source left cache backing (trace.Script e) cause = (cause, (refl, refl))
+unread source left cache backing trace.Fault cause = (cause, (refl, refl))
+unread source left cache backing trace.Memory cause = inl (cause, (refl, refl))
+
+-- a call that ended with a fault of a device has a count that rose
+module _ (cache cache' backing backing' : DiskFacts) where
+  lone_rose : (e : OpenError) (d : Device) → stop.Fault d ≡ open_stop e → IsLoneCause e backing backing'
+      → OneHasRisen cache cache' backing backing'
+  lone_rose (opening.Fault device.Backing) d is cause = inr (next_risen backing.faults backing'.faults cause.0)
+  lone_rose (opening.Super device.Backing why) d is cause = absurd (cc)
+  lone_rose e d is cause = absurd cause
+
+  pair_rose : (calls : ℕ) (e : OpenError) (d : Device) → stop.Fault d ≡ open_stop e
+      → IsPairCause cache cache' backing backing' calls e → OneHasRisen cache cache' backing backing'
+  pair_rose calls (opening.Fault device.Cache) d is cause = inl (next_risen cache.faults cache'.faults cause.0)
+  pair_rose calls (opening.Fault device.Backing) d is cause = inr (next_risen backing.faults backing'.faults cause.1)
+  pair_rose calls (opening.Super at why) d is cause = absurd (cc)
+  pair_rose calls e d is cause = absurd (cc)
+
+  opening_rose : (d : Device) → IsOpeningCause cache cache' backing backing' (stop.Fault d)
+      → OneHasRisen cache cache' backing backing'
+  opening_rose d (inl lone) = lone_rose lone.0 d lone.1 lone.2
+  opening_rose d (inr (asked, inl refused)) = pair_rose (next_count (next_count backing.calls)) refused.0 d refused.1 refused.2
+  opening_rose d (inr (asked, inr none)) = absurd (let is = none.0 in cc)
+
+  pub device_rose : (source left : StreamFacts) (why : Stop)
+      → IsServeCause why source left cache cache' backing backing' → status_of why ≡ statuses.Device
+      → OneHasRisen cache cache' backing backing'
+  device_rose source left stop.Usage cause is = absurd cause
+  device_rose source left (stop.Trace e) cause is = absurd (let no : statuses.Trace ≡ statuses.Device = is in cc)
+  device_rose source left (stop.Superblock d number) cause is = absurd (let no : statuses.Superblock ≡ statuses.Device = is in cc)
+  device_rose source left (stop.Image number) cause is = absurd (let no : statuses.Image ≡ statuses.Device = is in cc)
+  device_rose source left stop.Unserved cause is = absurd (let no : statuses.Image ≡ statuses.Device = is in cc)
+  device_rose source left stop.Source cause is = absurd (let no : statuses.Source ≡ statuses.Device = is in cc)
+  device_rose source left stop.Memory cause is = absurd (let no : statuses.Memory ≡ statuses.Device = is in cc)
+  device_rose source left (stop.Fault d) cause is = opening_rose d cause.1

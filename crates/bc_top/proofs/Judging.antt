@@ -22,16 +22,17 @@ use Rattle.bc_replay.proofs.Pairs.{backing_refused, of_both}
 use Rattle.bc_super.specs.Division.{IsPassThrough}
 use Rattle.bc_super.specs.Reading.{ReadsSuper}
 use Rattle.bc_super.specs.declared.backing.BackingSuper.{BackingSuper}
+use Rattle.bc_output.specs.declared.status.Status.{Status}
+use Rattle.bc_output.specs.declared.status.Status.TheVariants as statuses
 use Rattle.bc_top.specs.Ended.{IsPutOf}
 use Rattle.bc_super.proofs.Told.{reads_before}
-use Rattle.bc_top.specs.Opened.{AreQuiet, AsksForCache, IsAnswerTo, IsLoneCause, IsOpened, IsOpeningCause, IsPairCause, IsSameDevice, LeavesLess, SameImage}
-use Rattle.bc_top.specs.Stops.{message_of, status_of, stop_of}
+use Rattle.bc_top.specs.Opened.{AreQuiet, AreStill, AsksForCache, IsAnswerTo, IsLoneCause, IsOpened, IsOpeningCause, IsPairCause, IsSameDevice, LeavesLess, SameImage}
+use Rattle.bc_top.specs.Stops.{message_of, status_of, open_stop}
 use Rattle.bc_top.specs.Top.{AnswersPair, AreSame, EndsAnswering, IsServeCause, OneHasRisen, SpellsTrace}
 use Rattle.bc_top.specs.declared.stop.Stop.{Stop}
 use Rattle.bc_top.specs.declared.stop.Stop.TheVariants as stop
 use Rattle.bc_top.proofs.Completing.{never_refused}
-use Rattle.bc_serve.proofs.Failing.{next_rises}
-use Rattle.bc_top.proofs.Settled.{both_same}
+use Rattle.bc_top.proofs.Settled.{both_same, next_risen}
 
 -- ---- the pair that two devices hold
 
@@ -83,23 +84,23 @@ same_again a b c first second = record {
 
 -- ---- why a pair is refused
 
-next_risen : (old new : ℕ) → new ≡ next_count old → HasRisen old new
-next_risen old new is = subst (HasRisen old) (sym is) (next_rises old)
-
-module _ (cache settled cache' backing backing' : DiskFacts) (size : settled.sectors ≡ cache.sectors) (kept : BothTold SameImage cache.holds settled.holds) (good : settled.faults ≡ cache.faults) where
+module _ (cache settled cache' backing backing' : DiskFacts) (still : AreStill cache' backing') (size : settled.sectors ≡ cache.sectors) (kept : BothTold SameImage cache.holds settled.holds) (good : settled.faults ≡ cache.faults) where
   pub held_settled : (P : Pair → Type 0) → OfHeld P settled backing → OfHeld P cache backing
   held_settled P = held_before P cache settled backing backing size kept refl (both_self backing.holds)
 
   pub survey_cause : settled.calls ≡ next_count cache.calls → (e : OpenError) → IsSurveyCause settled backing e → CountsFault e settled cache' backing backing' → EndsAtSupers settled backing settled.calls cache'.calls e → backing'.calls ≡ next_count backing.calls
       → IsPairCause cache cache' backing backing' backing.calls e
-  survey_cause calls (errors.Fault device.Cache) cause counts ends again = next_risen cache.faults cache'.faults (subst (λ n. cache'.faults ≡ next_count n) good counts.0)
-  survey_cause calls (errors.Fault device.Backing) cause counts ends again = next_risen backing.faults backing'.faults counts.1
-  survey_cause calls errors.Memory cause counts ends again = tt
+  survey_cause calls (errors.Fault device.Cache) cause counts ends again =
+      (counts.0 ∙ ap (λ n. next_count n) good, counts.1, still.1, inr (still.0, again))
+  survey_cause calls (errors.Fault device.Backing) cause counts ends again =
+      (counts.0 ∙ good, counts.1, again, still)
+  survey_cause calls errors.Memory cause counts ends again = ((counts.0 ∙ good, counts.1), again, still)
   survey_cause calls e cause counts ends again = (
     held_settled (λ p. IsFirst p e) cause,
     (counts.0 ∙ good, counts.1),
     again,
     end_before cache settled backing backing size kept refl (both_self backing.holds) (next_count cache.calls) cache'.calls e (subst (λ n. EndsAtSupers settled backing n cache'.calls e) calls ends),
+    still,
   )
 
 -- the same of a backing device that was opened before
@@ -108,33 +109,48 @@ module _ (cache cache' backing opened backing' : DiskFacts) (size : opened.secto
   opened_held P = held_before P cache cache backing opened refl (both_self cache.holds) size kept
 
   pub opened_cause : opened.calls ≡ next_count (next_count backing.calls) → (e : OpenError) → IsPairCause cache cache' opened backing' opened.calls e → IsPairCause cache cache' backing backing' (next_count (next_count backing.calls)) e
-  opened_cause calls (errors.Fault device.Cache) cause = cause
-  opened_cause calls (errors.Fault device.Backing) cause = subst (λ n. HasRisen n backing'.faults) good cause
-  opened_cause calls errors.Memory cause = tt
+  opened_cause calls (errors.Fault device.Cache) cause = (
+    cause.0,
+    cause.1 ∙ good,
+    cause.2,
+    elim cause.3 [
+      | inl first ↦ inl (first.0, first.1 ∙ calls)
+      | inr later ↦ inr (later.0, later.1 ∙ ap (λ n. next_count n) calls)
+    ],
+  )
+  opened_cause calls (errors.Fault device.Backing) cause = (
+    cause.0,
+    cause.1 ∙ ap (λ n. next_count n) good,
+    cause.2 ∙ ap (λ n. next_count n) calls,
+    cause.3,
+  )
+  opened_cause calls errors.Memory cause =
+      ((cause.0.0, cause.0.1 ∙ good), subst (λ n. backing'.calls ≡ next_count n) calls cause.1, cause.2)
   opened_cause calls e cause = (
     opened_held (λ p. IsFirst p e) cause.0,
     (cause.1.0, cause.1.1 ∙ good),
     subst (λ n. backing'.calls ≡ next_count n) calls cause.2,
     end_before cache cache backing opened refl (both_self cache.holds) size kept (next_count cache.calls) cache'.calls e cause.3,
+    cause.4,
   )
 
 -- ---- why a pair isn't opened
 
 -- an error that `?` turned into the end of the call
-pub turned : {T : Type 0} (r : Result T Stop) (e : OpenError) (Q : Stop → Type 0) → IsErrAnd r (λ x. x ≡ stop_of e) → Q (stop_of e) → IfErr r Q
-turned (Ok x) e Q is holds = tt
-turned (Err x) e Q is holds = subst Q (sym is) holds
+pub turned : {T : Type 0} (r : Result T Stop) (why : Stop) (Q : Stop → Type 0) → IsErrAnd r (λ x. x ≡ why) → Q why → IfErr r Q
+turned (Ok x) why Q is holds = tt
+turned (Err x) why Q is holds = subst Q (sym is) holds
 
 module _ (cache cache' backing opened backing' : DiskFacts) (s : BackingSuper) (is : IsOpened s backing opened) (never : IsPassThrough s → ⊥) where
   asks : AsksForCache backing
   asks = (s, reads_before backing opened is.sectors is.holds s is.reads, never)
 
-  pub opening_refused : (e : OpenError) → IsPairCause cache cache' opened backing' opened.calls e → IsOpeningCause cache cache' backing backing' (stop_of e)
+  pub opening_refused : (e : OpenError) → IsPairCause cache cache' opened backing' opened.calls e → IsOpeningCause cache cache' backing backing' (open_stop e)
   opening_refused e cause = inr (asks, inl (e, refl, opened_cause cache cache' backing opened backing' is.sectors is.holds is.faults is.calls e cause))
 
-  pub opening_unserved : OfHeld CanBeOpened cache opened → AreQuiet cache cache' opened backing' → backing'.calls ≡ next_count opened.calls → IsOpeningCause cache cache' backing backing' stop.Unserved
-  opening_unserved can quiet again =
-      inr (asks, inr (refl, opened_held cache cache' backing opened backing' is.sectors is.holds is.faults CanBeOpened can, (quiet.0, quiet.1 ∙ is.faults), subst (λ n. backing'.calls ≡ next_count n) is.calls again))
+  pub opening_unserved : OfHeld CanBeOpened cache opened → AreQuiet cache cache' opened backing' → backing'.calls ≡ next_count opened.calls → AreStill cache' backing' → IsOpeningCause cache cache' backing backing' stop.Unserved
+  opening_unserved can quiet again still =
+      inr (asks, inr (refl, opened_held cache cache' backing opened backing' is.sectors is.holds is.faults CanBeOpened can, (quiet.0, quiet.1 ∙ is.faults), subst (λ n. backing'.calls ≡ next_count n) is.calls again, still))
 
 -- a device that has a superblock has room for it
 pub has_room : (d : DiskFacts) (s : BackingSuper) → ReadsSuper d s → 16 ≤ d.sectors
@@ -147,15 +163,18 @@ module _ (cache cache' backing backing' : DiskFacts) (same : AreSame cache cache
   Answers why p = (why ≡ stop.Memory) ⊎ IsAnswerTo p why
 
   lone_first : (e : OpenError) → IsLoneCause e backing backing' → OfHeld (λ p. IsFirst p e) cache backing
-  lone_first (errors.Fault device.Backing) rose = absurd (still (inr rose))
+  lone_first (errors.Fault device.Backing) cause =
+      absurd (still (inr (next_risen backing.faults backing'.faults cause.0)))
   lone_first (errors.Super device.Backing why) refuses =
       held_before (λ p. IsFirst p (errors.Super device.Backing why)) cache cache' backing backing' same.0.sectors same.0.holds same.1.sectors same.1.holds
       (of_both (λ p. IsFirst p (errors.Super device.Backing why)) cache' backing' (λ c b tells told. inl (backing_refused cache' backing' c b tells told why refuses.0)))
   lone_first e cause = absurd cause
 
-  pair_first : (calls : ℕ) (why : Stop) (e : OpenError) → why ≡ stop_of e → IsPairCause cache cache' backing backing' calls e → OfHeld (Answers why) cache backing
-  pair_first calls why (errors.Fault device.Cache) is rose = absurd (still (inl rose))
-  pair_first calls why (errors.Fault device.Backing) is rose = absurd (still (inr rose))
+  pair_first : (calls : ℕ) (why : Stop) (e : OpenError) → why ≡ open_stop e → IsPairCause cache cache' backing backing' calls e → OfHeld (Answers why) cache backing
+  pair_first calls why (errors.Fault device.Cache) is cause =
+      absurd (still (inl (next_risen cache.faults cache'.faults cause.0)))
+  pair_first calls why (errors.Fault device.Backing) is cause =
+      absurd (still (inr (next_risen backing.faults backing'.faults cause.1)))
   pair_first calls why errors.Memory is cause = held_all (Answers why) cache backing (λ p. inl is)
   pair_first calls why e is cause = held_map (λ p. IsFirst p e) (Answers why) cache backing (λ p first. inr (inl (e, first, is))) cause.0
 
@@ -173,12 +192,12 @@ module _ (cache cache' backing backing' : DiskFacts) (same : AreSame cache cache
 
 -- a pair has one answer at most
 pub same_answer : (p : Pair) (a b : Stop) → IsAnswerTo p a → IsAnswerTo p b → a ≡ b
-same_answer p a b (inl x) (inl y) = x.2 ∙ ap (λ (e : OpenError). stop_of e) (one_refusal p x.0 y.0 x.1 y.1) ∙ sym y.2
+same_answer p a b (inl x) (inl y) = x.2 ∙ ap (λ (e : OpenError). open_stop e) (one_refusal p x.0 y.0 x.1 y.1) ∙ sym y.2
 same_answer p a b (inl x) (inr y) = absurd (y.0 x.0 x.1)
 same_answer p a b (inr x) (inl y) = absurd (x.0 y.0 y.1)
 same_answer p a b (inr x) (inr y) = x.1 ∙ sym y.1
 
-is_told : (e : OpenError) → stop.Unserved ≡ stop_of e → ⊥
+is_told : (e : OpenError) → stop.Unserved ≡ open_stop e → ⊥
 is_told (errors.Super d why) is = absurd (cc)
 is_told e is = absurd (cc)
 
@@ -188,21 +207,21 @@ unserved_none p (inr x) = x.0
 
 -- a call that ended so before its run has answered the pair
 pub stopped_answers : (cache cache' backing backing' : DiskFacts) → AreSame cache cache' backing backing' → (source left : StreamFacts) (why : Stop) → IsServeCause why source left cache cache' backing backing'
-    → (status : ℕ) (old new : StreamFacts) → status ≡ status_of why → IsPutOf (message_text (message_of why)) old new → AnswersPair source left cache cache' backing backing' status old new
+    → (status : Status) (old new : StreamFacts) → status ≡ status_of why → IsPutOf (message_text (message_of why)) old new → AnswersPair source left cache cache' backing backing' status old new
 stopped_answers cache cache' backing backing' same source left why cause status old new is put = λ spells quiet still.
     held_map (λ p. (why ≡ stop.Memory) ⊎ IsAnswerTo p why) (λ p. (ServesAlone p → ⊥) → EndsAnswering p status old new) cache backing (λ p answered never. ends p answered)
     (served cache cache' backing backing' same still source left why spells quiet cause)
   where
     ends : (p : Pair) → (why ≡ stop.Memory) ⊎ IsAnswerTo p why → EndsAnswering p status old new
-    ends p (inl memory) = inl (is ∙ (let nine : status_of why ≡ 9 = subst (λ (x : Stop). status_of x ≡ 9) (sym memory) refl in nine))
+    ends p (inl memory) = inl (is ∙ (let nine : status_of why ≡ statuses.Memory = subst (λ (x : Stop). status_of x ≡ statuses.Memory) (sym memory) refl in nine))
     ends p (inr answer) = inr (why, answer, is, put)
 
 -- nor does one that had no memory answer otherwise
-pub nine_answers : (source left : StreamFacts) (cache cache' backing backing' : DiskFacts) (status : ℕ) (old new : StreamFacts) → status ≡ 9 → AnswersPair source left cache cache' backing backing' status old new
+pub nine_answers : (source left : StreamFacts) (cache cache' backing backing' : DiskFacts) (status : Status) (old new : StreamFacts) → status ≡ statuses.Memory → AnswersPair source left cache cache' backing backing' status old new
 nine_answers source left cache cache' backing backing' status old new nine = λ spells quiet still. held_all (λ p. (ServesAlone p → ⊥) → EndsAnswering p status old new) cache backing (λ p never. inl nine)
 
 -- where a run began the backing device serves alone
-pub alone_answers : (source left : StreamFacts) (cache cache' backing backing' : DiskFacts) (s : BackingSuper) → ReadsSuper backing s → IsPassThrough s → (status : ℕ) (old new : StreamFacts) → AnswersPair source left cache cache' backing backing' status old new
+pub alone_answers : (source left : StreamFacts) (cache cache' backing backing' : DiskFacts) (s : BackingSuper) → ReadsSuper backing s → IsPassThrough s → (status : Status) (old new : StreamFacts) → AnswersPair source left cache cache' backing backing' status old new
 alone_answers source left cache cache' backing backing' s reads alone status old new = λ spells quiet still.
     of_both (λ p. (ServesAlone p → ⊥) → EndsAnswering p status old new) cache backing (λ c b tells told never.
     absurd (never (s, backing_read backing (pair_of cache backing c b) s told refl (has_room backing s reads) reads, alone)))

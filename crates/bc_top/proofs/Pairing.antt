@@ -9,6 +9,8 @@ use Rattle.bc_disk.specs.declared.disk.Device.TheVariants as device
 use Rattle.bc_pair.specs.Causes.{AdoptLeaves, AreKept, FaultRose, KeepsOthers}
 use Rattle.bc_pair.specs.declared.error.PairError.{PairError}
 use Rattle.bc_pair.specs.declared.error.PairError.TheVariants as errors
+use Rattle.bc_output.specs.declared.status.Status.{Status}
+use Rattle.bc_output.specs.declared.status.Status.TheVariants as statuses
 use Rattle.bc_top.specs.Ended.{HasStopped}
 use Rattle.bc_top.specs.Pairs.{EndsPrinting, EndsSilently, IsStopped}
 use Rattle.bc_top.specs.Stops.{IsRefusal}
@@ -34,48 +36,48 @@ pub same_both : (cache cache' backing backing' : DiskFacts) → AreKept cache ca
 same_both cache cache' backing backing' kept = (same_kept cache cache' kept.0, same_kept backing backing' kept.1)
 
 -- a refusal to adopt a pair wrote nothing
-pub adopt_unwritten : {C B : Type 0} (cache_facts : C → DiskFacts) (backing_facts : B → DiskFacts) (cache cache' : C) (backing backing' : B) (answer : Result (Unit {0}) PairError) (status : ℕ) (old new : StreamFacts)
+pub adopt_unwritten : {C B : Type 0} (cache_facts : C → DiskFacts) (backing_facts : B → DiskFacts) (cache cache' : C) (backing backing' : B) (answer : Result (Unit {0}) PairError) (status : Status) (old new : StreamFacts)
     → IfErr answer (λ e. AdoptLeaves cache_facts backing_facts e cache cache' backing backing') → EndsSilently answer status old new → IsRefusal status → AreSame (cache_facts cache) (cache_facts cache') (backing_facts backing) (backing_facts backing')
 adopt_unwritten cache_facts backing_facts cache cache' backing backing' (Ok u) status old new leaves ends refused = let zero = ends.0 in absurd (never refused)
   where
     never : IsRefusal status → ⊥
-    never (inl two) = let zero = ends.0 in omega arith
-    never (inr (inl three)) = let zero = ends.0 in omega arith
-    never (inr (inr (inl four))) = let zero = ends.0 in omega arith
-    never (inr (inr (inr five))) = let zero = ends.0 in omega arith
+    never (inl two) = let zero = ends.0 in cc
+    never (inr (inl three)) = let zero = ends.0 in cc
+    never (inr (inr (inl four))) = let zero = ends.0 in cc
+    never (inr (inr (inr five))) = let zero = ends.0 in cc
 adopt_unwritten cache_facts backing_facts cache cache' backing backing' (Err (errors.Superblock d why)) status old new leaves ends refused = same_both _ _ _ _ leaves
 adopt_unwritten cache_facts backing_facts cache cache' backing backing' (Err errors.Memory) status old new leaves ends refused = same_both _ _ _ _ leaves
 adopt_unwritten cache_facts backing_facts cache cache' backing backing' (Err (errors.Fault d)) status old new leaves ends refused = absurd (never refused)
   where
     never : IsRefusal status → ⊥
-    never (inl two) = let six = ends.0 in omega arith
-    never (inr (inl three)) = let six = ends.0 in omega arith
-    never (inr (inr (inl four))) = let six = ends.0 in omega arith
-    never (inr (inr (inr five))) = let six = ends.0 in omega arith
+    never (inl two) = let six = ends.0 in cc
+    never (inr (inl three)) = let six = ends.0 in cc
+    never (inr (inr (inl four))) = let six = ends.0 in cc
+    never (inr (inr (inr five))) = let six = ends.0 in cc
 
-pub printing_stops : (answer : Result (String Global) PairError) (status : ℕ) (old new : StreamFacts) → EndsPrinting answer status old new → status ≡ 8 → HasStopped old new
-printing_stops (Ok text) status old new (inl done) is = absurd (let zero = done.0 in omega arith)
+pub printing_stops : (answer : Result (String Global) PairError) (status : Status) (old new : StreamFacts) → EndsPrinting answer status old new → status ≡ statuses.Sink → HasStopped old new
+printing_stops (Ok text) status old new (inl done) is = absurd (let zero = done.0 in cc)
 printing_stops (Ok text) status old new (inr cut) is = fault_stops cut.1.0 _ old new cut.1.1
-printing_stops (Err (errors.Superblock d why)) status old new ends is = absurd (let four = ends.0 in omega arith)
-printing_stops (Err (errors.Fault d)) status old new ends is = absurd (let six = ends.0 in omega arith)
-printing_stops (Err errors.Memory) status old new ends is = absurd (let nine = ends.0 in omega arith)
+printing_stops (Err (errors.Superblock d why)) status old new ends is = absurd (let four = ends.0 in cc)
+printing_stops (Err (errors.Fault d)) status old new ends is = absurd (let six = ends.0 in cc)
+printing_stops (Err errors.Memory) status old new ends is = absurd (let nine = ends.0 in cc)
 
 -- a command that isn't a trace's, where no device failed and the sink took all
-abbrev pub EndsQuietly : ℕ → Type 0
-EndsQuietly status = (status ≡ 0) ⊎ (status ≡ 2) ⊎ (status ≡ 4) ⊎ (status ≡ 9)
+abbrev pub EndsQuietly : Status → Type 0
+EndsQuietly status = (status ≡ statuses.Done) ⊎ (status ≡ statuses.Usage) ⊎ (status ≡ statuses.Superblock) ⊎ (status ≡ statuses.Memory)
 
 module _ (cache cache' backing backing' : DiskFacts) (still : OneHasRisen cache cache' backing backing' → ⊥) where
-  stopped_quietly : (e : PairError) (status : ℕ) (old new : StreamFacts) → FaultRose e cache cache' backing backing' → IsStopped e status old new → EndsQuietly status
+  stopped_quietly : (e : PairError) (status : Status) (old new : StreamFacts) → FaultRose e cache cache' backing backing' → IsStopped e status old new → EndsQuietly status
   stopped_quietly (errors.Superblock d why) status old new rose ends = inr (inr (inl ends.0))
   stopped_quietly (errors.Fault device.Cache) status old new rose ends = absurd (still (inl rose.0))
   stopped_quietly (errors.Fault device.Backing) status old new rose ends = absurd (still (inr rose.1))
   stopped_quietly errors.Memory status old new rose ends = inr (inr (inr ends.0))
 
-  pub silent_ends : (answer : Result (Unit {0}) PairError) (status : ℕ) (old new : StreamFacts) → IfErr answer (λ e. FaultRose e cache cache' backing backing') → EndsSilently answer status old new → EndsQuietly status
+  pub silent_ends : (answer : Result (Unit {0}) PairError) (status : Status) (old new : StreamFacts) → IfErr answer (λ e. FaultRose e cache cache' backing backing') → EndsSilently answer status old new → EndsQuietly status
   silent_ends (Ok u) status old new rose ends = inl ends.0
   silent_ends (Err e) status old new rose ends = stopped_quietly e status old new rose ends
 
-  pub printing_ends : (answer : Result (String Global) PairError) (status : ℕ) (old new : StreamFacts) → IfErr answer (λ e. FaultRose e cache cache' backing backing') → EndsPrinting answer status old new → (HasStopped old new → ⊥) → EndsQuietly status
+  pub printing_ends : (answer : Result (String Global) PairError) (status : Status) (old new : StreamFacts) → IfErr answer (λ e. FaultRose e cache cache' backing backing') → EndsPrinting answer status old new → (HasStopped old new → ⊥) → EndsQuietly status
   printing_ends (Ok text) status old new rose (inl done) takes = inl done.0
   printing_ends (Ok text) status old new rose (inr cut) takes = absurd (takes (fault_stops cut.1.0 _ old new cut.1.1))
   printing_ends (Err e) status old new rose ends takes = stopped_quietly e status old new rose ends

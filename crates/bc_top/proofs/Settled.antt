@@ -17,12 +17,15 @@ use Rattle.bc_replay.specs.Causes.{IsReadOnce, RefusesBacking, refusal}
 use Rattle.bc_replay.specs.declared.error.OpenError.{OpenError}
 use Rattle.bc_replay.specs.declared.error.OpenError.TheVariants as errors
 use Rattle.bc_replay.proofs.Refusals.{once}
-use Rattle.bc_top.specs.Opened.{IsLoneCause, IsOpened, IsOpeningCause, IsSameDevice, LeavesLess, SameImage}
+use Rattle.bc_top.specs.Opened.{IsLoneCause, IsOpened, IsOpeningCause, IsSameDevice, LeavesLess, SameImage, StandsStill}
 use Rattle.bc_disk.specs.Stream.{StreamFacts}
-use Rattle.bc_top.specs.Stops.{stop_of}
+use Rattle.bc_top.specs.Stops.{open_stop}
 use Rattle.bc_top.specs.Top.{IsServeCause, WasRead}
 use Rattle.bc_top.specs.declared.stop.Stop.{Stop}
 use Rattle.bc_serve.proofs.Failing.{next_rises}
+
+pub next_risen : (old new : ℕ) → new ≡ next_count old → HasRisen old new
+next_risen old new is = subst (HasRisen old) (sym is) (next_rises old)
 
 at_least : (sectors : ℕ) → (sectors < 16 → ⊥) → 16 ≤ sectors
 at_least sectors never = elim (cases_lt sectors 16) [ inl few ↦ absurd (never few) | inr many ↦ many ]
@@ -55,7 +58,7 @@ module _ (a b c : DiskFacts) where
       by (Some before) (Some held) leaves both = λ image can. inr (λ s. leaves image ((kept.leaves image).0 can) s ∙ sym (both s))
 
   -- and the device stands for the model of what it holds
-  pub stands : IsSettled a b → IsKept b c → StandsFor c (settled_model c)
+  pub stands : IsSettled a b → IsKept b c → StandsStill c
   stands settled kept = record { sectors = refl; content = by b.holds c.holds settled.leaves kept.holds; calls = refl; faults = refl }
     where
       by : (y z : Option Image) → IfTold y (λ held. (image : Image) → b.may_leave image → (s : ℕ) → image s ≡ held s) → BothTold SameImage y z → Allows (option_map quiet z) z c.may_leave
@@ -63,18 +66,22 @@ module _ (a b c : DiskFacts) where
       by None (Some held) leaves both = absurd both
       by (Some before) (Some held) leaves both = ((λ s. inl refl), (λ image can s. inl (leaves image ((kept.leaves image).0 can) s ∙ sym (both s))))
 
-  -- where a read failed behind a barrier, the count rose
-  pub rose : (b.faults ≡ a.faults) → (c.faults ≡ next_count b.faults) → HasRisen a.faults c.faults
-  rose quiet next = subst (HasRisen a.faults) (ap (λ n. next_count n) (sym quiet) ∙ sym next) (next_rises a.faults)
+  -- the second call failed, and no other
+  abbrev SecondFails : Type 0
+  SecondFails = (c.faults ≡ next_count a.faults) × (c.calls ≡ next_count (next_count a.calls))
 
-  pub lone_told : (e : SuperError) → (e ≡ fault.Fault → HasRisen a.faults c.faults) → (e ≢ fault.Fault → RefusesBacking c e × (c.faults ≡ a.faults)
-      × IsReadOnce c.sectors (next_count a.calls) c.calls × StandsFor c (settled_model c)) → IsLoneCause (refusal device.Backing e) a c
-  lone_told fault.Fault rises still = rises refl
-  lone_told e rises still = still (λ is. absurd (cc))
+  lone_told : (e : SuperError) → StandsStill c → (e ≡ fault.Fault → SecondFails)
+      → (e ≢ fault.Fault → RefusesBacking c e × (c.faults ≡ a.faults)
+      × IsReadOnce c.sectors (next_count a.calls) c.calls × StandsStill c) → IsLoneCause (refusal device.Backing e) a c
+  lone_told fault.Fault stands fails still = ((fails refl).0, inr ((fails refl).1, stands))
+  lone_told e stands fails still = still (λ is. absurd (cc))
 
   -- what the counts say of a fault that was answered
-  pub fault_rises : (T : Type 0) (e : SuperError) → IsCounted {E = Failed} (Ok tt) a b → IsCounted (call_of {T = T} (Err e)) b c → e ≡ fault.Fault → HasRisen a.faults c.faults
-  fault_rises T e good counted is = rose good.1 (subst (λ (x : SuperError). IsCounted (call_of {T = T} (Err x)) b c) is counted).1
+  second_fails : (T : Type 0) (e : SuperError) → IsCounted {E = Failed} (Ok tt) a b
+      → IsCounted (call_of {T = T} (Err e)) b c → e ≡ fault.Fault → SecondFails
+  second_fails T e good counted is =
+      let failed = subst (λ (x : SuperError). IsCounted (call_of {T = T} (Err x)) b c) is counted in
+      (failed.1 ∙ ap (λ n. next_count n) good.1, failed.0 ∙ ap (λ n. next_count n) good.0)
 
   -- the device was made stable and its superblock read
   pub opened : (s : BackingSuper) → IsSettled a b → IsCounted {E = Failed} (Ok tt) a b → IsKept b c → (16 ≤ b.sectors → IsCounted (call_of {T = BackingSuper} (Ok s)) b c) → (b.sectors < 16 → ⊥) → ReadsSuper b s → IsOpened s a c
@@ -84,13 +91,14 @@ module _ (a b c : DiskFacts) where
     calls = (counted (at_least b.sectors large)).0 ∙ ap (λ n. next_count n) good.0;
     faults = (counted (at_least b.sectors large)).1 ∙ good.1;
     reads = reads_after b c kept.sectors kept.holds s reads;
+    still = stands settled kept;
   }
 
   -- or it was read and refused
   pub open_failed : (e : SuperError) → IsSettled a b → IsCounted {E = Failed} (Ok tt) a b → IsKept b c → (16 ≤ b.sectors → IsCounted (call_of {T = BackingSuper} (Err e)) b c) → (b.sectors < 16 → (c.faults ≡ b.faults) × (c.calls ≡ b.calls)) → (b.sectors < 16 → e ≡ fault.DeviceSmall) → IsCause b e
       → IsLoneCause (refusal device.Backing e) a c
-  open_failed e settled good kept counted untouched small cause = lone_told e
-      (λ is. fault_rises BackingSuper e good (counted (subst (λ (x : SuperError). IsCause b x) is cause)) is)
+  open_failed e settled good kept counted untouched small cause = lone_told e (stands settled kept)
+      (λ is. second_fails BackingSuper e good (counted (subst (λ (x : SuperError). IsCause b x) is cause)) is)
       (λ other. (
         (other, cause_after b c kept.sectors kept.holds e cause, (λ few. small (subst (λ n. n < 16) kept.sectors few))),
         elim (cases_lt b.sectors 16) [ inl few ↦ (untouched few).0 | inr many ↦ quiet_call BackingSuper e b c other (counted many) ] ∙ good.1,
@@ -98,6 +106,19 @@ module _ (a b c : DiskFacts) where
             (subst (λ n. IsReadOnce b.sectors n c.calls) good.0 (once BackingSuper (Err e) b c (λ few. (untouched few).1) counted)),
         stands settled kept,
       ))
+
+-- a device of which a crash leaves what it holds is one still behind calls that changed nothing
+pub still_kept : (b c : DiskFacts) → IsKept b c → StandsStill b → StandsStill c
+still_kept b c kept still = record { sectors = refl; content = by b.holds c.holds still.content kept.holds; calls = refl; faults = refl }
+  where
+    by : (y z : Option Image) → Allows (option_map quiet y) y b.may_leave → BothTold SameImage y z → Allows (option_map quiet z) z c.may_leave
+    by None None allows both = tt
+    by None (Some held) allows both = absurd both
+    by (Some before) None allows both = absurd both
+    by (Some before) (Some held) allows both = (
+      (λ s. inl refl),
+      (λ image can s. elim (allows.1 image ((kept.leaves image).0 can) s) [ inl is ↦ inl (is ∙ sym (both s)) | inr never ↦ absurd never ]),
+    )
 
 -- after a call that changed nothing
 pub same_kept : (a b : DiskFacts) → IsKept a b → IsSameDevice a b
@@ -125,11 +146,11 @@ same_self d = record { sectors = refl; holds = by d.holds; leaves = less d.holds
 
 -- why a pair isn't opened is why its trace isn't served
 module _ (source left : StreamFacts) (cache cache' backing backing' : DiskFacts) (read : WasRead source left) where
-  told_so : (error : OpenError) → IsOpeningCause cache cache' backing backing' (stop_of error) → IsServeCause (stop_of error) source left cache cache' backing backing'
-  told_so errors.Memory cause = tt
+  told_so : (error : OpenError) → IsOpeningCause cache cache' backing backing' (open_stop error) → IsServeCause (open_stop error) source left cache cache' backing backing'
+  told_so errors.Memory cause = inr (read, inr cause)
   told_so error cause = (read, cause)
 
-  told_as : (why : Stop) (error : OpenError) → why ≡ stop_of error → IsOpeningCause cache cache' backing backing' why → IsServeCause why source left cache cache' backing backing'
+  told_as : (why : Stop) (error : OpenError) → why ≡ open_stop error → IsOpeningCause cache cache' backing backing' why → IsServeCause why source left cache cache' backing backing'
   told_as why error is cause = subst (λ (x : Stop). IsServeCause x source left cache cache' backing backing') (sym is) (told_so error (subst (IsOpeningCause cache cache' backing backing') is cause))
 
   pub open_cause : (why : Stop) → IsOpeningCause cache cache' backing backing' why → IsServeCause why source left cache cache' backing backing'

@@ -27,6 +27,8 @@ use Rattle.bc_output.specs.declared.put.WriteFault.{WriteFault}
 use Rattle.bc_output.specs.declared.put.WriteFault.TheVariants.{Failed, TookNothing}
 use Rattle.bc_output.specs.Lines.{AreLines, StandForAll, IsCut}
 use Rattle.bc_output.specs.declared.message.Message.{Message}
+use Rattle.bc_output.specs.declared.status.Status.{Status}
+use Rattle.bc_output.specs.declared.status.Status.TheVariants as statuses
 use Rattle.bc_output.specs.Put.{Takes, IsWriteFault}
 use Rattle.bc_output.proofs.Taken.{took_nothing}
 use Rattle.bc_output.proofs.Standing.{all_whole}
@@ -39,8 +41,8 @@ use Rattle.bc_serve.proofs.Failing.{failed_in, failed_left, next_rises}
 use Rattle.bc_top.proofs.Raising.{said_failed, closed_failed}
 
 -- no run ends with another status than these
-abbrev pub IsEndStatus : ℕ → Type 0
-IsEndStatus n = (n ≡ 0) ⊎ (n ≡ 6) ⊎ (n ≡ 8) ⊎ (n ≡ 9)
+abbrev pub IsEndStatus : Status → Type 0
+IsEndStatus n = (n ≡ statuses.Done) ⊎ (n ≡ statuses.Device) ⊎ (n ≡ statuses.Sink) ⊎ (n ≡ statuses.Memory)
 
 end_status : (fault : Bool) (how : Closing) (memory cut : Bool) → IsEndStatus (status_of_end fault how memory cut)
 end_status true how memory cut = inr (inl refl)
@@ -52,34 +54,34 @@ end_status false closing.Done true cut = inr (inr (inr refl))
 end_status false closing.Done false true = inr (inr (inl refl))
 end_status false closing.Done false false = inl refl
 
-six : (fault : Bool) (how : Closing) (memory cut : Bool) → status_of_end fault how memory cut ≡ 6 → (fault ≡ true) ⊎ (has_failed how ≡ true)
+six : (fault : Bool) (how : Closing) (memory cut : Bool) → status_of_end fault how memory cut ≡ statuses.Device → (fault ≡ true) ⊎ (has_failed how ≡ true)
 six true how memory cut is = inl refl
 six false (closing.Failed d) memory cut is = inr refl
 six false (closing.Halted d) memory cut is = inr refl
-six false closing.Memory true cut is = absurd (let no : 9 ≡ 6 = is in omega arith)
-six false closing.Memory false cut is = absurd (let no : 9 ≡ 6 = is in omega arith)
-six false closing.Done true cut is = absurd (let no : 9 ≡ 6 = is in omega arith)
-six false closing.Done false true is = absurd (let no : 8 ≡ 6 = is in omega arith)
-six false closing.Done false false is = absurd (let no : 0 ≡ 6 = is in omega arith)
+six false closing.Memory true cut is = absurd (cc)
+six false closing.Memory false cut is = absurd (cc)
+six false closing.Done true cut is = absurd (cc)
+six false closing.Done false true is = absurd (cc)
+six false closing.Done false false is = absurd (cc)
 
-eight : (fault : Bool) (how : Closing) (memory cut : Bool) → status_of_end fault how memory cut ≡ 8 → cut ≡ true
-eight true how memory cut is = absurd (let no : 6 ≡ 8 = is in omega arith)
-eight false (closing.Failed d) memory cut is = absurd (let no : 6 ≡ 8 = is in omega arith)
-eight false (closing.Halted d) memory cut is = absurd (let no : 6 ≡ 8 = is in omega arith)
-eight false closing.Memory true cut is = absurd (let no : 9 ≡ 8 = is in omega arith)
-eight false closing.Memory false cut is = absurd (let no : 9 ≡ 8 = is in omega arith)
-eight false closing.Done true cut is = absurd (let no : 9 ≡ 8 = is in omega arith)
+eight : (fault : Bool) (how : Closing) (memory cut : Bool) → status_of_end fault how memory cut ≡ statuses.Sink → cut ≡ true
+eight true how memory cut is = absurd (cc)
+eight false (closing.Failed d) memory cut is = absurd (cc)
+eight false (closing.Halted d) memory cut is = absurd (cc)
+eight false closing.Memory true cut is = absurd (cc)
+eight false closing.Memory false cut is = absurd (cc)
+eight false closing.Done true cut is = absurd (cc)
 eight false closing.Done false true is = refl
-eight false closing.Done false false is = absurd (let no : 0 ≡ 8 = is in omega arith)
+eight false closing.Done false false is = absurd (cc)
 
-none : (fault : Bool) (how : Closing) (memory cut : Bool) → status_of_end fault how memory cut ≡ 0 → (fault ≡ false) × (how ≡ closing.Done) × (memory ≡ false) × (cut ≡ false)
-none true how memory cut is = absurd (let no : 6 ≡ 0 = is in omega arith)
-none false (closing.Failed d) memory cut is = absurd (let no : 6 ≡ 0 = is in omega arith)
-none false (closing.Halted d) memory cut is = absurd (let no : 6 ≡ 0 = is in omega arith)
-none false closing.Memory true cut is = absurd (let no : 9 ≡ 0 = is in omega arith)
-none false closing.Memory false cut is = absurd (let no : 9 ≡ 0 = is in omega arith)
-none false closing.Done true cut is = absurd (let no : 9 ≡ 0 = is in omega arith)
-none false closing.Done false true is = absurd (let no : 8 ≡ 0 = is in omega arith)
+none : (fault : Bool) (how : Closing) (memory cut : Bool) → status_of_end fault how memory cut ≡ statuses.Done → (fault ≡ false) × (how ≡ closing.Done) × (memory ≡ false) × (cut ≡ false)
+none true how memory cut is = absurd (cc)
+none false (closing.Failed d) memory cut is = absurd (cc)
+none false (closing.Halted d) memory cut is = absurd (cc)
+none false closing.Memory true cut is = absurd (cc)
+none false closing.Memory false cut is = absurd (cc)
+none false closing.Done true cut is = absurd (cc)
+none false closing.Done false true is = absurd (cc)
 none false closing.Done false false is = (refl, refl, refl, refl)
 
 -- of buckets, the journal and nodes such a run says nothing
@@ -219,34 +221,45 @@ are_put printed answers old new = by printed.put
     by (Ok u) ok err = ok
     by (Err cause) ok err = err
 
-module _ (status : ℕ) (answers : List Answer) (how : Closing) (old new : StreamFacts) (end : IsEnd status answers how old new) where
+at_refusal : (P : Status → Type 0) (n : Status) → IsRefusal n → P statuses.Usage → P statuses.Trace → P statuses.Superblock → P statuses.Image → P n
+at_refusal P n (inl is) usage trace super image = subst P (sym is) usage
+at_refusal P n (inr (inl is)) usage trace super image = subst P (sym is) trace
+at_refusal P n (inr (inr (inl is))) usage trace super image = subst P (sym is) super
+at_refusal P n (inr (inr (inr is))) usage trace super image = subst P (sym is) image
+
+apart : {A B C D : Type 0} → (A → ⊥) → (B → ⊥) → (C → ⊥) → (D → ⊥) → A ⊎ B ⊎ C ⊎ D → ⊥
+apart a b c d (inl x) = a x
+apart a b c d (inr (inl x)) = b x
+apart a b c d (inr (inr (inl x))) = c x
+apart a b c d (inr (inr (inr x))) = d x
+
+none_refused : (n : Status) → IsRefusal n → IsEndStatus n → ⊥
+none_refused n refused = at_refusal (λ m. IsEndStatus m → ⊥) n refused
+    (apart (λ is. cc) (λ is. cc) (λ is. cc) (λ is. cc)) (apart (λ is. cc) (λ is. cc) (λ is. cc) (λ is. cc))
+    (apart (λ is. cc) (λ is. cc) (λ is. cc) (λ is. cc)) (apart (λ is. cc) (λ is. cc) (λ is. cc) (λ is. cc))
+
+module _ (status : Status) (answers : List Answer) (how : Closing) (old new : StreamFacts) (end : IsEnd status answers how old new) where
   pub known : IsEndStatus status
   known = subst IsEndStatus (sym end.ends) (end_status (list_any says_fault answers) how (list_any says_memory answers || end.printed.memory_missed) (is_err end.printed.put))
 
   -- it isn't a refusal of what was handed in, nor a failed source
   pub ended_otherwise : IsRefusal status → ⊥
-  ended_otherwise refused = apart known refused
-    where
-      apart : IsEndStatus status → IsRefusal status → ⊥
-      apart ended (inl two) = grind arith
-      apart ended (inr (inl three)) = grind arith
-      apart ended (inr (inr (inl four))) = grind arith
-      apart ended (inr (inr (inr five))) = grind arith
+  ended_otherwise refused = none_refused status refused known
 
-  pub sink_stopped : status ≡ 8 → HasStopped old new
+  pub sink_stopped : status ≡ statuses.Sink → HasStopped old new
   sink_stopped is = stops end.printed end.printed.put answers old end.between new _ end.lines end.message (eight _ how _ _ (sym end.ends ∙ is))
 
   -- with neither a failed device nor a sink that stopped, all was done or memory was missed
-  pub only_done : (status ≡ 6 → ⊥) → (HasStopped old new → ⊥) → (status ≡ 0) ⊎ (status ≡ 9)
+  pub only_done : (status ≡ statuses.Device → ⊥) → (HasStopped old new → ⊥) → (status ≡ statuses.Done) ⊎ (status ≡ statuses.Memory)
   only_done device takes = left known
     where
-      left : IsEndStatus status → (status ≡ 0) ⊎ (status ≡ 9)
+      left : IsEndStatus status → (status ≡ statuses.Done) ⊎ (status ≡ statuses.Memory)
       left (inl zero) = inl zero
       left (inr (inl six)) = absurd (device six)
       left (inr (inr (inl eight))) = absurd (takes (sink_stopped eight))
       left (inr (inr (inr nine))) = inr nine
 
-  pub done : (size : ℕ) (lines : List Line) (history : List Entry) → All IsLine lines → ArePlain answers → Served size lines answers history → status ≡ 0 → IsDone size lines answers old new
+  pub done : (size : ℕ) (lines : List Line) (history : List Entry) → All IsLine lines → ArePlain answers → Served size lines answers history → status ≡ statuses.Done → IsDone size lines answers old new
   done size lines history are why served is =
       let ends = none (list_any says_fault answers) how (list_any says_memory answers || end.printed.memory_missed) (is_err end.printed.put) (sym end.ends ∙ is) in
       let found = neither (list_any says_memory answers) end.printed.memory_missed ends.2 in
@@ -254,13 +267,13 @@ module _ (status : ℕ) (answers : List Answer) (how : Closing) (old new : Strea
       let text = whole end.printed end.printed.put answers old end.between new found.1 end.lines (subst (λ (m : Option Message). IsPutBehind end.printed.put m end.between new) no_message end.message) ends.3 in
       record { answered = all_answered size 1 lines answers history (one_by_one size 1 lines answers history (of_first lines are) served) why ends.0 found.0; text = text.0; are_lines = text.1; taken = text.2 }
 
-  pub closed_whole : status ≡ 0 → how ≡ closing.Done
+  pub closed_whole : status ≡ statuses.Done → how ≡ closing.Done
   closed_whole is = (none _ how _ _ (sym end.ends ∙ is)).1
 
   -- the device failed in this run
   pub device_failed : {C B : Type 0} (cache_facts : C → DiskFacts) (backing_facts : B → DiskFacts)
       (backing left : BackingPart B) (lines : List Line) (events : List Event) (pass : Pass)
-      → HasRun cache_facts backing_facts backing left lines answers how events pass → status ≡ 6
+      → HasRun cache_facts backing_facts backing left lines answers how events pass → status ≡ statuses.Device
       → HasRisen (backing_facts backing.disk).faults (backing_facts left.disk).faults
   device_failed cache_facts backing_facts backing left lines events pass run is =
       run_rises cache_facts backing_facts backing left lines answers how events pass run

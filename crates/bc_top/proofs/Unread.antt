@@ -8,9 +8,11 @@ use Rattle.bc_words.specs.Reading.{IsCause}
 use Rattle.bc_words.specs.declared.command.Command.{Command}
 use Rattle.bc_words.specs.declared.error.WordsError.{WordsError}
 use Rattle.bc_words.specs.declared.error.WordsError.TheVariants.{Usage, Memory}
+use Rattle.bc_output.specs.declared.status.Status.{Status}
+use Rattle.bc_output.specs.declared.status.Status.TheVariants as statuses
 use Rattle.bc_top.specs.Ended.{IsPutOf}
-use Rattle.bc_top.specs.Stops.{message_of, status_of}
-use Rattle.bc_top.specs.Top.{LacksMemory, Says, words_stop}
+use Rattle.bc_top.specs.Stops.{message_of, status_of, words_stop}
+use Rattle.bc_top.specs.Top.{LacksMemory, Says}
 
 pub found_is : (r : Result Command WordsError) (found command : Command) → r ≡ Ok found → IfOk r (λ x. x ≡ command) → found ≡ command
 found_is (Ok x) found command is same = let first : found ≡ x = cc in first ∙ same
@@ -21,7 +23,7 @@ at_error P (Ok x) e is h = cc
 at_error P (Err x) e is h = let same : x ≡ e = cc in subst P same h
 
 -- where the words spell a command, there was no memory for them
-pub lacks : {C B : Type 0} {cache : C} {backing : B} (words : List (String Global)) (error : WordsError) (status : ℕ) (command : Command) {old new : StreamFacts}
+pub lacks : {C B : Type 0} {cache : C} {backing : B} (words : List (String Global)) (error : WordsError) (status : Status) (command : Command) {old new : StreamFacts}
     → IsCause (map string_bytes words) error → Says words command → status ≡ status_of (words_stop error) → IsPutOf (message_text (message_of (words_stop error))) old new
     → LacksMemory status cache cache backing backing old new
 lacks words Usage status command why says is told = absurd (why command says.0 says.1)

@@ -17,6 +17,8 @@ use Rattle.bc_output.specs.declared.message.Origin.TheVariants as origin
 use Rattle.bc_output.specs.declared.put.WriteFault.{WriteFault}
 use Rattle.bc_output.specs.Lines.{AreLines, StandForAll, IsCut}
 use Rattle.bc_output.specs.Message.{message_text}
+use Rattle.bc_output.specs.declared.status.Status.{Status}
+use Rattle.bc_output.specs.declared.status.Status.TheVariants as statuses
 use Rattle.bc_output.specs.Put.{Takes, IsWriteFault}
 use Rattle.bc_serve.specs.declared.closing.Closing.{Closing}
 use Rattle.bc_serve.specs.declared.closing.Closing.TheVariants as closing
@@ -60,16 +62,20 @@ lacked_memory (closing.Failed device) = false
 lacked_memory (closing.Halted device) = false
 lacked_memory closing.Memory = true
 
--- the status, by whether a line says fault, how the run was closed, whether memory was missed for a line, and whether
--- the putting of the lines was cut short
-abbrev pub status_of_end : Bool → Closing → Bool → Bool → ℕ
-status_of_end fault how memory cut = if fault || has_failed how then 6 else if memory || lacked_memory how then 9 else if cut then 8 else 0
+-- the status, by whether a line says fault, how the run was closed, whether memory was missed for a
+-- line, and whether the putting of the lines was cut short
+abbrev pub status_of_end : Bool → Closing → Bool → Bool → Status
+status_of_end fault how memory cut = if fault || has_failed how then statuses.Device
+    else if memory || lacked_memory how then statuses.Memory
+    else if cut then statuses.Sink else statuses.Done
 
 -- the message, where no line says why the status isn't 0
 abbrev pub message_of_end : Bool → Closing → Bool → Option Message
 message_of_end fault closing.Done memory = None
-message_of_end fault (closing.Failed device) memory = if fault then None else Some (message.Fault (origin.Disk device))
-message_of_end fault (closing.Halted device) memory = if fault then None else Some (message.Fault (origin.Disk device))
+message_of_end fault (closing.Failed device) memory =
+    if fault then None else Some (message.Fault (origin.Disk device))
+message_of_end fault (closing.Halted device) memory =
+    if fault then None else Some (message.Fault (origin.Disk device))
 message_of_end fault closing.Memory memory = if fault || memory then None else Some message.Memory
 
 -- of a text that was put the sink took all, or less where a put failed or took nothing
@@ -83,31 +89,38 @@ ArePut printed answers old new = MatchResult printed.put
     (λ cause. IsCut printed.memory_missed cause answers old new)
 
 -- a message behind whole lines was put; behind lines that were cut short, nothing
-abbrev pub IsPutBehind : Result (Unit {0}) WriteFault → Option Message → StreamFacts → StreamFacts → Type 0
+abbrev pub IsPutBehind : Result (Unit {0}) WriteFault → Option Message → StreamFacts → StreamFacts
+    → Type 0
 IsPutBehind (Ok _) None old new = new ≡ old
 IsPutBehind (Ok _) (Some m) old new = IsPutOf (message_text m) old new
 IsPutBehind (Err cause) m old new = new ≡ old
 
--- The run whose lines have these answers, closed so, ends with this status, and the sink has taken what belongs to it.
-pub record IsEnd (status : ℕ) (answers : List Answer) (how : Closing) (old new : StreamFacts) : Type 0 where
+-- The run whose lines have these answers, closed so, ends with this status, and the sink has taken
+-- what belongs to it.
+pub record IsEnd (status : Status) (answers : List Answer) (how : Closing) (old new : StreamFacts)
+    : Type 0 where
   -- how the lines were put, and the sink behind them
   pub printed : Printed
   pub between : StreamFacts
   pub lines : ArePut printed answers old between
-  pub ends : status ≡ status_of_end (list_any says_fault answers) how (list_any says_memory answers || printed.memory_missed) (is_err printed.put)
-  pub message : IsPutBehind printed.put (message_of_end (list_any says_fault answers) how (list_any says_memory answers || printed.memory_missed)) between new
+  pub ends : status ≡ status_of_end (list_any says_fault answers) how
+      (list_any says_memory answers || printed.memory_missed) (is_err printed.put)
+  pub message : IsPutBehind printed.put (message_of_end (list_any says_fault answers) how
+      (list_any says_memory answers || printed.memory_missed)) between new
 
 -- every line was answered as it should be, and the sink has taken the lines of the answers
-pub record IsDone (size : ℕ) (lines : List Line) (answers : List Answer) (old new : StreamFacts) : Type 0 where
+pub record IsDone (size : ℕ) (lines : List Line) (answers : List Answer) (old new : StreamFacts)
+    : Type 0 where
   pub answered : AllAnswered size lines answers
   pub text : List ℕ
   pub are_lines : AreLines answers text
   pub taken : Takes text old new
 
--- Over a device that tells what it holds, answers that refuse nothing but a range are a function of the lines and of that.
--- The data has so many sectors from this one on.
+-- Over a device that tells what it holds, answers that refuse nothing but a range are a function of
+-- the lines and of that. The data has so many sectors from this one on.
 abbrev pub AreExpected : ℕ → ℕ → List Line → List Answer → DiskFacts → Type 0
-AreExpected offset size lines answers d = AllAnswered size lines answers → IfTold d.holds (λ held. answers ≡ answers_of size lines (λ s. held (offset + s)))
+AreExpected offset size lines answers d = AllAnswered size lines answers
+    → IfTold d.holds (λ held. answers ≡ answers_of size lines (λ s. held (offset + s)))
 
 -- the sink failed in this call, or took nothing of a piece that isn't empty: that count rose
 abbrev pub HasStopped : StreamFacts → StreamFacts → Type 0

@@ -4,3 +4,4 @@ pub mod Opened
 pub mod Stops
 pub mod Pairs
 pub mod Top
+pub mod Call

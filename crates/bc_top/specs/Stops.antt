@@ -1,8 +1,11 @@
 -- With which status and message a call ends before its command is done.
-use Rattle.std.specs.Prelude.{◌≡◌, ◌⊎◌, ℕ}
+use Rattle.std.specs.Prelude.{◌≡◌, ◌⊎◌}
 use Rattle.bc_output.specs.declared.message.Message.{Message}
 use Rattle.bc_output.specs.declared.message.Message.TheVariants as message
 use Rattle.bc_output.specs.declared.message.Origin.TheVariants as origin
+use Rattle.bc_output.specs.Status.{status_of as message_status}
+use Rattle.bc_output.specs.declared.status.Status.{Status}
+use Rattle.bc_output.specs.declared.status.Status.TheVariants as statuses
 use Rattle.bc_script.specs.Reason.{number_of}
 use Rattle.bc_replay.specs.Numbers.{number_of as open_number}
 use Rattle.bc_replay.specs.declared.error.OpenError.{OpenError}
@@ -12,19 +15,14 @@ use Rattle.bc_check.specs.declared.verdict.CheckError.{CheckError}
 use Rattle.bc_check.specs.declared.verdict.CheckError.TheVariants as checks
 use Rattle.bc_check.specs.declared.verdict.Verdict.{Verdict}
 use Rattle.bc_check.specs.declared.verdict.Verdict.TheVariants as verdicts
+use Rattle.bc_pair.specs.declared.error.PairError.{PairError}
+use Rattle.bc_pair.specs.declared.error.PairError.TheVariants as pairs
+use Rattle.bc_script.specs.declared.script.TraceError.{TraceError}
+use Rattle.bc_script.specs.declared.script.TraceError.TheVariants as traces
+use Rattle.bc_words.specs.declared.error.WordsError.{WordsError}
+use Rattle.bc_words.specs.declared.error.WordsError.TheVariants as words
 use Rattle.bc_top.specs.declared.stop.Stop.{Stop}
 use Rattle.bc_top.specs.declared.stop.Stop.TheVariants as stop
-
--- the status
-abbrev pub status_of : Stop → ℕ
-status_of stop.Usage = 2
-status_of (stop.Trace e) = 3
-status_of (stop.Superblock device number) = 4
-status_of (stop.Image number) = 5
-status_of stop.Unserved = 5
-status_of (stop.Fault device) = 6
-status_of stop.Source = 7
-status_of stop.Memory = 9
 
 -- the message
 abbrev pub message_of : Stop → Message
@@ -37,30 +35,49 @@ message_of (stop.Fault device) = message.Fault (origin.Disk device)
 message_of stop.Source = message.Fault origin.Source
 message_of stop.Memory = message.Memory
 
--- the statuses with which the words, the trace, a superblock or the cache's content were refused, and all that there are
-abbrev pub IsRefusal : ℕ → Type 0
-IsRefusal status = (status ≡ 2) ⊎ (status ≡ 3) ⊎ (status ≡ 4) ⊎ (status ≡ 5)
+-- the status
+abbrev pub status_of : Stop → Status
+status_of why = message_status (message_of why)
 
-abbrev pub IsStatus : ℕ → Type 0
-IsStatus status = (status ≡ 0) ⊎ IsRefusal status ⊎ (status ≡ 6) ⊎ (status ≡ 7) ⊎ (status ≡ 8) ⊎ (status ≡ 9)
+-- the words, the trace, a superblock or what stands behind it was refused
+abbrev pub IsRefusal : Status → Type 0
+IsRefusal status = (status ≡ statuses.Usage) ⊎ (status ≡ statuses.Trace)
+    ⊎ (status ≡ statuses.Superblock) ⊎ (status ≡ statuses.Image)
 
 -- why a call ends whose pair can't be opened: a fault of a superblock is told by its own number
-abbrev pub stop_of : OpenError → Stop
-stop_of (errors.Super device why) = stop.Superblock device (super_number why)
-stop_of (errors.Fault device) = stop.Fault device
-stop_of errors.Memory = stop.Memory
-stop_of error = stop.Image (open_number error)
+abbrev pub open_stop : OpenError → Stop
+open_stop (errors.Super device why) = stop.Superblock device (super_number why)
+open_stop (errors.Fault device) = stop.Fault device
+open_stop errors.Memory = stop.Memory
+open_stop error = stop.Image (open_number error)
+
+-- why a call ends whose pair isn't made or shown
+abbrev pub pair_stop : PairError → Stop
+pair_stop (pairs.Superblock device why) = stop.Superblock device (super_number why)
+pair_stop (pairs.Fault device) = stop.Fault device
+pair_stop pairs.Memory = stop.Memory
+
+-- why a call ends whose words aren't read
+abbrev pub words_stop : WordsError → Stop
+words_stop words.Usage = stop.Usage
+words_stop words.Memory = stop.Memory
+
+-- why a call ends whose trace isn't read
+abbrev pub trace_stop : TraceError → Stop
+trace_stop (traces.Script e) = stop.Trace e
+trace_stop traces.Fault = stop.Source
+trace_stop traces.Memory = stop.Memory
 
 -- why a call ends whose pair gets no verdict
 abbrev pub check_stop : CheckError → Stop
-check_stop (checks.Open why) = stop_of why
+check_stop (checks.Open why) = open_stop why
 check_stop (checks.Fault device) = stop.Fault device
 check_stop checks.Memory = stop.Memory
 
--- the status of a verdict: 0 where the pair is sound
-abbrev pub verdict_status : Verdict → ℕ
-verdict_status verdicts.PassThrough = 0
-verdict_status (verdicts.Sound dirty clean) = 0
-verdict_status (verdicts.Journal bucket) = 5
-verdict_status (verdicts.Age sector) = 5
-verdict_status (verdicts.Agree sector) = 5
+-- the status of a verdict: all is done where the pair is sound
+abbrev pub verdict_status : Verdict → Status
+verdict_status verdicts.PassThrough = statuses.Done
+verdict_status (verdicts.Sound dirty clean) = statuses.Done
+verdict_status (verdicts.Journal bucket) = statuses.Image
+verdict_status (verdicts.Age sector) = statuses.Image
+verdict_status (verdicts.Agree sector) = statuses.Image

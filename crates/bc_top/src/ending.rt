@@ -8,6 +8,7 @@ use bc_disk::stream::Sink;
 use bc_output::answers::put_answers;
 use bc_output::message::{Message, Origin, print_message};
 use bc_output::put::{WriteFault, put_all};
+use bc_output::status::Status;
 use bc_script::answer::{Answer, Refusal};
 use bc_serve::closing::Closing;
 use std::alloc::Global;
@@ -31,23 +32,23 @@ fn says_memory(answers: &[Answer]) -> bool
     answers.iter().any(|answer| matches!(answer, Answer::Refused(Refusal::Memory)))
 }
 
-// The status of a run: whether a line says fault, how it was closed, whether memory was missed for a
-// line, and whether not every line was put.
-fn status_of_end(fault: bool, closing: Closing, memory: bool, cut: bool) -> u8
+// The status of a run: whether a line says fault, how it was closed, whether memory was missed for
+// a line, and whether not every line was put.
+fn status_of_end(fault: bool, closing: Closing, memory: bool, cut: bool) -> Status
     ensures { result ≡ status_of_end fault closing memory cut }
 {
     if fault || matches!(closing, Closing::Failed(_) | Closing::Halted(_)) {
-        6
+        Status::Device
     } else if memory || closing == Closing::Memory {
-        9
+        Status::Memory
     } else if cut {
-        8
+        Status::Sink
     } else {
-        0
+        Status::Done
     }
 }
 
-// The message behind the lines, where none of them says why the status isn't 0.
+// The message behind the lines, where none of them says why not all is done.
 fn message_of_end(fault: bool, closing: Closing, memory: bool) -> Option<Message>
     ensures { result ≡ message_of_end fault closing memory }
 {
@@ -69,9 +70,10 @@ fn put_message<K: Sink>(put: Result<(), WriteFault>, message: Option<Message>, o
     }
 }
 
-/// Puts the lines of the answers in order, and behind them a message where none of them says why the
-/// status isn't 0; answers the status. A line for whose text no memory is found is put as `memory`.
-pub fn report<K: Sink>(alloc: Global, answers: &[Answer], closing: Closing, out: &mut K) -> u8
+/// Puts the lines of the answers in order, and behind them a message where none of them says why
+/// not all is done; answers the status. A line for whose text no memory is found is put as
+/// `memory`.
+pub fn report<K: Sink>(alloc: Global, answers: &[Answer], closing: Closing, out: &mut K) -> Status
     requires { All IsPrintable answers.now }
     ensures { IsEnd result answers.now closing (K.facts out.old) (K.facts out.new) }
 {

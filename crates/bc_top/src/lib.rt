@@ -2,10 +2,10 @@
 #![tactic(auto)]
 
 mod ending;
+pub mod exit;
 pub mod laws;
 pub mod opening;
 mod pairs;
-pub mod ran;
 mod serve;
 pub mod stop;
 pub mod top;

@@ -1,24 +1,19 @@
 //! How a pair is opened.
-ghost use Rattle.std.specs.Prelude.{◌↔◌, ◌≤◌, IsTrue, IfOk, IfErr, OnOk};
-ghost use Rattle.bc_disk.specs.Disk.{StandsFor};
-ghost use Rattle.bc_disk.specs.Stands.{settled_model};
+ghost use Rattle.std.specs.Prelude.{◌≤◌, IfOk, IfErr, OnOk};
 ghost use Rattle.bc_replay.specs.Causes.{OfHeld};
 ghost use Rattle.bc_replay.specs.Survey.{CanBeOpened};
-ghost use Rattle.bc_super.specs.Division.{IsPassThrough};
-ghost use Rattle.bc_top.specs.Opened.{AreQuiet, IsLoneCause, IsOpened, IsPairCause, IsReadAgain, IsSameDevice};
+ghost use Rattle.bc_top.specs.Opened.{AreQuiet, AreStill, IsLoneCause, IsOpened, IsPairCause, IsReadAgain, IsSameDevice, StandsStill};
 
 use bc_disk::disk::{Device, Disk};
-use bc_mode::Mode;
 use bc_replay::{OpenError, refusal, survey};
 use bc_super::backing::{BackingSuper, read_backing};
-use bc_super::state::BackingState;
 use std::alloc::Global;
 
 /// Makes what the backing device holds all that a crash may leave, and reads its superblock.
 pub fn open_backing<B: Disk>(backing: &mut B) -> Result<BackingSuper, OpenError>
     ensures ok { IfOk result (λ s. IsOpened s (B.facts backing.old) (B.facts backing.new)) }
-    ensures settled { IfOk result (λ _. StandsFor (B.facts backing.new) (settled_model (B.facts backing.new))) }
-    ensures cause { IfErr result (λ error. IsLoneCause error (B.facts backing.old) (B.facts backing.new)) }
+    ensures cause { IfErr result (λ error. IsLoneCause error (B.facts backing.old)
+        (B.facts backing.new)) }
     ensures same { IsSameDevice (B.facts backing.old) (B.facts backing.new) }
 {
     let Ok(()) = backing.barrier() else {
@@ -30,16 +25,9 @@ pub fn open_backing<B: Disk>(backing: &mut B) -> Result<BackingSuper, OpenError>
     }
 }
 
-/// Whether a backing device asks for no cache.
-pub fn is_pass_through(s: &BackingSuper) -> bool
-    ensures { IsTrue result ↔ IsPassThrough s.now }
-{
-    s.mode() == Mode::None && s.state() == BackingState::None
-}
-
 /// Whether a pair of which the backing device asks for a cache can be opened: makes what the cache
 /// device holds all that a crash may leave, and reads all of the pair but its data. No sector is
-/// written.
+/// written. The backing device was made so before.
 ///
 /// The error is that a call of a device failed, that memory ran out, or the first refusal of the
 /// pair.
@@ -49,13 +37,13 @@ pub fn test_pair<C: Disk, B: Disk>(
     backing: &mut B,
 ) -> Result<(), OpenError>
     requires large { 16 ≤ (B.facts backing.old).sectors }
+    requires still { StandsStill (B.facts backing.old) }
     ensures opened { OnOk result (OfHeld CanBeOpened (C.facts cache.old) (B.facts backing.old)) }
     ensures quiet { OnOk result (AreQuiet (C.facts cache.old) (C.facts cache.new)
         (B.facts backing.old) (B.facts backing.new)) }
     ensures again { OnOk result (IsReadAgain (C.facts cache.old) (C.facts cache.new)
         (B.facts backing.old) (B.facts backing.new) (B.facts backing.old).calls) }
-    ensures settled { OnOk result
-        (StandsFor (C.facts cache.new) (settled_model (C.facts cache.new))) }
+    ensures settled { OnOk result (AreStill (C.facts cache.new) (B.facts backing.new)) }
     ensures cause { IfErr result (IsPairCause (C.facts cache.old) (C.facts cache.new)
         (B.facts backing.old) (B.facts backing.new) (B.facts backing.old).calls) }
     ensures cache_same { IsSameDevice (C.facts cache.old) (C.facts cache.new) }

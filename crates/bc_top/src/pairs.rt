@@ -1,14 +1,15 @@
 //! The commands that make, show and check a pair.
 ghost use Rattle.std.specs.Prelude.{◌≡◌, IsNone, string_bytes};
 ghost use Rattle.bc_top.specs.Stops.{verdict_status};
-ghost use Rattle.bc_top.specs.Pairs.{EndsChecking, EndsPrinting, EndsSilently, HasAdopted, HasChecked, HasFormatted, HasShown, stop_of};
+ghost use Rattle.bc_top.specs.Pairs.{EndsChecking, EndsPrinting, EndsSilently, HasAdopted, HasChecked, HasFormatted, HasShown};
 
-use crate::ran::Ran;
+use crate::exit::Exit;
 use crate::stop::{Stop, tell};
 use bc_check::{CheckError, Told, Verdict, tell_pair};
 use bc_disk::disk::Disk;
 use bc_disk::stream::Sink;
 use bc_output::put::put_all;
+use bc_output::status::Status;
 use bc_pair::adopt::adopt;
 use bc_pair::error::PairError;
 use bc_pair::format::format;
@@ -16,61 +17,47 @@ use bc_pair::pair::NewPair;
 use bc_pair::show::show_pair;
 use std::alloc::Global;
 
-// Why a call ends whose pair isn't made or shown.
-fn stop_of(error: PairError) -> Stop
-    ensures { result ≡ stop_of error }
-{
-    match error {
-        PairError::Superblock { device, why } => Stop::Superblock {
-            device,
-            number: why.number(),
-        },
-        PairError::Fault(device) => Stop::Fault(device),
-        PairError::Memory => Stop::Memory,
-    }
-}
-
 // The status of a command that prints nothing of its own.
-fn end_silently<K: Sink>(answer: Result<(), PairError>, out: &mut K) -> u8
+fn end_silently<K: Sink>(answer: Result<(), PairError>, out: &mut K) -> Status
     ensures { EndsSilently answer result (K.facts out.old) (K.facts out.new) }
 {
     match answer {
-        Ok(()) => 0,
-        Err(error) => tell(&stop_of(error), out),
+        Ok(()) => Status::Done,
+        Err(error) => tell(&Stop::from(error), out),
     }
 }
 
 // Prints what a command answers, which has the status.
-fn end_printing<K: Sink>(answer: &Result<String, PairError>, out: &mut K) -> u8
+fn end_printing<K: Sink>(answer: &Result<String, PairError>, out: &mut K) -> Status
     ensures { EndsPrinting answer.now result (K.facts out.old) (K.facts out.new) }
 {
     match answer {
         Ok(text) => match put_all(out, text.as_bytes()) {
-            Ok(()) => 0,
-            Err(_) => 8,
+            Ok(()) => Status::Done,
+            Err(_) => Status::Sink,
         },
-        Err(error) => tell(&stop_of(*error), out),
+        Err(error) => tell(&Stop::from(*error), out),
     }
 }
 
 // The status of a verdict.
-fn status_of(verdict: Verdict) -> u8
+fn status_of(verdict: Verdict) -> Status
     ensures { result ≡ verdict_status verdict }
 {
     match verdict {
-        Verdict::PassThrough | Verdict::Sound { .. } => 0,
-        Verdict::Journal { .. } | Verdict::Age { .. } | Verdict::Agree { .. } => 5,
+        Verdict::PassThrough | Verdict::Sound { .. } => Status::Done,
+        Verdict::Journal { .. } | Verdict::Age { .. } | Verdict::Agree { .. } => Status::Image,
     }
 }
 
 // Prints a verdict, which has its own status.
-fn end_checking<K: Sink>(answer: &Result<Told, CheckError>, out: &mut K) -> u8
+fn end_checking<K: Sink>(answer: &Result<Told, CheckError>, out: &mut K) -> Status
     ensures { EndsChecking answer.now result (K.facts out.old) (K.facts out.new) }
 {
     match answer {
         Ok(told) => match put_all(out, told.text.as_bytes()) {
             Ok(()) => status_of(told.verdict),
-            Err(_cut) => 8,
+            Err(_cut) => Status::Sink,
         },
         Err(error) => tell(&Stop::from(*error), out),
     }
@@ -83,13 +70,14 @@ pub fn format_pair<C: Disk, B: Disk, K: Sink>(
     cache: C,
     backing: B,
     out: &mut K,
-) -> Ran<C, B>
-    ensures formatted { HasFormatted C.facts B.facts result.status cache result.cache backing result.backing (K.facts out.old) (K.facts out.new) pair.now }
+) -> Exit<C, B>
+    ensures formatted { HasFormatted C.facts B.facts result.status cache result.cache
+        backing result.backing (K.facts out.old) (K.facts out.new) pair.now }
     ensures none { IsNone result.pass }
 {
     let (mut cache, mut backing) = (cache, backing);
     let answer = format(alloc, &mut cache, &mut backing, pair);
-    Ran {
+    Exit {
         status: end_silently(answer, out),
         cache,
         backing,
@@ -103,13 +91,14 @@ pub fn adopt_pair<C: Disk, B: Disk, K: Sink>(
     cache: C,
     backing: B,
     out: &mut K,
-) -> Ran<C, B>
-    ensures adopted { HasAdopted C.facts B.facts result.status cache result.cache backing result.backing (K.facts out.old) (K.facts out.new) }
+) -> Exit<C, B>
+    ensures adopted { HasAdopted C.facts B.facts result.status cache result.cache
+        backing result.backing (K.facts out.old) (K.facts out.new) }
     ensures none { IsNone result.pass }
 {
     let (mut cache, mut backing) = (cache, backing);
     let answer = adopt(alloc, &mut cache, &mut backing);
-    Ran {
+    Exit {
         status: end_silently(answer, out),
         cache,
         backing,
@@ -123,13 +112,14 @@ pub fn print_pair<C: Disk, B: Disk, K: Sink>(
     cache: C,
     backing: B,
     out: &mut K,
-) -> Ran<C, B>
-    ensures shown { HasShown C.facts B.facts result.status cache result.cache backing result.backing (K.facts out.old) (K.facts out.new) }
+) -> Exit<C, B>
+    ensures shown { HasShown C.facts B.facts result.status cache result.cache
+        backing result.backing (K.facts out.old) (K.facts out.new) }
     ensures none { IsNone result.pass }
 {
     let (mut cache, mut backing) = (cache, backing);
     let answer = show_pair(alloc, &mut cache, &mut backing);
-    Ran {
+    Exit {
         status: end_printing(&answer, out),
         cache,
         backing,
@@ -144,13 +134,14 @@ pub fn print_check<C: Disk, B: Disk, K: Sink>(
     cache: C,
     backing: B,
     out: &mut K,
-) -> Ran<C, B>
-    ensures checked { HasChecked C.facts B.facts result.status cache result.cache backing result.backing (K.facts out.old) (K.facts out.new) list }
+) -> Exit<C, B>
+    ensures checked { HasChecked C.facts B.facts result.status cache result.cache
+        backing result.backing (K.facts out.old) (K.facts out.new) list }
     ensures none { IsNone result.pass }
 {
     let (mut cache, mut backing) = (cache, backing);
     let answer = tell_pair(alloc, &mut cache, &mut backing, list);
-    Ran {
+    Exit {
         status: end_checking(&answer, out),
         cache,
         backing,

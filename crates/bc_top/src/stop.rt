@@ -2,15 +2,18 @@
 ghost use Rattle.std.specs.Prelude.{◌≡◌};
 ghost use Rattle.bc_output.specs.Message.{message_text};
 ghost use Rattle.bc_top.specs.Ended.{IsPutOf};
-ghost use Rattle.bc_top.specs.Stops.{check_stop, message_of, status_of, stop_of};
+ghost use Rattle.bc_top.specs.Stops.{check_stop, message_of, open_stop, pair_stop, status_of, trace_stop, words_stop};
 
 use bc_check::CheckError;
 use bc_disk::disk::Device;
 use bc_disk::stream::Sink;
 use bc_output::message::{Message, Origin, print_message};
 use bc_output::put::put_all;
+use bc_output::status::Status;
+use bc_pair::error::PairError;
 use bc_replay::OpenError;
-use bc_script::script::ScriptError;
+use bc_script::script::{ScriptError, TraceError};
+use bc_words::WordsError;
 
 /// Why a call ends before its command is done.
 #[derive(Clone, Copy, Debug, PartialEq, Eq, Drop)]
@@ -34,21 +37,6 @@ pub enum Stop {
 }
 
 impl Stop {
-    // The status with which a call ends.
-    fn status(&self) -> u8
-        ensures { result ≡ status_of self.now }
-    {
-        match self {
-            Stop::Usage => 2,
-            Stop::Trace(_) => 3,
-            Stop::Superblock { .. } => 4,
-            Stop::Image(_) | Stop::Unserved => 5,
-            Stop::Fault(_) => 6,
-            Stop::Source => 7,
-            Stop::Memory => 9,
-        }
-    }
-
     // The line that says so.
     fn message(&self) -> Message
         ensures { result ≡ message_of self.now }
@@ -73,7 +61,7 @@ impl Stop {
 }
 
 impl From<OpenError> for Stop {
-    ghost from_gives = { λ error stop. stop ≡ stop_of error };
+    ghost from_gives = { λ error stop. stop ≡ open_stop error };
 
     fn from(error: OpenError) -> Stop {
         match error {
@@ -84,6 +72,44 @@ impl From<OpenError> for Stop {
             OpenError::Fault(device) => Stop::Fault(device),
             OpenError::Memory => Stop::Memory,
             error => Stop::Image(error.number()),
+        }
+    }
+}
+
+impl From<PairError> for Stop {
+    ghost from_gives = { λ error stop. stop ≡ pair_stop error };
+
+    fn from(error: PairError) -> Stop {
+        match error {
+            PairError::Superblock { device, why } => Stop::Superblock {
+                device,
+                number: why.number(),
+            },
+            PairError::Fault(device) => Stop::Fault(device),
+            PairError::Memory => Stop::Memory,
+        }
+    }
+}
+
+impl From<WordsError> for Stop {
+    ghost from_gives = { λ error stop. stop ≡ words_stop error };
+
+    fn from(error: WordsError) -> Stop {
+        match error {
+            WordsError::Usage => Stop::Usage,
+            WordsError::Memory => Stop::Memory,
+        }
+    }
+}
+
+impl From<TraceError> for Stop {
+    ghost from_gives = { λ error stop. stop ≡ trace_stop error };
+
+    fn from(error: TraceError) -> Stop {
+        match error {
+            TraceError::Script(error) => Stop::Trace(error),
+            TraceError::Fault => Stop::Source,
+            TraceError::Memory => Stop::Memory,
         }
     }
 }
@@ -101,10 +127,11 @@ impl From<CheckError> for Stop {
 }
 
 /// Puts the line that says why the command isn't done, and answers the status.
-pub fn tell<K: Sink>(stop: &Stop, out: &mut K) -> u8
+pub fn tell<K: Sink>(stop: &Stop, out: &mut K) -> Status
     ensures status { result ≡ status_of stop.now }
     ensures put { IsPutOf (message_text (message_of stop.now)) (K.facts out.old) (K.facts out.new) }
 {
-    let _put = put_all(out, print_message(stop.message()).as_bytes());
-    stop.status()
+    let message = stop.message();
+    let _put = put_all(out, print_message(message).as_bytes());
+    message.status()
 }

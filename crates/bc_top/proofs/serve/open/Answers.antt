@@ -1,5 +1,6 @@
 use Rattle.std.proofs.Common.{inl, refl}
 use Rattle.bc_top.specs.Opened.{IsOpeningCause}
+use Rattle.bc_top.specs.Stops.{open_stop}
 use Rattle.bc_top.proofs.Judging.{has_room, opening_refused, opening_unserved, turned}
 use Rattle.bc_top.proofs.Settled.{same_self}
 use Rattle.bc_top.proofs.serve.open.Goals as goal
@@ -8,13 +9,16 @@ pub returns-in_err-superblock-clause-cause : goal.returns-in_err-superblock-clau
 returns-in_err-superblock-clause-cause g c =
     let cache = g.C.Disk.facts c.args.cache.now in
     let e = c.in_err-superblock.field-0.0 in
-    turned c.from_residual.result e (IsOpeningCause cache cache (g.B.Disk.facts c.args.backing.now) (g.B.Disk.facts c.open_backing.new.backing)) c.from_residual.ensures.1 (inl (e, refl, c.in_err-superblock.ensures.cause, refl))
+    turned c.from_residual.result (open_stop e) (IsOpeningCause cache cache (g.B.Disk.facts c.args.backing.now) (g.B.Disk.facts c.open_backing.new.backing)) c.from_residual.ensures.1 (inl (e, refl, c.in_err-superblock.ensures.cause, refl))
 
 pub returns-in_err-superblock-clause-same : goal.returns-in_err-superblock-clause-same
 returns-in_err-superblock-clause-same g c = (same_self (g.C.Disk.facts c.args.cache.now), c.in_err-superblock.ensures.same)
 
 pub test_pair-requires : goal.test_pair-requires
-test_pair-requires g c = record { large = has_room (g.B.Disk.facts c.open_backing.new.backing) c.in_ok-superblock.superblock c.in_ok-superblock.ensures.ok.reads }
+test_pair-requires g c = record {
+  large = has_room (g.B.Disk.facts c.open_backing.new.backing) c.in_ok-superblock.superblock c.in_ok-superblock.ensures.ok.reads;
+  still = c.in_ok-superblock.ensures.ok.still;
+}
 
 pub returns-in_err-test_pair-clause-cause : goal.returns-in_err-test_pair-clause-cause
 returns-in_err-test_pair-clause-cause g c =
@@ -24,7 +28,7 @@ returns-in_err-test_pair-clause-cause g c =
     let opened = g.B.Disk.facts c.open_backing.new.backing in
     let backing' = g.B.Disk.facts c.test_pair.new.backing in
     let e = c.in_err-test_pair.field-0.0 in
-    turned c.from_residual-in_err-test_pair.result e (IsOpeningCause cache cache' backing backing') c.from_residual-in_err-test_pair.ensures.1
+    turned c.from_residual-in_err-test_pair.result (open_stop e) (IsOpeningCause cache cache' backing backing') c.from_residual-in_err-test_pair.ensures.1
     (opening_refused cache cache' backing opened backing' c.in_ok-superblock.superblock c.in_ok-superblock.ensures.ok (λ is. let yes = c.is_pass_through.ensures.1 is in let no = c.if-not-is_pass_through.ensures in absurd (cc)) e c.in_err-test_pair.ensures.cause)
 
 pub returns-then-not-is_pass_through-clause-cause : goal.returns-then-not-is_pass_through-clause-cause
@@ -34,7 +38,7 @@ returns-then-not-is_pass_through-clause-cause g c =
     let backing = g.B.Disk.facts c.args.backing.now in
     let opened = g.B.Disk.facts c.open_backing.new.backing in
     let backing' = g.B.Disk.facts c.test_pair.new.backing in
-    opening_unserved cache cache' backing opened backing' c.in_ok-superblock.superblock c.in_ok-superblock.ensures.ok (λ is. let yes = c.is_pass_through.ensures.1 is in let no = c.if-not-is_pass_through.ensures in absurd (cc)) c.in_ok-test_pair.ensures.opened c.in_ok-test_pair.ensures.quiet c.in_ok-test_pair.ensures.again
+    opening_unserved cache cache' backing opened backing' c.in_ok-superblock.superblock c.in_ok-superblock.ensures.ok (λ is. let yes = c.is_pass_through.ensures.1 is in let no = c.if-not-is_pass_through.ensures in absurd (cc)) c.in_ok-test_pair.ensures.opened c.in_ok-test_pair.ensures.quiet c.in_ok-test_pair.ensures.again c.in_ok-test_pair.ensures.settled
 
 pub returns-clause-same : goal.returns-clause-same
 returns-clause-same g c = (same_self (g.C.Disk.facts c.args.cache.now), c.in_ok-superblock.ensures.same)

@@ -1,7 +1,31 @@
-use Rattle.bc_top.proofs.Settled.{open_cause}
+use Rattle.bc_top.specs.Stops.{trace_stop}
+use Rattle.bc_top.specs.Top.{IsServeCause}
+use Rattle.bc_top.specs.declared.stop.Stop.{Stop}
+use Rattle.bc_top.proofs.Completing.{unread}
+use Rattle.bc_top.proofs.Judging.{turned}
+use Rattle.bc_top.proofs.Settled.{open_cause, same_self}
 use Rattle.bc_top.proofs.serve.prepare.Goals as goal
 
-pub returns-in-Err-clause-cause : goal.returns-in-Err-clause-cause
-returns-in-Err-clause-cause g c =
-    open_cause (g.S.Source.facts c.args.trace.now) (g.S.Source.facts c.read_trace.new.source) (g.C.Disk.facts c.args.cache.now) (g.C.Disk.facts c.open.new.cache) (g.B.Disk.facts c.args.backing.now) (g.B.Disk.facts c.open.new.backing)
-    (c.in-Ok.script, c.in-Ok.ensures.trace, c.in-Ok.ensures.whole) c.in-Err.stop c.in-Err.ensures.cause
+pub returns-in_err-script-clause-cause : goal.returns-in_err-script-clause-cause
+returns-in_err-script-clause-cause g c =
+    let source = g.S.Source.facts c.args.trace.now in
+    let left = g.S.Source.facts c.read_trace.new.source in
+    let cache = g.C.Disk.facts c.args.cache.now in
+    let backing = g.B.Disk.facts c.args.backing.now in
+    let e = c.in_err-script.field-0.0 in
+    turned c.from_residual.result (trace_stop e) (λ (why : Stop). IsServeCause why source left cache cache backing backing)
+    c.from_residual.ensures.1 (unread source left cache backing e c.in_err-script.ensures.cause)
+
+pub returns-in_err-superblock-clause-cause : goal.returns-in_err-superblock-clause-cause
+returns-in_err-superblock-clause-cause g c =
+    let source = g.S.Source.facts c.args.trace.now in
+    let left = g.S.Source.facts c.read_trace.new.source in
+    let cache = g.C.Disk.facts c.args.cache.now in
+    let cache' = g.C.Disk.facts c.open.new.cache in
+    let backing = g.B.Disk.facts c.args.backing.now in
+    let backing' = g.B.Disk.facts c.open.new.backing in
+    let why = c.in_err-superblock.field-0.0 in
+    turned c.from_residual-in_err-superblock.result why (λ (why : Stop). IsServeCause why source left cache cache' backing backing')
+    c.from_residual-in_err-superblock.ensures.1
+    (open_cause source left cache cache' backing backing'
+    (c.in_ok-script.script, c.in_ok-script.ensures.trace, c.in_ok-script.ensures.whole) why c.in_err-superblock.ensures.cause)

@@ -1,7 +1,6 @@
-use Rattle.std.proofs.Common.{◌≡◌, inr, ◌-◌, ◌^◌, List, sym, ap, ◌∙◌, subst, refl}
-use Rattle.std.specs.Prelude.{min}
+use Rattle.std.proofs.Common.{◌≡◌, inl, inr, List, sym, ap, ◌∙◌, subst, refl}
 use Rattle.bc_disk.specs.Device.{HasRisen}
-use Rattle.bc_disk.specs.Disk.{DiskFacts}
+use Rattle.bc_disk.specs.Disk.{DiskFacts, IfTold}
 use Rattle.bc_machine.specs.declared.part.BackingPart.{BackingPart}
 use Rattle.bc_plain_laws.specs.Promises.{IsStable, IsUntouched, Survives}
 use Rattle.bc_script.specs.declared.line.Line.{Line}
@@ -9,52 +8,18 @@ use Rattle.bc_script.specs.declared.answer.Answer.{Answer}
 use Rattle.bc_super.specs.Super.{data_sectors}
 use Rattle.bc_super.proofs.Told.{reads_before}
 use Rattle.bc_top.specs.Ended.{IsEnd}
-use Rattle.bc_top.specs.Opened.{IsSameDevice}
+use Rattle.bc_top.specs.Opened.{IsOpened, IsSameDevice}
 use Rattle.bc_top.specs.declared.stop.Stop.TheVariants as stop
 use Rattle.bc_top.proofs.Telling.{told_before, expected, legal_of}
 use Rattle.bc_top.proofs.Statuses.{all_plain, closed_whole, device_failed, sink_stopped, done, ended_otherwise, of_lines, only_done}
-use Rattle.bc_top.proofs.Completing.{only_memory}
+use Rattle.bc_top.proofs.Completing.{device_rose, only_memory}
 use Rattle.bc_top.proofs.Judging.{alone_answers, nine_answers, stopped_answers}
 use Rattle.bc_top.proofs.serve.serve.Goals as goal
 
-pub returns-in-Ok-run_trace-clause-survives : goal.returns-in-Ok-run_trace-clause-survives
-returns-in-Ok-run_trace-clause-survives g c =
-    let outcome = c.in-Ok-run_trace.outcome in
-    let s = c.in-Ok.prepared.superblock in
-    let old = g.B.Disk.facts c.args.backing in
-    let opened = g.B.Disk.facts c.prepare.new.backing in
-    let is = c.in-Ok.ensures.opened.1 in
-    told_before old old.holds opened.holds s (λ s image. Survives s.data_offset image outcome.pass.entries.items
-    (g.B.Disk.facts outcome.backing.disk)) is.holds
-    (reads_before old opened is.sectors is.holds s is.reads) c.in-Ok-run_trace.ensures.survives
-
-pub returns-in-Ok-run_trace-clause-stable : goal.returns-in-Ok-run_trace-clause-stable
-returns-in-Ok-run_trace-clause-stable g c = λ zero.
-    let outcome = c.in-Ok-run_trace.outcome in
-    let s = c.in-Ok.prepared.superblock in
-    let old = g.B.Disk.facts c.args.backing in
-    let opened = g.B.Disk.facts c.prepare.new.backing in
-    let is = c.in-Ok.ensures.opened.1 in
-    told_before old old.holds opened.holds s (λ s image. IsStable s.data_offset image outcome.pass.entries.items
-    (g.B.Disk.facts outcome.backing.disk)) is.holds
-    (reads_before old opened is.sectors is.holds s is.reads)
-    (c.in-Ok-run_trace.ensures.stable (closed_whole c.report.result c.deref-in-Ok-run_trace.result.now
-    outcome.closing (g.K.Sink.facts c.args.out.now) (g.K.Sink.facts c.report.new.out) c.report.ensures zero))
-
-pub returns-in-Ok-run_trace-clause-spared : goal.returns-in-Ok-run_trace-clause-spared
-returns-in-Ok-run_trace-clause-spared g c =
-    let outcome = c.in-Ok-run_trace.outcome in
-    let s = c.in-Ok.prepared.superblock in
-    let old = g.B.Disk.facts c.args.backing in
-    let opened = g.B.Disk.facts c.prepare.new.backing in
-    let is = c.in-Ok.ensures.opened.1 in
-    let size : c.min-size.result ≡ data_sectors old.sectors s = c.min-size.ensures
-    ∙ ap (λ k. min (k - s.data_offset) (2 ^ 40)) (c.sectors.ensures ∙ is.sectors) in
-    told_before old old.holds opened.holds s (λ s image. IsUntouched s.data_offset (data_sectors old.sectors s) image
-    (g.B.Disk.facts outcome.backing.disk)) is.holds
-    (reads_before old opened is.sectors is.holds s is.reads)
-    (subst (λ n. Rattle.bc_disk.specs.Disk.IfTold opened.holds (λ image. IsUntouched s.data_offset n image
-    (g.B.Disk.facts outcome.backing.disk))) size c.in-Ok-run_trace.ensures.outside)
+pub returns-in-Err-clause-device : goal.returns-in-Err-clause-device
+returns-in-Err-clause-device g c = λ six.
+    device_rose (g.C.Disk.facts c.args.cache) (g.C.Disk.facts c.prepare.new.cache) (g.B.Disk.facts c.args.backing) (g.B.Disk.facts c.prepare.new.backing)
+    (g.S.Source.facts c.args.trace.now) (g.S.Source.facts c.prepare.new.trace) c.in-Err.stop c.in-Err.ensures.cause (sym c.tell.ensures.status ∙ six)
 
 pub returns-in-Ok-run_trace-clause-device : goal.returns-in-Ok-run_trace-clause-device
 returns-in-Ok-run_trace-clause-device g c = λ six.
@@ -80,8 +45,13 @@ returns-in-Ok-run_trace-clause-run g c =
     let n = data_sectors d.sectors s in
     let end = subst (λ (l : List Answer). IsEnd c.report.result l outcome.closing (g.K.Sink.facts c.args.out.now)
     (g.K.Sink.facts c.report.new.out)) c.deref-in-Ok-run_trace.ensures.value c.report.ensures in
-    let size : c.min-size.result ≡ n = c.min-size.ensures
-    ∙ ap (λ k. min (k - s.data_offset) (2 ^ 40)) c.sectors.ensures in
+    let size : c.data_sectors-size.result ≡ n = c.data_sectors-size.ensures
+    ∙ ap (λ k. data_sectors k s) c.sectors.ensures in
+    let old = g.B.Disk.facts c.args.backing in
+    let is = c.in-Ok.ensures.opened.1 in
+    let reads = reads_before old d is.sectors is.holds s is.reads in
+    let before : c.data_sectors-size.result ≡ data_sectors old.sectors s = c.data_sectors-size.ensures
+    ∙ ap (λ k. data_sectors k s) (c.sectors.ensures ∙ is.sectors) in
     let has = of_lines g.C.Disk.facts g.B.Disk.facts _ outcome.backing _ _ outcome.answers.items outcome.closing
     run.0 outcome.pass c.deref.ensures.value run.1 in
     record {
@@ -102,14 +72,25 @@ returns-in-Ok-run_trace-clause-run g c =
       left_is = refl;
       ends = end;
       done = done c.report.result outcome.answers.items outcome.closing (g.K.Sink.facts c.args.out.now)
-          (g.K.Sink.facts c.report.new.out) end c.min-size.result c.in-Ok.prepared.lines.items outcome.pass.entries.items
-          c.in-Ok.ensures.lines.0.proper (all_plain c.min-size.result 16 1 c.in-Ok.prepared.lines.items
+          (g.K.Sink.facts c.report.new.out) end c.data_sectors-size.result c.in-Ok.prepared.lines.items outcome.pass.entries.items
+          c.in-Ok.ensures.lines.0.proper (all_plain c.data_sectors-size.result 16 1 c.in-Ok.prepared.lines.items
           outcome.answers.items _ has.seen has.by_line) has.served;
-      expected = expected (g.B.Disk.facts c.args.backing).holds d.holds s.data_offset c.min-size.result
+      expected = expected (g.B.Disk.facts c.args.backing).holds d.holds s.data_offset c.data_sectors-size.result
           c.in-Ok.prepared.lines.items outcome.answers.items outcome.pass.entries.items
           c.in-Ok.ensures.opened.1.holds
           (legal_of d.holds s.data_offset outcome.pass.entries.items (g.B.Disk.facts outcome.backing.disk)
           c.in-Ok-run_trace.ensures.survives) c.in-Ok.ensures.lines.0.proper has.served;
+      survives = told_before old old.holds d.holds s (λ s image. Survives s.data_offset image
+          outcome.pass.entries.items (g.B.Disk.facts outcome.backing.disk)) is.holds reads
+          c.in-Ok-run_trace.ensures.survives;
+      stable = λ zero. told_before old old.holds d.holds s (λ s image. IsStable s.data_offset image
+          outcome.pass.entries.items (g.B.Disk.facts outcome.backing.disk)) is.holds reads
+          (c.in-Ok-run_trace.ensures.stable (closed_whole c.report.result c.deref-in-Ok-run_trace.result.now
+          outcome.closing (g.K.Sink.facts c.args.out.now) (g.K.Sink.facts c.report.new.out) c.report.ensures zero));
+      spared = told_before old old.holds d.holds s (λ s image. IsUntouched s.data_offset
+          (data_sectors old.sectors s) image (g.B.Disk.facts outcome.backing.disk)) is.holds reads
+          (subst (λ n. IfTold d.holds (λ image. IsUntouched s.data_offset n image
+          (g.B.Disk.facts outcome.backing.disk))) before c.in-Ok-run_trace.ensures.outside);
     }
 
 pub returns-in-Err-clause-complete : goal.returns-in-Err-clause-complete
@@ -134,7 +115,13 @@ pub returns-clause-stopped : goal.returns-clause-stopped
 returns-clause-stopped g c = λ none. (
   stop.Memory,
   c.tell-in-Err-run_trace.ensures.status,
-  tt,
+  inr (
+    (c.in-Ok.prepared.lines.items, c.in-Ok.ensures.lines.0, c.in-Ok.ensures.lines.1),
+    inl (
+      ap (λ (d : _). (g.C.Disk.facts d).calls) c.in-Ok.ensures.cache,
+      (c.in-Ok.prepared.superblock, c.in-Ok.ensures.opened.0, subst (λ (d : DiskFacts). IsOpened c.in-Ok.prepared.superblock (g.B.Disk.facts c.args.backing) d) (sym (ap (λ (b : BackingPart _). g.B.Disk.facts b.disk) c.in-Err-run_trace.ensures.err)) c.in-Ok.ensures.opened.1),
+    ),
+  ),
   c.tell-in-Err-run_trace.ensures.put,
   (
     c.in-Ok.ensures.same.0,

@@ -12,7 +12,7 @@ use Rattle.bc_top.specs.declared.stop.Stop.TheVariants as stop
 use Rattle.bc_top.proofs.Judging.{nine_answers}
 use Rattle.bc_top.proofs.Settled.{same_self}
 use Rattle.bc_top.proofs.Unread.{at_error, found_is, lacks}
-use Rattle.bc_top.proofs.Checking.{same_checked, checking_rises, checking_stops, checking_known, checking_ends, not_usage, not_source}
+use Rattle.bc_top.proofs.Checking.{same_checked, checking_rises, checking_stops, checking_ends, not_usage, not_source}
 use Rattle.bc_top.proofs.Pairing.{adopt_unwritten, keeps_kept, printing_ends, printing_stops, same_both, silent_ends}
 use Rattle.bc_top.proofs.top.bcache.Goals as goal
 
@@ -26,28 +26,28 @@ returns-in-Ok-Format-clause-does g c = λ command says.
 
 pub returns-in-Err-clause-does : goal.returns-in-Err-clause-does
 returns-in-Err-clause-does g c = λ command says. inr (lacks _ c.in-Err.error _ command
-    (at_error (λ e. IsCause (map string_bytes c.args.words.now) e) c.read_words.result c.in-Err.error c.in-Err.is c.read_words.ensures.refused) says (c.tell.ensures.status ∙ ap (λ (s : Stop). status_of s) c.stop_of.ensures)
-    (subst (λ (s : Stop). IsPutOf (message_text (message_of s)) (g.K.Sink.facts c.args.out.now) (g.K.Sink.facts c.tell.new.out)) c.stop_of.ensures c.tell.ensures.put))
+    (at_error (λ e. IsCause (map string_bytes c.args.words.now) e) c.read_words.result c.in-Err.error c.in-Err.is c.read_words.ensures.refused) says (c.tell.ensures.status ∙ ap (λ (s : Stop). status_of s) c.from.ensures)
+    (subst (λ (s : Stop). IsPutOf (message_text (message_of s)) (g.K.Sink.facts c.args.out.now) (g.K.Sink.facts c.tell.new.out)) c.from.ensures c.tell.ensures.put))
 
 pub returns-in-Err-clause-stopped : goal.returns-in-Err-clause-stopped
 returns-in-Err-clause-stopped g c = λ serves none.
     let lacking = lacks {cache = c.args.cache} {backing = c.args.backing} _ c.in-Err.error _ (Serve serves.0)
-    (at_error (λ e. IsCause (map string_bytes c.args.words.now) e) c.read_words.result c.in-Err.error c.in-Err.is c.read_words.ensures.refused) serves.1 (c.tell.ensures.status ∙ ap (λ (s : Stop). status_of s) c.stop_of.ensures)
-    (subst (λ (s : Stop). IsPutOf (message_text (message_of s)) (g.K.Sink.facts c.args.out.now) (g.K.Sink.facts c.tell.new.out)) c.stop_of.ensures c.tell.ensures.put) in
-    (stop.Memory, lacking.status_is, tt, lacking.told, (same_self (g.C.Disk.facts c.args.cache), same_self (g.B.Disk.facts c.args.backing)))
+    (at_error (λ e. IsCause (map string_bytes c.args.words.now) e) c.read_words.result c.in-Err.error c.in-Err.is c.read_words.ensures.refused) serves.1 (c.tell.ensures.status ∙ ap (λ (s : Stop). status_of s) c.from.ensures)
+    (subst (λ (s : Stop). IsPutOf (message_text (message_of s)) (g.K.Sink.facts c.args.out.now) (g.K.Sink.facts c.tell.new.out)) c.from.ensures c.tell.ensures.put) in
+    (stop.Memory, lacking.status_is, inl (refl, (refl, refl)), lacking.told, (same_self (g.C.Disk.facts c.args.cache), same_self (g.B.Disk.facts c.args.backing)))
 
 pub returns-in-Err-clause-complete : goal.returns-in-Err-clause-complete
 returns-in-Err-clause-complete g c = λ serves spells asks quiet still takes.
     let lacking = lacks {cache = c.args.cache} {backing = c.args.backing} _ c.in-Err.error _ (Serve serves.0)
-    (at_error (λ e. IsCause (map string_bytes c.args.words.now) e) c.read_words.result c.in-Err.error c.in-Err.is c.read_words.ensures.refused) serves.1 (c.tell.ensures.status ∙ ap (λ (s : Stop). status_of s) c.stop_of.ensures)
-    (subst (λ (s : Stop). IsPutOf (message_text (message_of s)) (g.K.Sink.facts c.args.out.now) (g.K.Sink.facts c.tell.new.out)) c.stop_of.ensures c.tell.ensures.put) in
+    (at_error (λ e. IsCause (map string_bytes c.args.words.now) e) c.read_words.result c.in-Err.error c.in-Err.is c.read_words.ensures.refused) serves.1 (c.tell.ensures.status ∙ ap (λ (s : Stop). status_of s) c.from.ensures)
+    (subst (λ (s : Stop). IsPutOf (message_text (message_of s)) (g.K.Sink.facts c.args.out.now) (g.K.Sink.facts c.tell.new.out)) c.from.ensures c.tell.ensures.put) in
     inr lacking.status_is
 
 pub returns-in-Err-clause-judged : goal.returns-in-Err-clause-judged
 returns-in-Err-clause-judged g c = λ serves.
     let lacking = lacks {cache = c.args.cache} {backing = c.args.backing} _ c.in-Err.error _ (Serve serves.0)
-    (at_error (λ e. IsCause (map string_bytes c.args.words.now) e) c.read_words.result c.in-Err.error c.in-Err.is c.read_words.ensures.refused) serves.1 (c.tell.ensures.status ∙ ap (λ (s : Stop). status_of s) c.stop_of.ensures)
-    (subst (λ (s : Stop). IsPutOf (message_text (message_of s)) (g.K.Sink.facts c.args.out.now) (g.K.Sink.facts c.tell.new.out)) c.stop_of.ensures c.tell.ensures.put) in
+    (at_error (λ e. IsCause (map string_bytes c.args.words.now) e) c.read_words.result c.in-Err.error c.in-Err.is c.read_words.ensures.refused) serves.1 (c.tell.ensures.status ∙ ap (λ (s : Stop). status_of s) c.from.ensures)
+    (subst (λ (s : Stop). IsPutOf (message_text (message_of s)) (g.K.Sink.facts c.args.out.now) (g.K.Sink.facts c.tell.new.out)) c.from.ensures c.tell.ensures.put) in
     nine_answers (g.S.Source.facts c.args.trace.now) (g.S.Source.facts c.args.trace.now) (g.C.Disk.facts c.args.cache) (g.C.Disk.facts c.args.cache) (g.B.Disk.facts c.args.backing) (g.B.Disk.facts c.args.backing) c.tell.result (g.K.Sink.facts c.args.out.now) (g.K.Sink.facts c.tell.new.out) lacking.status_is
 
 pub returns-in-Ok-Adopt-clause-unwritten : goal.returns-in-Ok-Adopt-clause-unwritten
@@ -97,9 +97,6 @@ returns-in-Ok-Check-clause-usage g c = λ two. (let did = c.print_check.ensures.
 
 pub returns-in-Ok-Check-clause-told : goal.returns-in-Ok-Check-clause-told
 returns-in-Ok-Check-clause-told g c = λ two. (let did = c.print_check.ensures.checked in absurd (not_usage (g.C.Disk.facts c.args.cache) (g.C.Disk.facts c.print_check.result.cache) (g.B.Disk.facts c.args.backing) (g.B.Disk.facts c.print_check.result.backing) did.answer c.print_check.result.status (g.K.Sink.facts c.args.out.now) (g.K.Sink.facts c.print_check.new.out) did.cause did.faults did.ends two))
-
-pub returns-in-Ok-Check-clause-known : goal.returns-in-Ok-Check-clause-known
-returns-in-Ok-Check-clause-known g c = (let did = c.print_check.ensures.checked in checking_known (g.C.Disk.facts c.args.cache) (g.C.Disk.facts c.print_check.result.cache) (g.B.Disk.facts c.args.backing) (g.B.Disk.facts c.print_check.result.backing) did.answer c.print_check.result.status (g.K.Sink.facts c.args.out.now) (g.K.Sink.facts c.print_check.new.out) did.cause did.faults did.ends)
 
 pub returns-in-Ok-Check-clause-device : goal.returns-in-Ok-Check-clause-device
 returns-in-Ok-Check-clause-device g c = (let did = c.print_check.ensures.checked in checking_rises (g.C.Disk.facts c.args.cache) (g.C.Disk.facts c.print_check.result.cache) (g.B.Disk.facts c.args.backing) (g.B.Disk.facts c.print_check.result.backing) did.answer c.print_check.result.status (g.K.Sink.facts c.args.out.now) (g.K.Sink.facts c.print_check.new.out) did.cause did.faults did.ends)

@@ -3,13 +3,13 @@ ghost use Rattle.std.specs.Prelude.{◌≡◌, ◌≢◌, ◌<◌, ◌≤◌, �
 ghost use Rattle.bc_prog.specs.Done.{IsDone};
 ghost use Rattle.bc_prog.specs.Refusal.{IsRefused};
 ghost use Rattle.bc_prog.specs.declared.refusal.Refusal.TheVariants as refusals;
-ghost use Rattle.bc_top.specs.Top.{IsServe, Says};
-ghost use Rattle.bc_words.specs.declared.command.Command.{Command};
+ghost use Rattle.bc_top.specs.Top.{IsServe, SaysNone};
 
 use crate::refusal::{Refusal, refuse};
 use bc_disk::disk::Device;
 use bc_disk::stream::{Sink, Source};
 use bc_file::file_disk::FileDisk;
+use bc_output::status::Status;
 use bc_top::top::bcache;
 use std::alloc::Global;
 use std::fs::File;
@@ -46,19 +46,22 @@ fn open_disks<R: Files<File = File>>(
 /// Runs the command that the words from the third on say, over the files that the first two name,
 /// and answers the status that the program ends with.
 ///
-/// With fewer than three words that is 2, and `usage` is put. Then the cache file is opened, and
-/// then the backing file: the first that can't be opened is a fault of its device, with status 6.
+/// With fewer than three words that is `Usage`, which is put. Then the cache file is opened, and
+/// then the backing file: the first that can't be opened is a fault of its device.
 pub fn run<R: Files<File = File> + Wait, S: Source, K: Sink>(
     rt: &R,
     alloc: Global,
     words: &[String],
     trace: &mut S,
     out: &mut K,
-) -> u8
-    ensures few { length words.now < 3 → IsRefused refusals.Usage result (K.facts out.old) (K.facts out.new) }
-    ensures usage { result ≡ 2 → (command : Command) → Says (drop 2 words.now) command → ⊥ }
-    ensures unknown { ((command : Command) → Says (drop 2 words.now) command → ⊥) → (result ≡ 2) ⊎ (result ≡ 6) ⊎ (result ≡ 9) }
-    ensures done { IsServe (drop 2 words.now) → result ≡ 0 → IsDone (S.facts trace.old) (S.facts trace.new) (K.facts out.old) (K.facts out.new) }
+) -> Status
+    ensures few { length words.now < 3
+        → IsRefused refusals.Usage result (K.facts out.old) (K.facts out.new) }
+    ensures usage { result ≡ Status.Usage → SaysNone (drop 2 words.now) }
+    ensures unknown { SaysNone (drop 2 words.now) → (result ≡ Status.Usage)
+        ⊎ (result ≡ Status.Device) ⊎ (result ≡ Status.Memory) }
+    ensures done { IsServe (drop 2 words.now) → result ≡ Status.Done → IsDone (S.facts trace.old)
+        (S.facts trace.new) (K.facts out.old) (K.facts out.new) }
 {
     match open_disks(rt, words) {
         Ok((cache, backing)) => bcache(rt, alloc, &words[2..], trace, cache, backing, out).status,

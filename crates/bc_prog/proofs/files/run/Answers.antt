@@ -5,7 +5,7 @@ use Rattle.std.specs.Prelude.{List, String}
 use Rattle.std.specs.declared.alloc.Global.{Global}
 use Rattle.bc_top.specs.Top.{IsServe, Says}
 use Rattle.bc_prog.proofs.Ended.{began, refused, unknown}
-use Rattle.bc_prog.proofs.running.run.Goals as goal
+use Rattle.bc_prog.proofs.files.run.Goals as goal
 
 pub returns-in-Err-clause-unknown : goal.returns-in-Err-clause-unknown
 returns-in-Err-clause-unknown g c = λ _. refused _ _ (λ is. c.open_disks.ensures.memory (c.in-Err.is ∙ ap Err is)) c.refuse.ensures.ended

@@ -1,0 +1,78 @@
+-- What a call of the program promises, by what it was given and what it leaves.
+use Rattle.std.specs.Prelude.{◌≡◌, ◌⊎◌, IsNone, List, String}
+use Rattle.std.specs.declared.alloc.Global.{Global}
+use Rattle.bc_disk.specs.Device.{HasRisen}
+use Rattle.bc_disk.specs.Disk.{DiskFacts}
+use Rattle.bc_disk.specs.Stream.{StreamFacts}
+use Rattle.bc_output.specs.Message.{message_text}
+use Rattle.bc_output.specs.declared.message.Message.{Message}
+use Rattle.bc_output.specs.declared.status.Status.TheVariants as statuses
+use Rattle.bc_words.specs.declared.command.Command.{Command}
+use Rattle.bc_top.specs.Ended.{HasStopped, IsPutOf}
+use Rattle.bc_top.specs.Opened.{AsksForNone}
+use Rattle.bc_top.specs.Stops.{IsRefusal, message_of, status_of}
+use Rattle.bc_top.specs.Top.{AnswersPair, AreSame, Does, IsCheck, IsServeCause, LacksMemory, OneHasRisen, SpellsTrace}
+use Rattle.bc_top.specs.declared.exit.Exit.{Exit}
+use Rattle.bc_top.specs.declared.stop.Stop.{Stop}
+
+module _ {C B : Type 0} (cache : C) (backing : B) (it : Exit C B) where
+  -- the message was put, and nothing was done
+  abbrev pub OnlyTells : Message → StreamFacts → StreamFacts → Type 0
+  OnlyTells m old new =
+      IsPutOf (message_text m) old new × (it.cache ≡ cache) × (it.backing ≡ backing)
+
+  -- the words were refused, or there was no memory for them
+  abbrev pub IsUnknown : StreamFacts → StreamFacts → Type 0
+  IsUnknown old new = (it.status ≡ statuses.Usage)
+      ⊎ LacksMemory it.status cache it.cache backing it.backing old new
+
+module _ {C B : Type 0} (cache_facts : C → DiskFacts) (backing_facts : B → DiskFacts)
+    (cache : C) (backing : B) (it : Exit C B) where
+  -- a count of a device's faults rose
+  abbrev pub DeviceRose : Type 0
+  DeviceRose = OneHasRisen (cache_facts cache) (cache_facts it.cache)
+      (backing_facts backing) (backing_facts it.backing)
+
+  -- no sector of either device was written
+  abbrev pub IsUnwritten : Type 0
+  IsUnwritten = AreSame (cache_facts cache) (cache_facts it.cache)
+      (backing_facts backing) (backing_facts it.backing)
+
+  -- the command was done, but for want of memory for its words
+  abbrev pub Obeys : Command → StreamFacts → StreamFacts → Type 0
+  Obeys command old new =
+      Does cache_facts backing_facts command it.status cache it.cache backing it.backing old new
+      ⊎ LacksMemory it.status cache it.cache backing it.backing old new
+
+  -- Where no run began the status has its cause, the message was put, and no sector was written.
+  abbrev pub HasNotBegun : StreamFacts → StreamFacts → StreamFacts → StreamFacts → Type 0
+  HasNotBegun source left old new = IsNone it.pass → (stop : Stop) × (it.status ≡ status_of stop)
+      × IsServeCause stop source left (cache_facts cache) (cache_facts it.cache)
+      (backing_facts backing) (backing_facts it.backing)
+      × IsPutOf (message_text (message_of stop)) old new × IsUnwritten
+
+  -- what is refused is refused before anything is written
+  abbrev pub KeepsWhatItRefuses : Type 0
+  KeepsWhatItRefuses = IsRefusal it.status → IsUnwritten
+
+  -- Where nothing fails a trace in its grammar, over a device that asks for no cache, is served,
+  -- but for want of memory.
+  abbrev pub Completes : StreamFacts → StreamFacts → StreamFacts → StreamFacts → Type 0
+  Completes source left old new = SpellsTrace source → AsksForNone (backing_facts backing)
+      → (HasRisen source.faults left.faults → ⊥)
+      → (HasRisen (backing_facts backing).faults (backing_facts it.backing).faults → ⊥)
+      → (HasStopped old new → ⊥)
+      → (it.status ≡ statuses.Done) ⊎ (it.status ≡ statuses.Memory)
+
+  -- a pair that needs its cache is answered by its first refusal, or that it isn't served
+  abbrev pub IsJudged : StreamFacts → StreamFacts → StreamFacts → StreamFacts → Type 0
+  IsJudged source left old new = AnswersPair source left (cache_facts cache) (cache_facts it.cache)
+      (backing_facts backing) (backing_facts it.backing) it.status old new
+
+  -- Where nothing fails a command but `serve` was done, or had one of these reasons: its words, a
+  -- superblock, memory, or of a check the verdict.
+  abbrev pub EndsWell : List (String Global) → StreamFacts → StreamFacts → Type 0
+  EndsWell words old new = (DeviceRose → ⊥) → (HasStopped old new → ⊥)
+      → ((it.status ≡ statuses.Done) ⊎ (it.status ≡ statuses.Usage)
+      ⊎ (it.status ≡ statuses.Superblock) ⊎ (it.status ≡ statuses.Memory))
+      ⊎ ((it.status ≡ statuses.Image) × IsCheck words)
