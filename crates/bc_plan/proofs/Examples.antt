@@ -25,6 +25,12 @@ three_cover a b c one two three = rise_covers 0 2048 (a ∷ b ∷ c ∷ []) rise
     rise : Rise 0 (a ∷ b ∷ c ∷ [])
     rise = (omega arith, omega arith, (omega arith, omega arith, (omega arith, omega arith, tt)))
 
+pub one_cover : (a : Key) → a.end ≡ 1048576 → CoverRange 0 1048576 (a ∷ [])
+one_cover a one = rise_covers 0 1048576 (a ∷ []) rise (omega arith) one
+  where
+    rise : Rise 0 (a ∷ [])
+    rise = (omega arith, omega arith, tt)
+
 -- the leaf that a tree finds for a sector is one of its own
 pub found_leaf : (s : Spine) (range : LeafRange) (sector : ℕ) (leaf : Leaf) → AreLeaves s.leaves s.root.end → IsLeafAt s.leaves sector range → sector < s.root.end → leaf.from ≡ range.from → leaf.end ≡ range.end → IsOfSpine s leaf
 found_leaf s range sector leaf all found inside from end = record {

@@ -19,7 +19,7 @@ use bc_key::{Key, Ptr};
 use bc_keys::{Keys, word_count};
 use bc_node::{Leaf, in_blocks};
 use bc_tree::{NodeChange, Plan, Spine};
-use std::alloc::Global;
+use std::alloc::{AllocError, Global};
 use std::process::Abort;
 use std::test::Fail;
 
@@ -68,6 +68,21 @@ fn tree(alloc: Global, g: &Geometry) -> Result<Spine, Fail> {
     Ok(spine)
 }
 
+/// A tree of one leaf, of which nothing is written.
+fn small_tree(alloc: Global, g: &Geometry) -> Result<Spine, Fail> {
+    let children = [child(1_048_576, 9)];
+    let keys = Keys::from_vec(Vec::from_slice(alloc, &children)?);
+    let root = Inner::new(alloc, &child(1_048_576, 12), 1, 0, 7, keys);
+    let length = root.length();
+    let room = 512 * usize::from(g.node_sectors);
+    if length > room {
+        return Err(Fail::new("the root is too large"));
+    }
+    let below = Vec::new(alloc);
+    let spine = Spine::new(alloc, g, root, below)?;
+    Ok(spine)
+}
+
 /// The leaf of a sector, without keys.
 fn leaf(alloc: Global, spine: &Spine, sector: u64) -> Leaf
     requires { sector < spine.now.root.end }
@@ -98,6 +113,77 @@ fn plan(
         Ok(plan) => Ok(plan),
         Err(_) => Err(Fail::new("no plan")),
     }
+}
+
+/// Plans that the leaf of a sector is split, with as many places as that needs.
+fn cut(
+    rt: &impl Abort,
+    alloc: Global,
+    spine: &mut Spine,
+    sector: u64,
+    to: &[Ptr],
+) -> Result<Plan, Fail>
+    ensures { IfOk result (Fits spine.new) }
+{
+    assert!(rt; sector < spine.root().end());
+    let old = leaf(alloc, spine, sector);
+    assert!(rt; old.from() < 1_000_000 && old.from() + 256 < old.end());
+    if let Some(needs) = spine.split_needs(&old) {
+        assert!(rt; needs.tree < 8 && needs.moving < 8);
+        let count = (needs.tree + needs.moving) as usize;
+        assert!(rt; count <= to.len());
+        if let Ok(plan) = spine.plan_split(alloc, &old, &to[..count], 8) {
+            return Ok(plan);
+        }
+    }
+    Err(Fail::new("no plan of a split"))
+}
+
+/// Plans that a leaf becomes one with the next, with as many places as that needs.
+fn join_both(
+    rt: &impl Abort,
+    alloc: Global,
+    spine: &mut Spine,
+    left: &Leaf,
+    right: &Leaf,
+    to: &[Ptr],
+) -> Result<Plan, Fail>
+    requires left { IsOfSpine spine.old left.now }
+    requires right { IsOfSpine spine.old right.now }
+    requires some { left.now.from < left.now.end }
+    requires beside { left.now.end ≡ right.now.from }
+    requires within { right.now.from < spine.old.root.end }
+    ensures { IfOk result (Fits spine.new) }
+{
+    if let Some(needs) = spine.merge_needs(left, right) {
+        assert!(rt; needs.tree < 8 && needs.moving < 8);
+        let count = (needs.tree + needs.moving) as usize;
+        assert!(rt; count <= to.len());
+        if let Ok(Some(plan)) = spine.plan_merge(alloc, left, right, &to[..count], 8) {
+            return Ok(plan);
+        }
+    }
+    Err(Fail::new("no plan of a merge"))
+}
+
+/// Plans that the leaves of two sectors become one, with as many places as that needs.
+fn join(
+    rt: &impl Abort,
+    alloc: Global,
+    spine: &mut Spine,
+    low: u64,
+    high: u64,
+    to: &[Ptr],
+) -> Result<Plan, Fail>
+    ensures { IfOk result (Fits spine.new) }
+{
+    assert!(rt; low < spine.root().end() && high < spine.root().end());
+    let left = leaf(alloc, spine, low);
+    let right = leaf(alloc, spine, high);
+    if left.from() < left.end() && left.end() == right.from() && right.from() < spine.root().end() {
+        return join_both(rt, alloc, spine, &left, &right, to);
+    }
+    Err(Fail::new("no neighbours"))
 }
 
 /// Whether the node moves to a place on the device, and isn't written yet.
@@ -227,5 +313,191 @@ fn leaves_move(rt: HostRuntime) -> Result<(), Fail> {
             assert_eq!(rt; found.ptrs[0], *place);
         }
     }
+    Ok(())
+}
+
+#[test]
+fn a_tree_grows_and_shrinks(rt: HostRuntime) -> Result<(), Fail> {
+    let alloc = rt.alloc();
+    let mut spine = small_tree(alloc, &device())?;
+    let to = [at(20), at(21), at(22), at(23), at(24)];
+    // As long as the root has room it is the only node, and later it has others below it.
+    for k in 0..3_000 {
+        let plan = cut(&rt, alloc, &mut spine, 256 * k, &to)?;
+        let _ = spine.install(plan);
+        assert_eq!(rt; spine.len() as u64, k + 2);
+        assert_eq!(rt; spine.below().is_empty(), k < 1_363);
+    }
+    assert_eq!(rt; spine.root().level(), 2);
+    assert!(rt; spine.below().len() > 3);
+    for k in 0..3_000 {
+        assert!(rt; 256 * k < spine.root().end());
+        assert_eq!(rt; spine.find(256 * k).from, 256 * k);
+    }
+    Ok(())
+}
+
+/// A number below another that looks random, and the state behind it.
+fn random(state: &mut u64, below: u64) -> u64
+    requires { 0 < below }
+    ensures { result < below }
+{
+    *state = state
+        .wrapping_mul(6_364_136_223_846_793_005)
+        .wrapping_add(1_442_695_040_888_963_407);
+    (*state >> 33) % below
+}
+
+/// The children of the nodes above leaves, one node behind the other.
+fn children_above(alloc: Global, spine: &Spine) -> Result<Vec<Key>, AllocError> {
+    let mut all = Vec::new(alloc);
+    if spine.below().is_empty() {
+        all.extend_from_slice(spine.root().children())?;
+        return Ok(all);
+    }
+    for node in spine.below() {
+        all.extend_from_slice(node.children())?;
+    }
+    Ok(all)
+}
+
+/// Whether the root names the nodes below it.
+fn root_names(spine: &Spine) -> bool {
+    let keys = spine.root().children();
+    if spine.below().is_empty() {
+        return spine.root().level() == 1;
+    }
+    if keys.len() != spine.below().len() || spine.root().level() != 2 {
+        return false;
+    }
+    let mut from = 0;
+    for (key, node) in keys.iter().zip(spine.below()) {
+        if node.from() != from || node.end() != key.end || node.ptr() != key.ptrs[0] {
+            return false;
+        }
+        from = key.end;
+    }
+    true
+}
+
+/// Whether the leaves of a tree are these, each by its end and the place where it stands, and so are
+/// the children of the nodes above them.
+fn shows(alloc: Global, spine: &Spine, slow: &[(u64, Ptr)]) -> Result<bool, AllocError> {
+    let children = children_above(alloc, spine)?;
+    if spine.len() != slow.len() || children.len() != slow.len() {
+        return Ok(false);
+    }
+    let mut from = 0;
+    for (i, (leaf, child)) in slow.iter().zip(&children).enumerate() {
+        if i >= spine.len() {
+            return Ok(false);
+        }
+        let range = spine.leaf(i);
+        if (range.from, range.end, range.ptr) != (from, leaf.0, leaf.1)
+            || (child.end, child.ptrs[0]) != *leaf
+        {
+            return Ok(false);
+        }
+        from = leaf.0;
+    }
+    Ok(root_names(spine))
+}
+
+/// Changes a tree at a leaf, and the slow one: the leaf moves, is cut in two, or becomes one with
+/// the next. A leaf that can't be cut, or has no next one, moves.
+fn change(
+    rt: &impl Abort,
+    alloc: Global,
+    spine: &mut Spine,
+    slow: &mut Vec<(u64, Ptr)>,
+    i: usize,
+    kind: u64,
+    to: &[Ptr],
+) -> Result<(), Fail> {
+    assert!(rt; i < spine.len() && i < slow.len() && to.len() == 6);
+    let range = spine.leaf(i);
+    let end = range.end;
+    if kind == 1 && range.from < end && end - range.from > 256 {
+        let plan = cut(rt, alloc, spine, range.from, to)?;
+        let new = spine.install(plan);
+        let at = new.leaves.first.end;
+        slow[i] = (end, to[1]);
+        slow.insert(i, (at, to[0]))?;
+        return Ok(());
+    }
+    if kind == 2 && i + 1 < slow.len() {
+        let next = slow[i + 1].0;
+        let plan = join(rt, alloc, spine, range.from, end, to)?;
+        let _ = spine.install(plan);
+        slow[i] = (next, to[0]);
+        let _ = slow.remove(i + 1);
+        return Ok(());
+    }
+    let plan = rewrite(rt, alloc, spine, range.from, to)?;
+    let _ = spine.install(plan);
+    slow[i] = (end, to[0]);
+    Ok(())
+}
+
+/// Plans that the leaf of a sector moves, with as many places as that needs.
+fn rewrite(
+    rt: &impl Abort,
+    alloc: Global,
+    spine: &mut Spine,
+    sector: u64,
+    to: &[Ptr],
+) -> Result<Plan, Fail>
+    ensures { IfOk result (Fits spine.new) }
+{
+    assert!(rt; sector < spine.root().end());
+    let old = leaf(alloc, spine, sector);
+    let needs = spine.rewrite_needs(&old);
+    assert!(rt; needs.tree < 8 && needs.moving < 8);
+    let count = (needs.tree + needs.moving) as usize;
+    assert!(rt; count <= to.len());
+    plan(rt, alloc, spine, sector, &to[..count])
+}
+
+/// Six places that were given to no node yet.
+fn six(step: u64) -> [Ptr; 6] {
+    let at = |n: u64| Ptr {
+        dev: 0,
+        offset: 8 * (6 * (step % 1_000_000) + n % 6),
+        generation: 0,
+    };
+    [at(0), at(1), at(2), at(3), at(4), at(5)]
+}
+
+#[test]
+fn trees_are_those_of_a_plain_list(rt: HostRuntime) -> Result<(), Fail> {
+    let alloc = rt.alloc();
+    let mut spine = small_tree(alloc, &device())?;
+    let mut slow = Vec::new(alloc);
+    slow.push((1_048_576, at(9)))?;
+    let mut state = 1;
+    let mut most = 0;
+    // First it grows to many leaves, and then it shrinks.
+    for step in 1..8_000 {
+        let kind = match random(&mut state, 8) {
+            0 => 0,
+            1 => if step < 4_500 { 2 } else { 1 },
+            _ => if step < 4_500 { 1 } else { 2 },
+        };
+        let count = slow.len() as u64;
+        assert!(rt; count > 0);
+        // The last leaf is the longest one.
+        let i = if kind == 1 {
+            count - 1
+        } else {
+            random(&mut state, count)
+        } as usize;
+        change(&rt, alloc, &mut spine, &mut slow, i, kind, &six(step))?;
+        most = most.max(spine.below().len());
+        if step % 64 == 0 {
+            assert!(rt; shows(alloc, &spine, slow.as_slice())?);
+        }
+    }
+    assert!(rt; shows(alloc, &spine, slow.as_slice())?);
+    assert!(rt; spine.below().len() < most && most > 3);
     Ok(())
 }
