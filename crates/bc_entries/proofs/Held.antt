@@ -20,8 +20,8 @@ use Rattle.bc_entries.specs.declared.error.JournalError.{JournalError}
 use Rattle.bc_entries.specs.declared.error.JournalError.TheVariants as errors
 use Rattle.bc_entries.specs.Lists.{AreListed, IsFit, IsUnfit}
 use Rattle.bc_entries.specs.Journal.{Journal, HasJournal, IsRefused}
-use Rattle.bc_entries.specs.Reading.{AddsEntries, AddsOn, StandOn, EndsWithin, HoldsJournal, IsCause}
-use Rattle.bc_entries.proofs.There.{run_there, ends_placed}
+use Rattle.bc_entries.specs.Reading.{AddsEntries, AddsOn, StandOn, EndsWithin, StandsWithin, HoldsJournal, IsCause}
+use Rattle.bc_entries.proofs.There.{IsWithin, run_there, ends_placed, stands_placed}
 
 told : (o : Option Image) (P : Image → Type 0) (at : ℕ) (values : List Value) → IfTold o (λ held. Gives at values (λ s v. v ≡ held s)) → ((image : Image) → Has image at values → P image) → IfTold o P
 told None P at values read all = tt
@@ -53,6 +53,16 @@ adds_within g i bytes old new low adds ends =
     let here = ends_placed kind (entry_codec g) (image_of bytes) g.bucket 0 blocks.0 start (g.bucket * g.nbuckets) adds.0 (omega (arith, blocks.1)) (bucket_within g i low) adds.1 in
     let there = subst (λ q. All (EndsWithin g) (placed kind q adds.0)) (let e : start + 0 ≡ start = omega arith in e) here in
     subst (λ (xs : List FoundEntry). All (EndsWithin g) xs) (sym adds.2) (All-append (EndsWithin g) old (placed kind start adds.0) ends there)
+
+pub adds_standing : (g : Geometry) (i : ℕ) (bytes : List ℕ) (old new : List FoundEntry) → i < g.journal → AddsEntries g bytes (bucket_start g i) old new → All (StandsWithin g) old → All (StandsWithin g) new
+adds_standing g i bytes old new low adds stand =
+    let kind = entry_kind g in
+    let blocks = bucket_blocks g in
+    let start = bucket_start g i in
+    let here = stands_placed kind (entry_codec g) (image_of bytes) g.bucket 0 blocks.0 0 start adds.0 (omega (arith, blocks.1)) (omega arith) adds.1 in
+    let there = subst (λ q. All (IsWithin kind start g.bucket) (placed kind q adds.0)) (let e : start + 0 ≡ start = omega arith in e) here in
+    let more : All (StandsWithin g) (placed kind start adds.0) = λ k d inside. (let x = there k d inside in (i, x.0, low, x.1, x.2)) in
+    subst (λ (xs : List FoundEntry). All (StandsWithin g) xs) (sym adds.2) (All-append (StandsWithin g) old (placed kind start adds.0) stand more)
 
 -- one more bucket was read of a device that kept all
 pub stand_more : (g : Geometry) (d e : DiskFacts) (i next : ℕ) (old new : List FoundEntry) → next ≡ suc i → IsKept d e → StandOn g d i old → AddsOn g e i old new → StandOn g d next new

@@ -1,8 +1,9 @@
 -- Records in the bytes of a bucket, and in an image that has these bytes.
-use Rattle.std.proofs.Common.{◌≡◌, ℕ, zero, suc, ◌+◌, ◌-◌, ◌*◌, ◌<◌, ◌≤◌, List, [], ◌∷◌, ◌++◌, length, take, drop, refl, sym, subst, ap, ◌∙◌, append_assoc, arith}
+use Rattle.std.proofs.Common.{◌≡◌, ℕ, zero, suc, ◌+◌, ◌-◌, ◌*◌, ◌/◌, ◌<◌, ◌≤◌, List, [], ◌∷◌, ◌++◌, length, take, drop, refl, sym, subst, ap, ◌∙◌, append_assoc, arith}
 use Rattle.std.specs.Prelude.{All}
 use Rattle.std.proofs.lemmas.List.{length-drop, length-take-le}
 use Rattle.std.proofs.lemmas.List.Elements.{All-nil, All-cons}
+use Rattle.std.proofs.Math.Nat.{mul-add}
 use Rattle.bc_model.proofs.Sectors.{values_whole}
 use Rattle.bc_model.specs.Sector.{Image, values_of}
 use Rattle.bc_disk.specs.Bytes.{image_of}
@@ -86,3 +87,22 @@ ends_placed {A} kind codec image end place n start bound (e ∷ es) ends within 
     let same : start + (place + sectors_of kind e) ≡ start + place + sectors_of kind e = omega arith in
     All-cons (λ (q : Placed A). end_of kind q ≤ bound) (at_place (start + place) e) (placed kind (start + place + sectors_of kind e) es) (omega (arith, fits, within))
     (subst (λ m. All (λ (q : Placed A). end_of kind q ≤ bound) (placed kind m es)) same rest)
+
+-- a record of a run that was moved so far begins at a block, and ends with the run or before
+abbrev pub IsWithin : {A : Type 0} → Kind A → ℕ → ℕ → Placed A → Type 0
+IsWithin kind start end p =
+    (k : ℕ) × (p.place ≡ start + kind.block * k) × (p.place + sectors_of kind p.item ≤ start + end)
+
+pub stands_placed : {A : Type 0} → (kind : Kind A) (codec : IsCodec kind) (image : Image) (end place n m start : ℕ) (es : List A) → end ≡ place + kind.block * n → place ≡ kind.block * m
+    → AreFound kind image end place es → All (IsWithin kind start end) (placed kind (start + place) es)
+stands_placed {A} kind codec image end place n m start [] ends at p = All-nil (IsWithin kind start end)
+stands_placed {A} kind codec image end place n m start (e ∷ es) ends at p =
+    let q : ℕ = (kind.bytes e + (512 * kind.block - 1)) / (512 * kind.block) in
+    let long : sectors_of kind e ≡ kind.block * q = refl in
+    let sum : kind.block * (m + q) ≡ kind.block * m + kind.block * q = mul-add kind.block m q in
+    let fits = found_fits kind codec image end place n e ends p.0 in
+    let next = next_blocks kind codec e end place n ends fits in
+    let rest = stands_placed kind codec image end (place + sectors_of kind e) next.0 (m + q) start es next.1 (omega (arith, at, long, sum)) p.1 in
+    let same : start + (place + sectors_of kind e) ≡ start + place + sectors_of kind e = omega arith in
+    All-cons (IsWithin kind start end) (at_place (start + place) e) (placed kind (start + place + sectors_of kind e) es) (m, omega (arith, at), omega (arith, fits))
+    (subst (λ x. All (IsWithin kind start end) (placed kind x es)) same rest)

@@ -1,12 +1,12 @@
 -- Reading the journal from a device.
-use Rattle.std.specs.Prelude.{◌≡◌, ℕ, ◌+◌, ◌*◌, ◌≤◌, List, ◌++◌}
+use Rattle.std.specs.Prelude.{◌≡◌, ℕ, ◌+◌, ◌*◌, ◌<◌, ◌≤◌, List, ◌++◌}
 use Rattle.bc_disk.specs.Bytes.{image_of}
 use Rattle.bc_disk.specs.Device.{next_count}
 use Rattle.bc_disk.specs.Disk.{DiskFacts, IfTold}
 use Rattle.bc_disk.specs.declared.geometry.Geometry.{Geometry}
 use Rattle.bc_jset.specs.declared.entry.JEntry.{JEntry}
 use Rattle.bc_jset.specs.Entries.{FoundEntry, StandIn, bucket_start, bucket_end}
-use Rattle.bc_jset.specs.Records.{entry_kind}
+use Rattle.bc_jset.specs.Records.{entry_kind, entry_sectors}
 use Rattle.bc_record.specs.Kind.{AreFound}
 use Rattle.bc_record.specs.Places.{placed, end_of}
 use Rattle.bc_entries.specs.Journal.{Journal, HasJournal, IsRefused}
@@ -16,6 +16,12 @@ use Rattle.bc_entries.specs.declared.error.JournalError.TheVariants as errors
 -- an entry ends before the end of the journal's buckets
 abbrev pub EndsWithin : Geometry → FoundEntry → Type 0
 EndsWithin g e = end_of (entry_kind g) e ≤ g.bucket * g.nbuckets
+
+-- an entry begins at a block of a journal bucket, and ends in it
+abbrev pub StandsWithin : Geometry → FoundEntry → Type 0
+StandsWithin g e =
+    (i k : ℕ) × (i < g.journal) × (e.place ≡ bucket_start g i + g.block * k)
+    × (e.place + entry_sectors g e.item ≤ bucket_end g i)
 
 -- entries that are found in the bytes of a bucket, at places from its first sector on, came behind others
 abbrev pub AddsEntries : Geometry → List ℕ → ℕ → List FoundEntry → List FoundEntry → Type 0

@@ -1,7 +1,8 @@
 //! Reads the journal.
 ghost use Rattle.std.specs.Prelude.{◌≡◌, ◌+◌, ◌*◌, ◌<◌, ◌≤◌, length, All, IfOk, IfErr, OnOk};
 ghost use Rattle.bc_disk.specs.Disk.{IsKept};
-ghost use Rattle.bc_entries.specs.Reading.{AddsOn, StandOn, EndsWithin, HoldsJournal, IsCause, IsWant, FaultCounted};
+ghost use Rattle.bc_entries.specs.Reading.{AddsOn, StandOn, EndsWithin, StandsWithin, HoldsJournal};
+ghost use Rattle.bc_entries.specs.Reading.{IsCause, IsWant, FaultCounted};
 ghost use Rattle.bc_entries.specs.Lists.{IsFit, IsUnfit};
 
 use crate::bucket::add_entries;
@@ -31,8 +32,10 @@ fn read_bucket<D: Disk>(
     requires journal { i < g.now.journal }
     requires whole { length bytes.old ≡ 512 * g.now.bucket }
     requires ends { All (EndsWithin g.now) all.old.items }
+    requires places { All (StandsWithin g.now) all.old.items }
     ensures adds { IfOk result (λ _. AddsOn g.now (D.facts disk.old) i all.old.items all.new.items) }
     ensures ends { IfOk result (λ _. All (EndsWithin g.now) all.new.items) }
+    ensures places { IfOk result (λ _. All (StandsWithin g.now) all.new.items) }
     ensures want { IfErr result IsWant }
     ensures kept { IsKept (D.facts disk.old) (D.facts disk.new) }
     ensures faults { IfErr result
@@ -54,6 +57,7 @@ fn read_all<D: Disk>(
     requires { g.now.bucket * g.now.nbuckets ≤ (D.facts disk.old).sectors }
     ensures stand { IfOk result (λ v. StandOn g.now (D.facts disk.old) g.now.journal v.items) }
     ensures ends { IfOk result (λ v. All (EndsWithin g.now) v.items) }
+    ensures places { IfOk result (λ v. All (StandsWithin g.now) v.items) }
     ensures want { IfErr result IsWant }
     ensures kept { IsKept (D.facts disk.old) (D.facts disk.new) }
     ensures faults { IfErr result
@@ -74,8 +78,11 @@ fn journal_of(
     g: &Geometry,
     all: Vec<Placed<JEntry>>,
 ) -> Result<Journal, JournalError>
-    requires { All (EndsWithin g.now) all.items }
+    requires ends { All (EndsWithin g.now) all.items }
+    requires places { All (StandsWithin g.now) all.items }
     ensures fit { IfOk result (λ j. (j.all ≡ all.items) × IsFit g.now j.all j.entries) }
+    ensures counts { IfOk result (λ j. IsFit g.now j.all j.entries) }
+    ensures places { IfOk result (λ j. All (StandsWithin g.now) j.all) }
     ensures unfit { IfErr result (IsUnfit g.now all.items) }
 {
     let (order, newest) = list(alloc, &all)?;
@@ -97,6 +104,8 @@ pub fn read_journal<D: Disk>(
 ) -> Result<Journal, JournalError>
     requires { g.now.bucket * g.now.nbuckets ≤ (D.facts disk.old).sectors }
     ensures found { IfOk result (λ j. HoldsJournal g.now (D.facts disk.old) j) }
+    ensures counts { IfOk result (λ j. IsFit g.now j.all j.entries) }
+    ensures places { IfOk result (λ j. All (StandsWithin g.now) j.all) }
     ensures refused { IfErr result (IsCause g.now (D.facts disk.old)) }
     ensures kept { IsKept (D.facts disk.old) (D.facts disk.new) }
     ensures faults { IfErr result

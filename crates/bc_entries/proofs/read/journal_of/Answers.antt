@@ -48,7 +48,7 @@ has_room-requires-clause-within c =
     let all = c.args.all.items in
     let e = c.index-else-seq-ge-LAST_NUMBERS.result.now in
     let low = inside all c.deref.result.now c.in_ok-order.order.items c.in_ok-order.newest e c.deref.ensures.value c.in_ok-order.ensures.listed in
-    subst (λ (x : FoundEntry). EndsWithin g x) (sym c.index-else-seq-ge-LAST_NUMBERS.ensures) (All-get_or (EndsWithin g) all c.in_ok-order.newest e low c.requires)
+    subst (λ (x : FoundEntry). EndsWithin g x) (sym c.index-else-seq-ge-LAST_NUMBERS.ensures) (All-get_or (EndsWithin g) all c.in_ok-order.newest e low c.requires.ends)
 
 pub has_room-requires-clause-counts : goal.has_room-requires-clause-counts
 has_room-requires-clause-counts c =
@@ -102,3 +102,9 @@ returns-clause-fit c =
             c.deref-else-seq-ge-LAST_NUMBERS.ensures.value c.deref-else-seq-ge-LAST_NUMBERS-2.ensures.value is c.if-not-has_room.ensures;
       },
     )
+
+pub returns-clause-counts : goal.returns-clause-counts
+returns-clause-counts c = let h = returns-clause-fit c in h.1
+
+pub returns-clause-places : goal.returns-clause-places
+returns-clause-places c = c.requires.places
