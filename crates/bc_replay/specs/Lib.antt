@@ -12,3 +12,4 @@ pub mod Used
 pub mod Marks
 pub mod Judge
 pub mod Survey
+pub mod Parts

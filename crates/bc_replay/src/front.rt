@@ -2,6 +2,7 @@
 ghost use Rattle.std.specs.Prelude.{◌≡◌, ◌*◌, ◌≤◌, IfOk, IfErr, OnOk};
 ghost use Rattle.bc_disk.specs.Disk.{IsKept};
 ghost use Rattle.bc_replay.specs.Heads.{HasHeads};
+ghost use Rattle.bc_replay.specs.Parts.{AreHeads};
 ghost use Rattle.bc_replay.specs.Causes.{CountsFault, EndsAtSupers, IsOpenCause, IsReadOnce, OfHeld};
 
 use crate::error::OpenError;
@@ -37,6 +38,7 @@ pub fn read_heads<C: Disk, B: Disk>(
     ensures found { IfOk result (λ f. OfHeld
         (λ p. HasHeads p f.supers.backing f.supers.cache f.supers.geometry f.journal f.gens)
         (C.facts cache.old) (B.facts backing.old)) }
+    ensures parts { IfOk result (λ f. AreHeads f.supers.geometry f.journal f.gens) }
     ensures room { IfOk result (λ f. f.supers.geometry.bucket * f.supers.geometry.nbuckets
         ≤ (C.facts cache.new).sectors) }
     ensures refused { IfErr result (IsOpenCause (C.facts cache.old) (B.facts backing.old)) }

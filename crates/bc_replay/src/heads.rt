@@ -1,11 +1,12 @@
 //! What a pair holds before its index.
-ghost use Rattle.std.specs.Prelude.{◌≡◌, ◌*◌, ◌≤◌, IfOk, IfErr};
+ghost use Rattle.std.specs.Prelude.{◌≡◌, ◌*◌, ◌≤◌, length, IfOk, IfErr};
 ghost use Rattle.bc_disk.specs.Disk.{IsKept, IfTold};
 ghost use Rattle.bc_entries.specs.Reading.{HoldsJournal};
 ghost use Rattle.bc_prio.specs.Records.{ChainIn};
 ghost use Rattle.bc_replay.specs.Stages.{open_of};
 ghost use Rattle.bc_replay.specs.Behind.{open_chain, HasBehind, IsBehindCause, IsChainCause, IsTableCause};
 ghost use Rattle.bc_replay.specs.Causes.{DecidesNames, RisesWith};
+ghost use Rattle.bc_replay.specs.Parts.{AreHeads, IsOfEntries};
 
 use crate::error::OpenError;
 use crate::uuids::names_device;
@@ -51,6 +52,7 @@ pub fn journal_of<C: Disk>(
 ) -> Result<Journal, OpenError>
     requires { g.now.bucket * g.now.nbuckets ≤ (C.facts cache.old).sectors }
     ensures found { IfOk result (λ j. HoldsJournal g.now (C.facts cache.old) j) }
+    ensures part { IfOk result (IsOfEntries g.now) }
     ensures refused { IfErr result (IsBehindCause (C.facts cache.old) g.now uuid.now) }
     ensures kept { IsKept (C.facts cache.old) (C.facts cache.new) }
     ensures faults { RisesWith result (C.facts cache.old).faults (C.facts cache.new).faults }
@@ -71,6 +73,7 @@ pub fn gens_of<C: Disk>(
     requires { g.now.bucket * g.now.nbuckets ≤ (C.facts cache.old).sectors }
     ensures found { IfOk result
         (λ gens. IfTold (C.facts cache.old).holds (λ image. ChainIn g.now image first gens)) }
+    ensures records { IfOk result (λ gens. length gens.records ≡ g.now.nbuckets) }
     ensures refused { IfErr result (IsChainCause (C.facts cache.old) g.now first) }
     ensures kept { IsKept (C.facts cache.old) (C.facts cache.new) }
     ensures faults { RisesWith result (C.facts cache.old).faults (C.facts cache.new).faults }
@@ -117,6 +120,7 @@ pub fn read_behind<C: Disk>(
     requires { g.now.bucket * g.now.nbuckets ≤ (C.facts cache.old).sectors }
     ensures found { IfOk result (λ r. IfTold (C.facts cache.old).holds
         (λ image. HasBehind g.now image uuid.now r.0 r.1)) }
+    ensures parts { IfOk result (λ r. AreHeads g.now r.0 r.1) }
     ensures refused { IfErr result (IsBehindCause (C.facts cache.old) g.now uuid.now) }
     ensures kept { IsKept (C.facts cache.old) (C.facts cache.new) }
     ensures faults { RisesWith result (C.facts cache.old).faults (C.facts cache.new).faults }

@@ -1,11 +1,12 @@
 //! The whole of what a pair holds.
-ghost use Rattle.std.specs.Prelude.{◌≡◌, ◌*◌, ◌≤◌, true, List, IfOk, IfErr, OnOk, MatchOption};
+ghost use Rattle.std.specs.Prelude.{◌≡◌, ◌*◌, ◌≤◌, true, List, length, IfOk, IfErr, OnOk, MatchOption};
 ghost use Rattle.bc_disk.specs.Disk.{IsKept};
 ghost use Rattle.bc_key.specs.declared.key.Key.{Key};
 ghost use Rattle.bc_replay.specs.Causes.{CountsFault, EndsAtSupers, IsReadOnce, OfHeld};
 ghost use Rattle.bc_replay.specs.Index.{IsIndexed};
 ghost use Rattle.bc_replay.specs.Judge.{IsKnown, IsJudged, IsJudgedCause, held_of};
 ghost use Rattle.bc_replay.specs.Limits.{rule_in};
+ghost use Rattle.bc_replay.specs.Parts.{AreParts};
 ghost use Rattle.bc_replay.specs.Refused.{TellTrue, MayPoint, IsFirstPointer};
 ghost use Rattle.bc_replay.specs.Survey.{HasSurvey, IsSurveyCause};
 
@@ -49,6 +50,8 @@ fn judge(
         → IsKnown (rule_in index.now.limits) gens.now uuid_bucket.now seen.now keys
         index.now.keys.keys index.now.word → IsJudged (rule_in index.now.limits)
         (held_of (rule_in index.now.limits) gens.now uuid_bucket.now seen.now keys) uses.items) }
+    ensures each { IfOk result
+        (λ uses. length uses.items ≡ index.now.limits.geometry.nbuckets) }
     ensures refused { IfErr result (IsJudgedCause (rule_in index.now.limits) gens.now
         uuid_bucket.now seen.now index.now.keys.keys index.now.word) }
 {
@@ -88,6 +91,8 @@ pub fn survey<C: Disk, B: Disk>(
     ensures found { IfOk result (λ s. OfHeld (λ p. HasSurvey p s.supers.backing s.supers.cache
         s.supers.geometry s.journal s.gens s.seen.items s.index.keys s.uses.items)
         (C.facts cache.old) (B.facts backing.old)) }
+    ensures parts { IfOk result
+        (λ s. AreParts s.supers.geometry s.journal s.gens s.uses.items) }
     ensures room { IfOk result (λ s. s.supers.geometry.bucket * s.supers.geometry.nbuckets
         ≤ (C.facts cache.new).sectors) }
     ensures refused { IfErr result (IsSurveyCause (C.facts cache.old) (B.facts backing.old)) }

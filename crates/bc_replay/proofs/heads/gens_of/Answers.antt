@@ -21,3 +21,6 @@ returns-in-Err-clause-faults g c =
     let old = g.C.Disk.facts c.args.cache.now in
     let new = g.C.Disk.facts c.read_chain.new.disk in
     subst (λ (e : OpenError). RisesWith {T = Gens} (Err e) old.faults new.faults) (sym c.open_chain.ensures) (chain_rises Gens c.args.g.now old new c.args.first c.in-Err.why c.in-Err.ensures.refused)
+
+pub returns-in-Ok-clause-records : goal.returns-in-Ok-clause-records
+returns-in-Ok-clause-records g c = let h = c.in-Ok.ensures.ok in h.records

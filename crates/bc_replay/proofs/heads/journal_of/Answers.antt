@@ -17,3 +17,6 @@ returns-in-Err-clause-faults g c =
     let old = (g.C.Disk.facts c.args.cache.now).faults in
     let new = (g.C.Disk.facts c.read_journal.new.disk).faults in
     subst (λ (e : OpenError). RisesWith {T = Journal} (Err e) old new) (sym c.open_of.ensures) (journal_rises Journal c.in-Err.why old new c.in-Err.ensures.faults)
+
+pub returns-in-Ok-clause-part : goal.returns-in-Ok-clause-part
+returns-in-Ok-clause-part g c = record { counts = c.in-Ok.ensures.counts; places = c.in-Ok.ensures.places }

@@ -39,3 +39,22 @@ returns-clause-found g c =
     let names = rw c.if-not-branch.false at c.in_ok-named.ensures.names in
     behind_so c.args.g.now d c.args.uuid.now j newest at c.in_ok-journal.ensures.found mid last c.in_ok-gens.gens c.in_ok-journal.ensures.kept
     (kept_both d mid last c.in_ok-journal.ensures.kept c.in_ok-gens.ensures.kept) c.in_ok-gens.ensures.found names
+
+pub returns-clause-parts : goal.returns-clause-parts
+returns-clause-parts g c = record { journal = c.in_ok-journal.ensures.part; records = c.in_ok-gens.ensures.records }
+
+pub returns-then-not-branch-clause-kept : goal.returns-then-not-branch-clause-kept
+returns-then-not-branch-clause-kept g c =
+    let d = g.C.Disk.facts c.args.cache.now in
+    let mid = g.C.Disk.facts c.journal_of.new.cache in
+    let last = g.C.Disk.facts c.gens_of.new.cache in
+    let all = g.C.Disk.facts c.named.new.cache in
+    kept_both d last all (kept_both d mid last c.in_ok-journal.ensures.kept c.in_ok-gens.ensures.kept) c.in_ok-named.ensures.kept
+
+pub returns-clause-kept : goal.returns-clause-kept
+returns-clause-kept g c =
+    let d = g.C.Disk.facts c.args.cache.now in
+    let mid = g.C.Disk.facts c.journal_of.new.cache in
+    let last = g.C.Disk.facts c.gens_of.new.cache in
+    let all = g.C.Disk.facts c.named.new.cache in
+    kept_both d last all (kept_both d mid last c.in_ok-journal.ensures.kept c.in_ok-gens.ensures.kept) c.in_ok-named.ensures.kept

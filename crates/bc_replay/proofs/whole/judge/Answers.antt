@@ -47,3 +47,6 @@ returns-clause-judged c = λ keys known.
       spare = spare_count r c.args.gens.now c.args.uuid_bucket.now c.args.seen.now keys c.args.index.now.keys.keys c.args.index.now.word known may.data_keys table.uses.items table.mixed c.in_ok-table.ensures r.geometry.nbuckets found (omega arith) counts;
       enough = subst (λ n. n ≤ found) c.sets_in_chain.ensures enough;
     }
+
+pub returns-clause-each : goal.returns-clause-each
+returns-clause-each c = let h = c.in_ok-table.ensures in h.each

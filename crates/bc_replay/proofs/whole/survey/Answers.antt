@@ -1,6 +1,8 @@
 use Rattle.std.proofs.Common.{◌≡◌, ◌-◌, ◌∙◌, List, Some, subst, ap}
 use Rattle.std.specs.Prelude.{slice_get}
+use Rattle.bc_disk.specs.declared.geometry.Geometry.{Geometry}
 use Rattle.bc_key.specs.declared.key.Key.{Key}
+use Rattle.bc_prio.proofs.Chains.{kept_both}
 use Rattle.bc_super.specs.Super.{data_sectors}
 use Rattle.bc_walk.specs.Rule.{Rule}
 use Rattle.bc_walk.specs.declared.visit.Visit.{Visit}
@@ -90,3 +92,21 @@ returns-in_err-uses-clause-supers g c =
     let e = c.in_err-uses.field-0.0 in
     passed_on c.from_residual-in_err-uses.result e (EndsAtSupers cache backing cache.calls new) c.from_residual-in_err-uses.ensures.1
     (judged_end cache backing cache.calls new (rule_in index.limits) c.in_ok-front.front.gens c.entry.result.now.item.uuid_bucket c.deref.result.now index.keys.keys index.word e c.in_err-uses.ensures.refused)
+
+pub returns-clause-parts : goal.returns-clause-parts
+returns-clause-parts g c =
+    let geo = c.in_ok-front.front.supers.geometry in
+    let same : c.in_ok-seen.index.limits.geometry ≡ geo = ap (λ (r : Rule). r.geometry) c.in_ok-seen.ensures.limits in
+    record { heads = c.in_ok-front.ensures.parts; uses = c.in_ok-uses.ensures.each ∙ ap (λ (x : Geometry). x.nbuckets) same }
+
+pub returns-in_err-uses-clause-cache_kept : goal.returns-in_err-uses-clause-cache_kept
+returns-in_err-uses-clause-cache_kept g c =
+    let old = g.C.Disk.facts c.args.cache.now in
+    let mid = g.C.Disk.facts c.read_heads.new.cache in
+    kept_both old mid (g.C.Disk.facts c.read_index.new.cache) c.in_ok-front.ensures.cache_kept c.in_ok-seen.ensures.kept
+
+pub returns-clause-cache_kept : goal.returns-clause-cache_kept
+returns-clause-cache_kept g c =
+    let old = g.C.Disk.facts c.args.cache.now in
+    let mid = g.C.Disk.facts c.read_heads.new.cache in
+    kept_both old mid (g.C.Disk.facts c.read_index.new.cache) c.in_ok-front.ensures.cache_kept c.in_ok-seen.ensures.kept
