@@ -14,7 +14,7 @@ use Rattle.bc_image.proofs.Unique.{one_view}
 use Rattle.bc_key.specs.declared.key.Key.{Key}
 use Rattle.bc_super.specs.declared.backing.BackingSuper.{BackingSuper}
 use Rattle.bc_super.specs.declared.cache.CacheSuper.{CacheSuper}
-use Rattle.bc_check.specs.Counts.{IsCount}
+use Rattle.bc_counts.specs.Counts.{IsCount}
 use Rattle.bc_check.specs.Totals.{IsLiveAs}
 use Rattle.bc_check.specs.Verdict.{IsVerdict}
 use Rattle.bc_check.specs.declared.verdict.Verdict.TheVariants as verdicts

@@ -31,7 +31,9 @@ use Rattle.bc_replay.proofs.Names.{pointer_some}
 use Rattle.bc_replay.proofs.Judge.{pointer_is}
 use Rattle.bc_replay.proofs.Used.{live_some, live_part, place_part, row_of, row_at}
 use Rattle.bc_check.specs.declared.lines.BucketLine.{BucketLine}
-use Rattle.bc_check.specs.Counts.{CountsBelow, IsCount, IsLiveIn, IsDirtyIn, IsLine, AreLines, HasRow, Asks, ListsLines, IsLineAt}
+use Rattle.bc_counts.specs.Counts.{IsCount, IsLiveIn, IsDirtyIn, HasRow, Asks}
+use Rattle.bc_counts.proofs.Rows.{live_count, dirty_count}
+use Rattle.bc_check.specs.Counts.{IsLine, AreLines, ListsLines, IsLineAt}
 
 -- ---- one line more
 
@@ -42,77 +44,9 @@ pairs_with (x ∷ xs) y pairs below =
     (All-append (λ z. x.bucket < z.bucket) xs (y ∷ []) (λ k d low. pairs 0 (suc k) d (omega arith) (omega (arith, low))) (All-cons (λ z. x.bucket < z.bucket) y [] (All-head (λ z. z.bucket < y.bucket) x xs below) (All-nil (λ z. x.bucket < z.bucket))))
     (pairs_with xs y (λ i j d before inside. pairs (suc i) (suc j) d (omega (arith, before)) (omega (arith, inside))) (All-tail (λ z. z.bucket < y.bucket) x xs below))
 
--- ---- counts of what is the same
-
-counts_same : (P Q : ℕ → Type 0) (n count : ℕ) → ((s : ℕ) → P s → Q s) → ((s : ℕ) → Q s → P s) → CountsBelow P n count → CountsBelow Q n count
-counts_same P Q zero count to back counts = counts
-counts_same P Q (suc n) count to back (less, rest, inl x) = (less, counts_same P Q n less to back rest, inl (to n x.0, x.1))
-counts_same P Q (suc n) count to back (less, rest, inr x) = (less, counts_same P Q n less to back rest, inr ((λ q. x.0 (back n q)), x.1))
-
-pub count_same : (P Q : ℕ → Type 0) (count : ℕ) → ((s : ℕ) → P s → Q s) → ((s : ℕ) → Q s → P s) → IsCount P count → IsCount Q count
-count_same P Q count to back c = record { bound = c.bound; below = counts_same P Q c.bound count to back c.below; behind = λ n high q. c.behind n high (back n q) }
-
 -- ---- rows and keys
 
 module _ (g : Geometry) (r : Reading) (size : ℕ) (index : List Key) (last : AreLastOfAll (keys_of r) index) (good : All (IsDataKey g size) (keys_of r)) where
-  lies_of : (sector : ℕ) (whole : Key) → last_key (keys_of r) sector ≡ Some whole → (i : ℕ) → i < whole.count → LiesInData g (ptr_at whole i) whole.size
-  lies_of sector whole is = (All-contains (IsDataKey g size) (keys_of r) whole good (last_key_found (keys_of r) sector whole is).0).ptrs
-
-  record Both (asks : Key → Type 0) (bucket sector : ℕ) : Type 0 where
-    key : Key
-    lies : LiesLive g r sector key bucket
-    asked : asks key
-
-  same_asks : (dirty : Bool) (a b : Key) → a.dirty ≡ b.dirty → Asks dirty a → Asks dirty b
-  same_asks true a b same asked = sym same ∙ asked
-  same_asks false a b same asked = tt
-
-  row_key : (dirty : Bool) (bucket sector : ℕ) → HasRow g r.gens index (Asks dirty) bucket sector → Both (Asks dirty) bucket sector
-  row_key dirty bucket sector h =
-      let found = last_key_found index sector h.row h.last in
-      let o = row_of g r.gens (keys_of r) index h.row last found.0 in
-      let lies = lies_of (start_of h.row) o.whole o.look in
-      let live : is_live g r.gens o.whole ≡ true = live_part g r.gens o.whole h.row o.rest.cut o.some o.extent lies ∙ h.live in
-      let some = live_some g r.gens o.whole live in
-      let p = pointer_is h.row h.points.0 h.points.1 in
-      record {
-        key = o.whole;
-        lies = record {
-          last = o.rest.inside sector found.1;
-          live = live;
-          place = place_part g r.gens o.whole h.row o.rest.cut o.some o.extent lies sector some found.1 ∙ ap (λ (q : Ptr). bucket_at g q.offset) p.1 ∙ h.points.2;
-        };
-        asked = same_asks dirty h.row o.whole o.rest.cut.kind.dirty h.asked;
-      }
-
-  key_row : (dirty : Bool) (bucket sector : ℕ) → Both (Asks dirty) bucket sector → HasRow g r.gens index (Asks dirty) bucket sector
-  key_row dirty bucket sector b =
-      let row = row_at g r.gens (keys_of r) index sector b.key last b.lies.last in
-      let range = All-contains (λ (k : Key). (k.size ≤ k.end) × (0 < k.size)) index row.row last.order.0 row.has in
-      let lies = lies_of sector b.key b.lies.last in
-      let some = live_some g r.gens b.key b.lies.live in
-      let live : is_live g r.gens row.row ≡ true = sym (live_part g r.gens b.key row.row row.rest.cut range.1 range.0 lies) ∙ b.lies.live in
-      record {
-        row = row.row;
-        last = at row.row row.has row.covers;
-        live = live;
-        points = (ptr_at row.row 0, pointer_some row.row (live_some g r.gens row.row live), sym (place_part g r.gens b.key row.row row.rest.cut range.1 range.0 lies sector some row.covers) ∙ b.lies.place);
-        asked = same_asks dirty b.key row.row (sym row.rest.cut.kind.dirty) b.asked;
-      }
-    where
-      at : (row : Key) → Contains index row → Covers row sector → last_key index sector ≡ Some row
-      at row has covers = last_key_at index sector row last.order has covers
-
-  pub live_count : (bucket count : ℕ) → IsCount (HasRow g r.gens index (Asks false) bucket) count → IsCount (IsLiveIn g r bucket) count
-  live_count bucket count c =
-      count_same (HasRow g r.gens index (Asks false) bucket) (IsLiveIn g r bucket) count (λ s h. (let b = row_key false bucket s h in (b.key, b.lies)))
-      (λ s (key, lies). key_row false bucket s (record { key = key; lies = lies; asked = tt })) c
-
-  pub dirty_count : (bucket count : ℕ) → IsCount (HasRow g r.gens index (Asks true) bucket) count → IsCount (IsDirtyIn g r bucket) count
-  dirty_count bucket count c =
-      count_same (HasRow g r.gens index (Asks true) bucket) (IsDirtyIn g r bucket) count (λ s h. (let b = row_key true bucket s h in (b.key, b.lies, b.asked)))
-      (λ s (key, lies, dirty). key_row true bucket s (record { key = key; lies = lies; asked = dirty })) c
-
   -- ---- the lines
 
   module _ (table : List Use) (tells : TellsUses g r table) (live dirty : List ℕ)
@@ -123,8 +57,8 @@ module _ (g : Geometry) (r : Reading) (size : ℕ) (index : List Key) (last : Ar
       used = λ none. some (sym its ∙ none);
       kind = subst (λ n. IsUsedAs g r n line.kind) (sym bucket) (subst (λ (u : Use). IsUsedAs g r b u) (sym its) (tells.told b low));
       generation = ap (generation_of r.gens) bucket ∙ sym generation;
-      live = subst (λ n. IsCount (IsLiveIn g r n) line.live) (sym bucket) (subst (λ n. IsCount (IsLiveIn g r b) n) (sym lives) (live_count b (get_or live b 0) (live_is b low)));
-      dirty = subst (λ n. IsCount (IsDirtyIn g r n) line.dirty) (sym bucket) (subst (λ n. IsCount (IsDirtyIn g r b) n) (sym dirties) (dirty_count b (get_or dirty b 0) (dirty_is b low)));
+      live = subst (λ n. IsCount (IsLiveIn g r n) line.live) (sym bucket) (subst (λ n. IsCount (IsLiveIn g r b) n) (sym lives) (live_count g r size index last good b (get_or live b 0) (live_is b low)));
+      dirty = subst (λ n. IsCount (IsDirtyIn g r n) line.dirty) (sym bucket) (subst (λ n. IsCount (IsDirtyIn g r b) n) (sym dirties) (dirty_count g r size index last good b (get_or dirty b 0) (dirty_is b low)));
     }
 
     -- the lines of the first n buckets

@@ -15,7 +15,8 @@ use Rattle.bc_super.specs.declared.cache.CacheSuper.{CacheSuper}
 use Rattle.bc_walk.specs.declared.visit.Visit.{Visit}
 use Rattle.bc_check.specs.Apart.{TellsRows}
 use Rattle.bc_check.specs.Calls.{BothKept}
-use Rattle.bc_check.specs.Counts.{AreLines, IsCount}
+use Rattle.bc_counts.specs.Counts.{IsCount}
+use Rattle.bc_check.specs.Counts.{AreLines}
 use Rattle.bc_check.specs.Strays.{TellsStray}
 use Rattle.bc_check.specs.Totals.{IsDirtyAt, IsCleanAt}
 use Rattle.bc_check.specs.Verdict.{IsVerdictOf, IsOpened, IsVerdict, ListsIf}

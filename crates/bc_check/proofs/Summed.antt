@@ -23,10 +23,10 @@ use Rattle.bc_super.specs.Super.{data_sectors}
 use Rattle.bc_super.specs.declared.backing.BackingSuper.{BackingSuper}
 use Rattle.bc_super.specs.declared.cache.CacheSuper.{CacheSuper}
 use Rattle.bc_walk.specs.declared.visit.Visit.{Visit}
-use Rattle.bc_check.specs.Counts.{CountsBelow, IsCount}
+use Rattle.bc_counts.specs.Counts.{CountsBelow, IsCount}
 use Rattle.bc_check.specs.Totals.{IsLiveAs, IsKindRow, HasKindRow, CountsAs}
-use Rattle.bc_check.proofs.Counting.{Between, counts_most, counts_none, counts_all, none_behind, starts, range, gap, here}
-use Rattle.bc_check.proofs.Listed.{count_same}
+use Rattle.bc_counts.proofs.Counting.{Between, counts_most, counts_none, counts_all, none_behind, starts, range, gap, here}
+use Rattle.bc_counts.proofs.Rows.{count_same}
 
 module _ (rows : List Key) (order : IsInOrder rows) (i end : ℕ) (row : Key) (low : i < length rows) (is : row ≡ get_or rows i row) (between : Between rows i end) (g : Geometry) (gens : Gens) (dirty : Bool) where
   abbrev P : ℕ → Type 0

@@ -16,13 +16,13 @@ use Rattle.bc_super.specs.Division.{IsPassThrough}
 use Rattle.bc_super.specs.declared.backing.BackingSuper.{BackingSuper}
 use Rattle.bc_super.specs.declared.cache.CacheSuper.{CacheSuper}
 use Rattle.bc_check.specs.Apart.{Disagrees}
-use Rattle.bc_check.specs.Counts.{CountsBelow, IsCount}
+use Rattle.bc_counts.specs.Counts.{CountsBelow, IsCount}
 use Rattle.bc_check.specs.Totals.{IsLiveAs, IsDirtyAt, IsCleanAt}
 use Rattle.bc_check.specs.Verdict.{IsLeast, IsVerdictOf, IsOpened, IsVerdict, IsRefusal, NoStray, NoneAged, HasStrayIn}
 use Rattle.bc_check.specs.Window.{IsAged, IsLeastAged}
 use Rattle.bc_check.specs.declared.verdict.Verdict.{Verdict}
 use Rattle.bc_check.specs.declared.verdict.Verdict.TheVariants as verdicts
-use Rattle.bc_check.proofs.Counting.{counts_none}
+use Rattle.bc_counts.proofs.Counting.{counts_none}
 
 -- ---- the least one, and counts
 

@@ -11,7 +11,8 @@ use Rattle.bc_replay.specs.Survey.{IsFirst, IsOpenable}
 use Rattle.bc_replay.specs.declared.error.OpenError.{OpenError}
 use Rattle.bc_replay.specs.declared.error.OpenError.TheVariants as errors
 use Rattle.bc_check.specs.Apart.{Disagrees}
-use Rattle.bc_check.specs.Counts.{AreLines, IsCount}
+use Rattle.bc_counts.specs.Counts.{IsCount}
+use Rattle.bc_check.specs.Counts.{AreLines}
 use Rattle.bc_check.specs.Strays.{IsStrayIn}
 use Rattle.bc_check.specs.Totals.{IsDirtyAt, IsCleanAt}
 use Rattle.bc_check.specs.Window.{IsLeastAged}

@@ -1,6 +1,6 @@
 //! How many sectors have data in each bucket.
 ghost use Rattle.std.specs.Prelude.{◌≡◌, ◌<◌, ◌+◌, ◌^◌, ℕ, length, slice_index, IfOk};
-ghost use Rattle.bc_check.specs.Counts.{IsCount, HasRow, Asks, IsAdded};
+ghost use Rattle.bc_counts.specs.Counts.{IsCount, HasRow, Asks, IsAdded};
 
 use crate::rows::add_row;
 use bc_disk::gens::Gens;

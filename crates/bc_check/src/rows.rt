@@ -1,6 +1,7 @@
 //! The rows of an index.
 ghost use Rattle.std.specs.Prelude.{◌≡◌, ◌<◌, ◌≤◌, ◌+◌, ◌^◌, ℕ, length, slice_index, MatchOption};
-ghost use Rattle.bc_check.specs.Counts.{IsLiveRow, IsRowAdded};
+ghost use Rattle.bc_counts.specs.Counts.{IsLiveRow};
+ghost use Rattle.bc_check.specs.Counts.{IsRowAdded};
 
 use bc_disk::gens::Gens;
 use bc_disk::geometry::Geometry;

@@ -2,7 +2,7 @@
 ghost use Rattle.std.specs.Prelude.{◌<◌, ◌≤◌, ◌+◌, ◌^◌};
 ghost use Rattle.bc_image.specs.Pair.{Pair};
 ghost use Rattle.bc_replay.specs.Survey.{HasSurvey};
-ghost use Rattle.bc_check.specs.Counts.{IsCount};
+ghost use Rattle.bc_counts.specs.Counts.{IsCount};
 ghost use Rattle.bc_check.specs.Totals.{CountsAs, HasKindRow, IsCleanAt, IsDirtyAt};
 
 use bc_disk::gens::Gens;

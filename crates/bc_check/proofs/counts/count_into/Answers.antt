@@ -1,7 +1,7 @@
 use Rattle.std.proofs.Common.{◌<◌, ◌≤◌, length, get_or, subst, arith}
 use Rattle.bc_node.proofs.KeyLists.{key_here}
-use Rattle.bc_check.specs.Counts.{Asks}
-use Rattle.bc_check.proofs.Counting.{between_first, between_next, counts_next, room_for, counted}
+use Rattle.bc_counts.specs.Counts.{Asks}
+use Rattle.bc_counts.proofs.Counting.{between_first, between_next, counts_next, room_for, counted}
 use Rattle.bc_check.proofs.counts.count_into.Goals as goal
 
 pub loop-i-init : goal.loop-i-init

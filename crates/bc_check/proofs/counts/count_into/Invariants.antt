@@ -1,6 +1,6 @@
 use Rattle.std.proofs.Common.{ℕ, ◌<◌, length, get_or}
-use Rattle.bc_check.specs.Counts.{CountsBelow, HasRow, Asks}
-use Rattle.bc_check.proofs.Counting.{Between}
+use Rattle.bc_counts.specs.Counts.{CountsBelow, HasRow, Asks}
+use Rattle.bc_counts.proofs.Counting.{Between}
 use Rattle.bc_check.proofs.counts.count_into.Given as goal
 
 abbrev pub invariant-loop-i : goal.invariant-loop-i

@@ -52,3 +52,31 @@ returns-in_err-s-clause-supers g c =
     let why = c.in_err-s.field-0.0 in
     passed_on c.from_residual-in_err-s.result (check_of why) (EndsAtSuper cache cache' backing backing') c.from_residual-in_err-s.ensures.1
     (surveyed_end cache cache' backing mid backing' c.in_ok-serves_alone.ensures.kept c.in_ok-serves_alone.ensures.called c.in_err-s.ensures.backing_called why c.in_err-s.ensures.supers)
+
+pub returns-in_err-lines-clause-kept : goal.returns-in_err-lines-clause-kept
+returns-in_err-lines-clause-kept g c =
+    let cache = g.C.Disk.facts c.args.cache.now in
+    let backing = g.B.Disk.facts c.args.backing.now in
+    let mid = g.B.Disk.facts c.serves_alone.new.backing in
+    let last = g.C.Disk.facts c.survey.new.cache in
+    let left = g.B.Disk.facts c.survey.new.backing in
+    let read = c.in_ok-s.ensures in
+    let then = c.in_ok-verdict.ensures.kept in
+    record {
+      cache_kept = kept_both cache last (g.C.Disk.facts c.verdict_of.new.cache) read.cache_kept then.cache_kept;
+      backing_kept = kept_both backing left (g.B.Disk.facts c.verdict_of.new.backing) (kept_both backing mid left c.in_ok-serves_alone.ensures.kept read.backing_kept) then.backing_kept;
+    }
+
+pub returns-clause-kept : goal.returns-clause-kept
+returns-clause-kept g c =
+    let cache = g.C.Disk.facts c.args.cache.now in
+    let backing = g.B.Disk.facts c.args.backing.now in
+    let mid = g.B.Disk.facts c.serves_alone.new.backing in
+    let last = g.C.Disk.facts c.survey.new.cache in
+    let left = g.B.Disk.facts c.survey.new.backing in
+    let read = c.in_ok-s.ensures in
+    let then = c.in_ok-verdict.ensures.kept in
+    record {
+      cache_kept = kept_both cache last (g.C.Disk.facts c.verdict_of.new.cache) read.cache_kept then.cache_kept;
+      backing_kept = kept_both backing left (g.B.Disk.facts c.verdict_of.new.backing) (kept_both backing mid left c.in_ok-serves_alone.ensures.kept read.backing_kept) then.backing_kept;
+    }

@@ -1,8 +1,8 @@
 use Rattle.std.proofs.Common.{inl, inr, ◌+◌, ◌<◌, length, get_or, set, refl, sym, subst, ap, ◌∙◌}
 use Rattle.std.proofs.lemmas.Bool.{cases_eq}
 use Rattle.std.proofs.lemmas.List.{get_or-set_same, get_or-set_other}
-use Rattle.bc_check.specs.Counts.{IsLiveRow}
-use Rattle.bc_check.proofs.Counting.{one_place}
+use Rattle.bc_counts.specs.Counts.{IsLiveRow}
+use Rattle.bc_counts.proofs.Counting.{one_place}
 use Rattle.bc_check.proofs.rows.add_row.Goals as goal
 
 pub returns-in_default : goal.returns-in_default

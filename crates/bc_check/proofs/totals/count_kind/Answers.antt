@@ -1,6 +1,6 @@
 use Rattle.std.proofs.Common.{◌<◌, ◌≤◌, length, refl, subst, arith}
 use Rattle.bc_node.proofs.KeyLists.{key_here}
-use Rattle.bc_check.proofs.Counting.{between_first, between_next}
+use Rattle.bc_counts.proofs.Counting.{between_first, between_next}
 use Rattle.bc_check.proofs.Summed.{kinds_next, room_for_kind, kinds_counted}
 use Rattle.bc_check.proofs.totals.count_kind.Goals as goal
 

@@ -1,7 +1,7 @@
 use Rattle.std.proofs.Common.{ℕ}
-use Rattle.bc_check.specs.Counts.{CountsBelow}
+use Rattle.bc_counts.specs.Counts.{CountsBelow}
 use Rattle.bc_check.specs.Totals.{HasKindRow}
-use Rattle.bc_check.proofs.Counting.{Between}
+use Rattle.bc_counts.proofs.Counting.{Between}
 use Rattle.bc_check.proofs.totals.count_kind.Given as goal
 
 abbrev pub invariant-loop-i : goal.invariant-loop-i

@@ -14,7 +14,7 @@ use Rattle.bc_key.specs.Key.{start_of, Covers}
 use Rattle.bc_key.specs.declared.key.Key.{Key}
 use Rattle.bc_key.specs.declared.ptr.Ptr.{Ptr}
 use Rattle.bc_record.specs.Places.{bucket_at}
-use Rattle.bc_check.specs.Counts.{CountsBelow, IsCount, HasRow, IsLiveRow, IsAdded}
+use Rattle.bc_counts.specs.Counts.{CountsBelow, IsCount, HasRow, IsLiveRow, IsAdded}
 
 -- ---- counts
 
