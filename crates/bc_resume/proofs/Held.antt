@@ -1,35 +1,41 @@
--- What the entries of a device's journal are like.
-use Rattle.std.proofs.Common.{◌≡◌, ℕ, ◌+◌, ◌-◌, ◌*◌, ◌/◌, ◌%◌, ◌<◌, ◌≤◌, List, [], ◌∷◌, ◌++◌, length, refl, sym, ap, ◌∙◌, subst, arith, length-append}
+-- What the entries that were read are like.
+use Rattle.std.proofs.Common.{◌≡◌, ℕ, suc, ◌+◌, ◌-◌, ◌*◌, ◌/◌, ◌%◌, ◌^◌, ◌<◌, ◌≤◌, List, [], ◌∷◌, ◌++◌, length, Some, refl, sym, ap, ◌∙◌, subst, arith, length-append}
 use Rattle.std.specs.Prelude.{All, Contains}
 use Rattle.std.proofs.Math.Nat.{mul-add, mul-mod_right}
 use Rattle.std.proofs.lemmas.Nat.{div-mul-add}
-use Rattle.std.proofs.lemmas.List.Elements.{All-weaker, All-contains}
-use Rattle.bc_model.specs.Sector.{Image}
+use Rattle.std.proofs.lemmas.List.Elements.{All-nil, All-cons, All-weaker, All-contains, Contains-push}
 use Rattle.bc_disk.specs.declared.geometry.Geometry.{Geometry}
 use Rattle.bc_record.specs.Places.{end_of}
-use Rattle.bc_record.specs.Sectors.{in_blocks}
-use Rattle.bc_record.proofs.Blocks.{block_small, block_some, blocks_hold, blocks_within}
+use Rattle.bc_record.proofs.Blocks.{block_some, blocks_hold}
 use Rattle.bc_record.proofs.Found.{takes_some}
-use Rattle.bc_jset.specs.Entries.{FoundEntry, StandsInJournal, bucket_start, bucket_end}
+use Rattle.bc_jset.specs.Entries.{FoundEntry, AreNumbered, bucket_start, bucket_end, first_with}
 use Rattle.bc_jset.specs.Records.{entry_kind, entry_sectors}
 use Rattle.bc_jset.specs.Ring.{IsNextPlace, bucket_of}
 use Rattle.bc_jset.specs.EntryBytes.{bytes_of}
 use Rattle.bc_jset.proofs.Records.{entry_codec}
-use Rattle.bc_jset.proofs.Entries.{newest_is_last, stand_in_journal}
-use Rattle.bc_entries.specs.Journal.{Journal, HasJournal}
-use Rattle.bc_entries.specs.Reading.{EndsWithin}
+use Rattle.bc_jset.proofs.Entries.{found_has}
+use Rattle.bc_entries.specs.Lists.{IsFit}
+use Rattle.bc_entries.specs.Reading.{EndsWithin, StandsWithin}
 use Rattle.bc_entries.proofs.Held.{bucket_within}
 use Rattle.bc_entries.proofs.Rooms.{few_sectors}
 use Rattle.bc_resume.specs.Behind.{LiesInRing}
 use Rattle.bc_resume.specs.Numbers.{AreNewest}
 use Rattle.bc_resume.proofs.Greatest.{numbers_below}
 
-ends_in : (g : Geometry) (image : Image) (e : FoundEntry) → StandsInJournal g image e → EndsWithin g e
-ends_in g image e s = let room = bucket_within g s.0 s.2 in let fits = s.5 in omega (arith, room, fits)
+-- what holds of all entries that are found holds of those that count
+all_numbered : (P : FoundEntry → Type 0) (all : List FoundEntry) (low next : ℕ) (es : List FoundEntry) → All P all → AreNumbered all low es next → All P es
+all_numbered P all low next [] each p = All-nil P
+all_numbered P all low next (e ∷ es) each p = All-cons P e es (found_has P low all e each p.0) (all_numbered P all (suc low) next es each p.1)
 
--- each entry that counts ends within the device
-pub ends_within : (g : Geometry) (image : Image) (j : Journal) → HasJournal g image j → All (EndsWithin g) j.entries
-ends_within g image j has = All-weaker (StandsInJournal g image) (EndsWithin g) (ends_in g image) j.entries (stand_in_journal g image j.entries has.entries)
+pub all_counted : (P : FoundEntry → Type 0) (g : Geometry) (all es : List FoundEntry) → IsFit g all es → All P all → All P es
+all_counted P g all es f each = all_numbered P all f.newest.item.last_seq (suc f.newest.item.seq) es each f.listed.numbered
+
+ends_in : (g : Geometry) (e : FoundEntry) → StandsWithin g e → EndsWithin g e
+ends_in g e s = let room = bucket_within g s.0 s.2 in let fits = s.4 in omega (arith, room, fits)
+
+-- each entry ends within the device
+pub ends_within : (g : Geometry) (es : List FoundEntry) → All (StandsWithin g) es → All (EndsWithin g) es
+ends_within g es all = All-weaker (StandsWithin g) (EndsWithin g) (ends_in g) es all
 
 -- two ends of a list are one entry
 one_end : (xs ys : List FoundEntry) (a b : FoundEntry) → xs ++ a ∷ [] ≡ ys ++ b ∷ [] → a ≡ b
@@ -43,27 +49,41 @@ one_end (x ∷ xs) (y ∷ ys) a b same = one_end xs ys a b (tail_same x y (xs ++
     tail_same : (x y : FoundEntry) (xs ys : List FoundEntry) → x ∷ xs ≡ y ∷ ys → xs ≡ ys
     tail_same x y xs ys same = cc
 
--- the newest entry is the last one
-pub newest_of : (g : Geometry) (image : Image) (j : Journal) (has : HasJournal g image j) (older : List FoundEntry) (newest : FoundEntry) → j.entries ≡ older ++ newest ∷ [] → has.entries.newest ≡ newest
-newest_of g image j has older newest parts =
-    let last = newest_is_last g image j.entries has.entries in
-    one_end last.0 older has.entries.newest newest (sym last.1 ∙ parts)
+numbered_length : (all : List FoundEntry) (low next : ℕ) (es : List FoundEntry) → AreNumbered all low es next → low + length es ≡ next
+numbered_length all low next [] p = omega (arith, p)
+numbered_length all low next (e ∷ es) p = omega (arith, numbered_length all (suc low) next es p.1)
 
-pub not_empty : (g : Geometry) (image : Image) (j : Journal) → HasJournal g image j → j.entries ≡ [] → ⊥
-not_empty g image j has none =
-    let last = newest_is_last g image j.entries has.entries in
-    let many = ap length last.1 in
-    let few = ap length none in
-    absurd (let long = length-append last.0 (has.entries.newest ∷ []) in omega (arith, many, few, long))
+some_same : (a b : FoundEntry) → Some a ≡ Some b → a ≡ b
+some_same a b e = cc
 
--- no number of a bucket is above the newest one's
-pub below_newest : (g : Geometry) (image : Image) (j : Journal) (has : HasJournal g image j) (newest : FoundEntry) (numbers : List ℕ) → has.entries.newest ≡ newest → AreNewest g j.all numbers → All (λ n. n < newest.item.seq + 1) numbers
-below_newest g image j has newest numbers is are =
-    subst (λ (e : FoundEntry). All (λ n. n < e.item.seq + 1) numbers) is
-    (numbers_below g has.entries.newest.item.seq j.all numbers are
-    (subst (λ (xs : List FoundEntry). All (λ (e : FoundEntry). e.item.seq ≤ has.entries.newest.item.seq) xs) has.all has.entries.is_newest.greatest))
+last_numbered : (all : List FoundEntry) (low high : ℕ) (newest : FoundEntry) (es : List FoundEntry) → AreNumbered all low es (suc high) → low ≤ high → first_with high all ≡ Some newest
+    → (older : List FoundEntry) × (es ≡ older ++ newest ∷ [])
+last_numbered all low high newest [] p some counts = absurd (omega (arith, p))
+last_numbered all low high newest (e ∷ []) p some counts =
+    let here : high ≡ low = omega (arith, p.1) in
+    ([], ap (λ (x : FoundEntry). x ∷ []) (some_same e newest (sym p.0 ∙ subst (λ n. first_with n all ≡ Some newest) here counts)))
+last_numbered all low high newest (e ∷ d ∷ es) p some counts =
+    let more = numbered_length all (suc low) (suc high) (d ∷ es) p.1 in
+    let rest = last_numbered all (suc low) high newest (d ∷ es) p.1 (omega (arith, more)) counts in
+    (e ∷ rest.0, ap (λ (xs : List FoundEntry). e ∷ xs) rest.1)
 
-module _ (g : Geometry) (image : Image) (e : FoundEntry) (i k : ℕ) (low : i < g.journal) (place : e.place ≡ bucket_start g i + g.block * k) (fits : e.place + entry_sectors g e.item ≤ bucket_end g i) where
+module _ (g : Geometry) (all es : List FoundEntry) (f : IsFit g all es) where
+  pub not_empty : 0 < length es
+  not_empty = let long = numbered_length all f.newest.item.last_seq (suc f.newest.item.seq) es f.listed.numbered in omega (arith, long, f.listed.reaches)
+
+  -- the newest entry is the last one
+  pub newest_of : (older : List FoundEntry) (newest : FoundEntry) → es ≡ older ++ newest ∷ [] → f.newest ≡ newest
+  newest_of older newest parts =
+      let last = last_numbered all f.newest.item.last_seq f.newest.item.seq f.newest es f.listed.numbered f.listed.reaches f.listed.is_newest.counts in
+      one_end last.0 older f.newest newest (sym last.1 ∙ parts)
+
+  -- no number of a bucket is above the newest one's
+  pub below_newest : (newest : FoundEntry) (numbers : List ℕ) → f.newest ≡ newest → AreNewest g all numbers → All (λ n. n < newest.item.seq + 1) numbers
+  below_newest newest numbers is are =
+      subst (λ (e : FoundEntry). All (λ n. n < e.item.seq + 1) numbers) is
+      (numbers_below g f.newest.item.seq all numbers are f.listed.is_newest.greatest)
+
+module _ (g : Geometry) (e : FoundEntry) (i k : ℕ) (low : i < g.journal) (place : e.place ≡ bucket_start g i + g.block * k) (fits : e.place + entry_sectors g e.item ≤ bucket_end g i) where
   inside : g.block * k < g.bucket
   inside = let some = takes_some (entry_kind g) (entry_codec g) e.item in omega (arith, place, fits, some)
 
@@ -89,30 +109,20 @@ module _ (g : Geometry) (image : Image) (e : FoundEntry) (i k : ℕ) (low : i < 
         block = whole_blocks next ends ((bytes_of e.item + (512 * g.block - 1)) / (512 * g.block)) refl;
       })
 
-pub in_ring : (g : Geometry) (image : Image) (j : Journal) (has : HasJournal g image j) (newest : FoundEntry) (next : ℕ) → IsNextPlace g j.entries newest next → LiesInRing g (bucket_of g newest) next
-in_ring g image j has newest next place =
+pub in_ring : (g : Geometry) (es : List FoundEntry) (newest : FoundEntry) (next : ℕ) → All (StandsWithin g) es → IsNextPlace g es newest next → LiesInRing g (bucket_of g newest) next
+in_ring g es newest next stand place =
     let last = place.last in
     let e = last.1 in
-    let s = All-contains (StandsInJournal g image) j.entries e (stand_in_journal g image j.entries has.entries) (last.0, last.2, last.3) in
-    subst (λ b. LiesInRing g b next) last.4.0 (ring_at g image e s.0 s.1 s.2 s.3 s.5 next last.4.1)
+    let s = All-contains (StandsWithin g) es e stand (last.0, last.2, last.3) in
+    subst (λ b. LiesInRing g b next) last.4.0 (ring_at g e s.0 s.1 s.2 s.3 s.4 next last.4.1)
 
--- ---- what no device has
-
-pub too_many : (g : Geometry) (e : FoundEntry) → 35184372088832 < bytes_of e.item → ¬ (EndsWithin g e)
-too_many g e many = λ ends.
+-- the bytes of an entry that ends within the device are few
+pub few_bytes : (g : Geometry) (e : FoundEntry) → EndsWithin g e → bytes_of e.item ≤ 2 ^ 60
+few_bytes g e ends =
     let few = few_sectors g in
     let held = blocks_hold g.block (bytes_of e.item) (block_some g) in
-    absurd (omega (arith, few, held, ends))
+    omega (arith, few, held, ends)
 
-pub too_far : (g : Geometry) (e : FoundEntry) → 68719476736 < e.place → ¬ (EndsWithin g e)
-too_far g e far = λ ends. (let few = few_sectors g in absurd (omega (arith, few, ends)))
-
-pub blocks_fit : (g : Geometry) (bytes : ℕ) → bytes ≤ 35184372088832 → in_blocks g.block bytes ≤ 549755813888
-blocks_fit g bytes few =
-    let some = block_some g in
-    let small = block_small g in
-    let within = blocks_within g.block bytes 68719476736 some (omega (arith, some)) in
-    omega (arith, within, small)
-
-pub not_all : (g : Geometry) (es : List FoundEntry) (e : FoundEntry) → Contains es e → ¬ (EndsWithin g e) → ¬ (All (EndsWithin g) es)
-not_all g es e has not = λ all. not (All-contains (EndsWithin g) es e all has)
+-- the last one is one of them
+pub last_in : (es older : List FoundEntry) (newest : FoundEntry) → es ≡ older ++ newest ∷ [] → Contains es newest
+last_in es older newest parts = subst (λ (xs : List FoundEntry). Contains xs newest) (sym parts) (Contains-push older newest)

@@ -1,6 +1,6 @@
 -- The place behind the newest entry, entry after entry.
 use Rattle.std.proofs.Common.{◌≡◌, ◌≢◌, inl, inr, ℕ, zero, suc, ◌+◌, ◌-◌, ◌≤◌, List, [], ◌∷◌, ◌++◌, max, length, take, refl, sym, ap, ◌∙◌, subst, arith}
-use Rattle.std.specs.Prelude.{All, Any, Contains, IfNone, MatchOption, None, Option, Some, slice_get}
+use Rattle.std.specs.Prelude.{All, Any, Contains, Err, IfOk, Ok, Result, Some, slice_get}
 use Rattle.std.proofs.Math.Nat.{le-max_left, le-max_right}
 use Rattle.std.proofs.lemmas.Bool.{cases_lt}
 use Rattle.std.proofs.lemmas.List.{take_all}
@@ -90,10 +90,6 @@ last_is es n e is some at =
     let up : n - 1 + 1 ≡ n = omega (arith, some) in
     (take (n - 1) es, sym (take_all n es (omega (arith, is))) ∙ ap (λ k. take k es) (sym up) ∙ taken_next es (n - 1) e at)
 
-pub if_none : {A : Type 0} (P : Type 0) (o : Option A) → P → IfNone o P
-if_none P None p = p
-if_none P (Some x) p = tt
-
-pub none_by : {A : Type 0} (P : Type 0) (Q : A → Type 0) (R : Type 0) (o : Option A) → MatchOption o P Q → (P → R) → IfNone o R
-none_by P Q R None m f = f m
-none_by P Q R (Some x) m f = tt
+pub if_ok : {A E : Type 0} (P Q : A → Type 0) (r : Result A E) → ((a : A) → P a → Q a) → IfOk r P → IfOk r Q
+if_ok P Q (Ok a) f p = f a p
+if_ok P Q (Err e) f p = tt

@@ -1,20 +1,18 @@
 use Rattle.std.proofs.Common.{◌≤◌, ◌∙◌, sym, subst}
-use Rattle.std.specs.Prelude.{All}
+use Rattle.std.proofs.lemmas.List.Elements.{All-contains}
 use Rattle.bc_entries.specs.Reading.{EndsWithin}
-use Rattle.bc_resume.proofs.Held.{not_all}
-use Rattle.bc_resume.proofs.Next.{contained, if_none, next_first, next_higher, next_is, next_kept}
+use Rattle.bc_resume.proofs.Next.{contained, next_first, next_higher, next_is, next_kept}
 use Rattle.bc_resume.proofs.behind.next_place.Goals as goal
-use Rattle.bc_resume.proofs.behind.next_place.Goals.{then-bucket_of-bucket+in_ok-end_of, else-bucket_of-bucket}
+use Rattle.bc_resume.proofs.behind.next_place.Goals.{then-bucket_of-bucket, else-bucket_of-bucket}
 
 pub loop-i-init : goal.loop-i-init
-loop-i-init c = next_first c.args.g.now c.args.journal.now.entries c.args.newest.now c.in_ok-next.next c.requires c.in_ok-next.ensures.some
+loop-i-init c = next_first c.args.g.now c.args.journal.now.entries c.args.newest.now c.end_of-next.result c.requires.counts c.end_of-next.ensures
 
-pub returns-in_err-end_of-clause-none : goal.returns-in_err-end_of-clause-none
-returns-in_err-end_of-clause-none c =
+pub end_of-requires : goal.end_of-requires
+end_of-requires c =
     let es = c.args.journal.now.entries in
     let e = c.entry-e.result.now in
-    if_none (¬ (All (EndsWithin c.args.g.now) es)) c.from_residual-in_err-end_of.result
-    (not_all c.args.g.now es e (contained es c.loop-i.i e c.entry-e.ensures) c.in_err-end_of.ensures.none)
+    All-contains (EndsWithin c.args.g.now) es e c.requires.ends (contained es c.loop-i.i e c.entry-e.ensures)
 
 pub loop-i-preserved : goal.loop-i-preserved
 loop-i-preserved c =
@@ -25,15 +23,15 @@ loop-i-preserved c =
     let i = c.loop-i.i in
     let e = c.entry-e.result.now in
     elim c.if-bucket_of-bucket.branch [
-      | then-bucket_of-bucket+in_ok-end_of w ↦
-          next_higher g es newest next c.if-bucket_of-bucket.next w.in_ok-end_of.field-0 i e c.loop-i.invariant c.entry-e.ensures
-          (sym c.bucket_of.ensures ∙ w.if-bucket_of-bucket.true ∙ c.bucket_of-bucket.ensures) w.in_ok-end_of.ensures.some (w.next-is ∙ w.max-next.ensures)
+      | then-bucket_of-bucket w ↦
+          next_higher g es newest next c.if-bucket_of-bucket.next w.end_of.result i e c.loop-i.invariant c.entry-e.ensures
+          (sym c.bucket_of.ensures ∙ w.if-bucket_of-bucket.true ∙ c.bucket_of-bucket.ensures) w.end_of.ensures (w.next-is ∙ w.max-next.ensures)
       | else-bucket_of-bucket w ↦
           next_kept g es newest next c.if-bucket_of-bucket.next i e c.loop-i.invariant c.entry-e.ensures
           (λ same. w.if-bucket_of-bucket.false (c.bucket_of.ensures ∙ same ∙ sym c.bucket_of-bucket.ensures)) w.next-is
     ]
 
-pub returns-clause-some : goal.returns-clause-some
-returns-clause-some c =
+pub returns : goal.returns
+returns c =
     next_is c.args.g.now c.args.journal.now.entries c.args.newest.now c.loop-i.next c.loop-i.i
     (subst (λ n. n ≤ c.loop-i.i) c.len-i-end.ensures c.loop-i-test.false) c.loop-i.invariant

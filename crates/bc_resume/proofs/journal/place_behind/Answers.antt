@@ -1,22 +1,31 @@
 use Rattle.std.proofs.Common.{sym, subst}
-use Rattle.bc_entries.specs.Journal.{HasJournal}
-use Rattle.bc_model.specs.Sector.{Image}
+use Rattle.std.proofs.lemmas.List.Elements.{All-contains}
+use Rattle.bc_entries.specs.Reading.{EndsWithin}
 use Rattle.bc_resume.specs.Behind.{IsAt, LiesInRing}
-use Rattle.bc_resume.proofs.Held.{ends_within, in_ring}
-use Rattle.bc_resume.proofs.Next.{if_none, none_by}
+use Rattle.bc_resume.proofs.Held.{ends_within, in_ring, last_in}
 use Rattle.bc_resume.proofs.journal.place_behind.Goals as goal
 
-pub returns-in_err-next-clause-none : goal.returns-in_err-next-clause-none
-returns-in_err-next-clause-none c =
-    let g = c.args.g.now in
-    let read = c.args.read.now in
-    if_none ((image : Image) → ¬ (HasJournal g image read)) c.from_residual.result (λ image has. c.in_err-next.ensures.none (ends_within g image read has))
+pub next_place-next-requires-clause-ends : goal.next_place-next-requires-clause-ends
+next_place-next-requires-clause-ends c = ends_within c.args.g.now c.args.read.now.entries c.requires.places
 
-pub returns-clause-none : goal.returns-clause-none
-returns-clause-none c =
+pub next_place-next-requires-clause-within : goal.next_place-next-requires-clause-within
+next_place-next-requires-clause-within c =
     let g = c.args.g.now in
-    let read = c.args.read.now in
-    let bucket = c.bucket_of.result in
-    let next = c.in_ok-next.next in
-    none_by (¬ (LiesInRing g bucket next)) (IsAt g bucket next) ((image : Image) → ¬ (HasJournal g image read)) c.place_in.result c.place_in.ensures
-    (λ out image has. out (subst (λ b. LiesInRing g b next) (sym c.bucket_of.ensures) (in_ring g image read has c.args.newest.now next c.in_ok-next.ensures.some)))
+    let es = c.args.read.now.entries in
+    let newest = c.args.newest.now in
+    All-contains (EndsWithin g) es newest (ends_within g es c.requires.places) (last_in es c.requires.last.0 newest c.requires.last.1)
+
+pub next_place-next-requires-clause-counts : goal.next_place-next-requires-clause-counts
+next_place-next-requires-clause-counts c = last_in c.args.read.now.entries c.requires.last.0 c.args.newest.now c.requires.last.1
+
+pub place_in-requires : goal.place_in-requires
+place_in-requires c =
+    let g = c.args.g.now in
+    let next = c.next_place-next.result in
+    subst (λ b. LiesInRing g b next) (sym c.bucket_of.ensures) (in_ring g c.args.read.now.entries c.args.newest.now next c.requires.places c.next_place-next.ensures)
+
+pub returns : goal.returns
+returns c =
+    let g = c.args.g.now in
+    let next = c.next_place-next.result in
+    (next, c.next_place-next.ensures, subst (λ b. IsAt g b next c.place_in.result) c.bucket_of.ensures c.place_in.ensures)
