@@ -1,3 +1,5 @@
 pub mod Those
 pub mod Told
 pub mod Marked
+pub mod Referred
+pub mod Known

@@ -13,7 +13,8 @@ use Rattle.bc_replay.specs.Survey.{IsUsedAs, TellsUses}
 use Rattle.bc_replay.specs.declared.uses.Use.{Use}
 use Rattle.bc_replay.specs.declared.uses.Use.TheVariants as uses
 use Rattle.bc_traced.specs.Rows.{AreTraced}
-use Rattle.bc_recover.specs.Opened.{AreMarked, AreOpened, IsMetadata, as_metadata, is_metadata, marked_by, marked_if}
+use Rattle.bc_recover.specs.Known.{IsMetadata}
+use Rattle.bc_recover.specs.Opened.{AreMarked, AreOpened, as_metadata, is_metadata, marked_by, marked_if}
 
 -- the buckets below k are marked
 pub record MarkedSoFar (table : List Use) (k : ℕ) (old new : Buckets) : Type 0 where

@@ -1,3 +1,4 @@
 pub mod Read
 pub mod Spare
+pub mod Known
 pub mod Opened

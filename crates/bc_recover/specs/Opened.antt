@@ -6,10 +6,10 @@ use Rattle.bc_bucket.specs.declared.bucket.Mark.TheVariants as marks
 use Rattle.bc_disk.specs.declared.gens.BucketRecord.{BucketRecord}
 use Rattle.bc_disk.specs.declared.geometry.Geometry.{Geometry}
 use Rattle.bc_image.specs.Reading.{Reading}
-use Rattle.bc_image.specs.Uses.{IsUsedFor, Super, Journal, Priority, Uuid, Node}
 use Rattle.bc_key.specs.declared.key.Key.{Key}
 use Rattle.bc_replay.specs.declared.uses.Use.{Use}
 use Rattle.bc_replay.specs.declared.uses.Use.TheVariants as uses
+use Rattle.bc_recover.specs.Known.{IsMetadata}
 use Rattle.bc_traced.specs.Rows.{IsTraced, no_record}
 
 -- one of the uses that aren't data
@@ -27,10 +27,6 @@ marked_if is b = if is then as_metadata b else b
 
 abbrev pub marked_by : List Use → ℕ → Bucket → Bucket
 marked_by table k b = marked_if (is_metadata (slice_index_or table k uses.None)) b
-
--- the bucket has no data, but something of the cache itself
-abbrev pub IsMetadata : Geometry → Reading → ℕ → Type 0
-IsMetadata g r k = IsUsedFor g r Super k ⊎ (IsUsedFor g r Journal k ⊎ (IsUsedFor g r Priority k ⊎ (IsUsedFor g r Uuid k ⊎ IsUsedFor g r Node k)))
 
 -- The bucket as the rows of the index say, which give each sector its last key; one of metadata is marked so.
 pub record IsOpened (g : Geometry) (r : Reading) (rows : List Key) (k : ℕ) (b : Bucket) : Type 0 where

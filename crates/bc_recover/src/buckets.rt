@@ -1,9 +1,10 @@
 //! The buckets of a pair, with what is known of them.
-ghost use Rattle.std.specs.Prelude.{◌≡◌, length, IfNone, IfOk, IfSome};
+ghost use Rattle.std.specs.Prelude.{◌≡◌, length, IfOk};
 ghost use Rattle.bc_bucket.specs.Buckets.{EachChanged};
 ghost use Rattle.bc_image.specs.Pair.{Pair};
-ghost use Rattle.bc_recover.specs.Opened.{AreMarked, AreOpened, is_metadata, marked_by};
-ghost use Rattle.bc_recover.specs.Read.{IsReadOf};
+ghost use Rattle.bc_recover.specs.Known.{AreKnown};
+ghost use Rattle.bc_recover.specs.Opened.{AreMarked, is_metadata, marked_by};
+ghost use Rattle.bc_recover.specs.Read.{HasParts, IsReadOf};
 
 use bc_bucket::{Buckets, Mark};
 use bc_disk::gens::Gens;
@@ -55,21 +56,14 @@ fn opened(
 }
 
 /// The buckets of a pair that was read: priorities and generations are those that its newest entry
-/// names; those of superblock, journal, priorities, uuids and nodes are marked as metadata; each other
-/// one is dirty where a live dirty row of the index points into it, reclaimable where only clean ones
-/// do, and else unmarked; the used count is that of the live rows' sectors, and `last_gc` the oldest
-/// generation of any row, the bucket's own where none points into it. `None` where no pair has what
-/// was read. The time is linear in the number of rows and that of buckets.
-pub fn buckets_of(alloc: Global, s: &Survey) -> Result<Option<Buckets>, AllocError>
-    ensures some { IfOk result (λ o. IfSome o (λ b. (p : Pair) → (h : IsReadOf s.now p)
-        → AreOpened h.view.geometry h.view.reading s.now.index.keys b)) }
-    ensures none { IfOk result (λ o. IfNone o ((p : Pair) → ¬ (IsReadOf s.now p))) }
+/// names; each bucket has the mark of what it is used for; its used count is that of the sectors
+/// whose last keys are live in it, 2^32 - 1 at most; and `last_gc` is the oldest generation of a last
+/// key that points into it, live or not, and the bucket's own where none does. The time is linear in
+/// the number of rows and that of buckets.
+pub fn buckets_of(alloc: Global, s: &Survey) -> Result<Buckets, AllocError>
+    requires { HasParts s.now }
+    ensures { IfOk result (λ b. (p : Pair) → (h : IsReadOf s.now p)
+        → AreKnown h.view.geometry h.view.reading b) }
 {
-    let g = &s.supers.geometry;
-    let count = g.nbuckets as usize;
-    if s.gens.records().len() != count || s.uses.len() != count {
-        return Ok(None);
-    }
-    let buckets = opened(alloc, g, &s.gens, &s.index, &s.uses)?;
-    Ok(Some(buckets))
+    opened(alloc, &s.supers.geometry, &s.gens, &s.index, &s.uses)
 }

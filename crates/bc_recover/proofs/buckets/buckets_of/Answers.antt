@@ -1,20 +1,34 @@
 use Rattle.std.proofs.Common.{List, sym, subst}
+use Rattle.std.specs.Prelude.{All, IfOk}
+use Rattle.bc_bucket.specs.Buckets.{Buckets}
 use Rattle.bc_disk.specs.Gens.{Gens}
 use Rattle.bc_disk.specs.declared.geometry.Geometry.{Geometry}
-use Rattle.bc_image.specs.Sound.{HasOneUse}
+use Rattle.bc_image.specs.Pair.{Pair}
+use Rattle.bc_image.specs.Reading.{keys_of}
+use Rattle.bc_image.specs.Sound.{HasOneUse, IsDataKey}
 use Rattle.bc_replay.specs.declared.uses.Use.{Use}
-use Rattle.bc_recover.specs.Opened.{AreMarked, AreOpened}
+use Rattle.bc_super.specs.Super.{data_sectors}
+use Rattle.bc_recover.specs.Known.{AreKnown}
+use Rattle.bc_recover.specs.Opened.{AreMarked}
+use Rattle.bc_recover.specs.Read.{IsReadOf}
+use Rattle.bc_recover.proofs.Known.{all_known}
 use Rattle.bc_recover.proofs.Marked.{told_opened}
+use Rattle.bc_recover.proofs.Told.{if_ok}
 use Rattle.bc_recover.proofs.buckets.buckets_of.Goals as goal
 
-pub returns-clause-some : goal.returns-clause-some
-returns-clause-some c = λ p h.
+pub returns : goal.returns
+returns c =
     let s = c.args.s.now in
     let g = s.supers.geometry in
     let rows = s.index.keys in
     let table = s.uses.items in
-    let buckets = c.in_ok-buckets.buckets in
-    let marked : AreMarked g s.gens.records rows table buckets = subst (λ (us : List Use). AreMarked g s.gens.records rows us buckets) c.deref.ensures.value c.in_ok-buckets.ensures in
-    let told : AreMarked g h.view.reading.gens.records rows table buckets = subst (λ (gs : Gens). AreMarked g gs.records rows table buckets) (sym h.gens) marked in
-    let once : HasOneUse g h.view.reading = subst (λ (x : Geometry). HasOneUse x h.view.reading) h.geometry h.openable.once in
-    subst (λ (x : Geometry). AreOpened x h.view.reading rows buckets) (sym h.geometry) (told_opened g h.view.reading table h.uses once rows buckets told)
+    if_ok (AreMarked g s.gens.records rows table) (λ (b : Buckets). (p : Pair) → (h : IsReadOf s p) → AreKnown h.view.geometry h.view.reading b) c.opened.result
+    (λ b marked p h. (
+        let r = h.view.reading in
+        let size = data_sectors p.backing_sectors h.view.backing in
+        let told : AreMarked g r.gens.records rows table b = subst (λ (gs : Gens). AreMarked g gs.records rows table b) (sym h.gens) marked in
+        let once : HasOneUse g r = subst (λ (x : Geometry). HasOneUse x r) h.geometry h.openable.once in
+        let good = subst (λ (x : Geometry). All (IsDataKey x size) (keys_of r)) h.geometry h.openable.pointers.data_keys in
+        subst (λ (x : Geometry). AreKnown x r b) (sym h.geometry) (all_known g r size rows h.index good b (told_opened g r table h.uses once rows b told))
+    ))
+    (subst (λ (us : List Use). IfOk c.opened.result (AreMarked g s.gens.records rows us)) c.deref.ensures.value c.opened.ensures)

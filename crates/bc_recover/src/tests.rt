@@ -1,0 +1,129 @@
+//! The parts of a new pair, and of one with keys in a leaf and in the journal.
+ghost use Rattle.std.specs.Prelude.{◌≡◌, ◌<◌, ◌≤◌, length};
+
+use crate::{buckets_of, reserves_of};
+use bc_alloc::Purpose;
+use bc_bucket::{Bucket, Buckets, Mark};
+use bc_bytes::{crc64, put_u32, put_u64};
+use bc_disk::mem_disk::MemDisk;
+use bc_keys::put_words;
+use bc_mode::Mode;
+use bc_pair::error::PairError;
+use bc_pair::format::{NewPair, format};
+use bc_replay::survey;
+use std::alloc::{AllocError, Global};
+use std::process::Abort;
+use std::test::Fail;
+
+/// The bytes of the cache device: 128 buckets of 64 sectors. Entry 1 stands in sector 64, and the
+/// tree's one leaf in sector 768.
+const CACHE: usize = 128 * 64 * 512;
+
+/// The first word of a key of 8 sectors with one pointer, clean and dirty.
+const CLEAN: u64 = (1 << 63) + (1 << 60) + (8 << 20);
+const DIRTY: u64 = CLEAN + (1 << 36);
+
+// A disk of so many zeros, in sectors.
+fn blank(alloc: Global, sectors: usize) -> Result<MemDisk, AllocError>
+    requires { sectors ≤ 65536 }
+{
+    MemDisk::new(alloc, vec![in alloc; 0u8; 512 * sectors]?, 1000)
+}
+
+// A new pair, with 1,024 sectors of data.
+fn new_pair(alloc: Global) -> Result<(MemDisk, MemDisk), PairError> {
+    let mut cache = blank(alloc, CACHE / 512)?;
+    let mut backing = blank(alloc, 1040)?;
+    let pair = NewPair {
+        set_uuid: [1; 16],
+        cache_uuid: [2; 16],
+        backing_uuid: [3; 16],
+        block: 1,
+        bucket: 64,
+        mode: Mode::Writethrough,
+        offset: 16,
+    };
+    format(alloc, &mut cache, &mut backing, &pair)?;
+    Ok((cache, backing))
+}
+
+// Puts two keys into the leaf: of sectors 0 to 7 and of 8 to 15, in buckets 100 and 101.
+fn put_leaf(bytes: &mut [u8])
+    requires { 4194304 ≤ length bytes.old }
+    ensures { length bytes.new ≡ length bytes.old }
+{
+    let at = 768 * 512;
+    put_u32(bytes, at + 28, 6);
+    put_words(bytes, at + 32, &[CLEAN, 8, (100 * 64) << 8]);
+    put_words(bytes, at + 56, &[CLEAN, 16, (101 * 64) << 8]);
+    let sum = crc64(768 << 8, &bytes[at + 8..at + 80]);
+    put_u64(bytes, at, sum);
+}
+
+// Puts one into the entry: a dirty one of sectors 12 to 19, in bucket 102.
+fn put_entry(bytes: &mut [u8])
+    requires { 4194304 ≤ length bytes.old }
+    ensures { length bytes.new ≡ length bytes.old }
+{
+    let at = 64 * 512;
+    put_u32(bytes, at + 28, 3);
+    put_words(bytes, at + 240, &[DIRTY, 20, (102 * 64) << 8]);
+    let sum = crc64(u64::MAX, &bytes[at + 8..at + 264]);
+    put_u64(bytes, at, sum);
+}
+
+// How many buckets are marked so, with this priority and no live sectors.
+fn marked(buckets: &Buckets, mark: Mark, priority: u16) -> usize {
+    let mut count = 0usize;
+    for bucket in buckets.records() {
+        if bucket.mark == mark && bucket.priority == priority && bucket.used == 0 {
+            count = count.saturating_add(1);
+        }
+    }
+    count
+}
+
+// The mark and the used count of a bucket.
+fn told(rt: &impl Abort, buckets: &Buckets, k: usize) -> (Mark, u32) {
+    let records = buckets.records();
+    assert!(rt; k < records.len());
+    let bucket: &Bucket = &records[k];
+    (bucket.mark, bucket.used)
+}
+
+#[test]
+fn new_pair_is_opened(rt: HostRuntime) -> Result<(), Fail> {
+    let (mut cache, mut backing) = new_pair(rt.alloc())?;
+    let s = survey(rt.alloc(), &mut cache, &mut backing)?;
+    let reserves = reserves_of(rt.alloc(), &s)?;
+    for (purpose, length) in [
+        (Purpose::Priorities, 1),
+        (Purpose::Moving, 4),
+        (Purpose::Tree, 8),
+        (Purpose::Plain, 8),
+    ] {
+        assert_eq!(rt; reserves.len(purpose), length);
+    }
+    let buckets = buckets_of(rt.alloc(), &s)?;
+    assert_eq!(rt; marked(&buckets, Mark::Metadata, 65535), 13);
+    assert_eq!(rt; marked(&buckets, Mark::None, 0), 115);
+    Ok(())
+}
+
+#[test]
+fn keys_mark_buckets(rt: HostRuntime) -> Result<(), Fail> {
+    let (made, mut backing) = new_pair(rt.alloc())?;
+    let mut bytes = Vec::from_slice(rt.alloc(), made.bytes())?;
+    assert_eq!(rt; bytes.len(), CACHE);
+    put_leaf(&mut bytes);
+    put_entry(&mut bytes);
+    let mut cache = MemDisk::new(rt.alloc(), bytes, 1000)?;
+    let s = survey(rt.alloc(), &mut cache, &mut backing)?;
+    let buckets = buckets_of(rt.alloc(), &s)?;
+    assert_eq!(rt; told(&rt, &buckets, 100), (Mark::Reclaimable, 8));
+    assert_eq!(rt; told(&rt, &buckets, 101), (Mark::Reclaimable, 4));
+    assert_eq!(rt; told(&rt, &buckets, 102), (Mark::Dirty, 8));
+    assert_eq!(rt; told(&rt, &buckets, 12), (Mark::Metadata, 0));
+    assert_eq!(rt; marked(&buckets, Mark::None, 0), 112);
+    Ok(())
+}
