@@ -1,2 +1,4 @@
 pub mod Calls
 pub mod Low
+pub mod Rooms
+pub mod Following

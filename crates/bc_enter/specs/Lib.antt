@@ -1,1 +1,3 @@
+pub mod Entry
+pub mod Next
 pub mod Written

@@ -9,7 +9,9 @@
 #![tactic(auto)]
 
 mod needed;
+mod next;
 mod write;
 
 pub use needed::oldest_needed;
+pub use next::next_entry;
 pub use write::write_entry;

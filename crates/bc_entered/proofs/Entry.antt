@@ -1,17 +1,16 @@
 -- The entry of an opening, as the machine has it.
-use Rattle.std.proofs.Common.{◌≡◌, ◌≢◌, ◌⊎◌, inl, inr, ℕ, zero, suc, ◌+◌, ◌*◌, ◌<◌, ◌≤◌, Bool, true, false, List, [], ◌∷◌, length, Option, Some, None, refl, sym, ap, ◌∙◌, subst, arith}
-use Rattle.std.specs.Prelude.{IfSome, map, reverse}
+use Rattle.std.proofs.Common.{◌≡◌, ◌≢◌, inl, inr, ℕ, zero, suc, ◌+◌, ◌<◌, ◌≤◌, List, [], ◌∷◌, length, Option, Some, None, refl, sym, ap, ◌∙◌, subst, arith}
+use Rattle.std.specs.Prelude.{map, reverse}
 use Rattle.bc_model.specs.Sector.{Image, Value}
 use Rattle.bc_disk.specs.declared.geometry.Geometry.{Geometry}
 use Rattle.bc_key.specs.declared.key.Key.{Key}
 use Rattle.bc_jset.specs.declared.entry.JEntry.{JEntry}
-use Rattle.bc_jset.specs.Entries.{FoundEntry, bucket_end, bucket_start}
-use Rattle.bc_jset.specs.Ring.{IsNextPlace, bucket_of}
+use Rattle.bc_jset.specs.Entries.{FoundEntry, bucket_start}
+use Rattle.bc_jset.specs.Ring.{bucket_of}
 use Rattle.bc_jset.proofs.Ring.{one_next}
 use Rattle.bc_meta.specs.Entries.{Entry}
 use Rattle.bc_meta.specs.Facts.{In}
 use Rattle.bc_meta.specs.Layout.{Layout, entry_len}
-use Rattle.bc_meta.specs.Laws as meta
 use Rattle.bc_meta.specs.Records.{Records}
 use Rattle.bc_leaves.specs.Parts.{AllFrom, NoNode, Pending}
 use Rattle.bc_leaves.specs.Parts as parts
@@ -19,19 +18,18 @@ use Rattle.bc_image.specs.Pair.{Pair}
 use Rattle.bc_image.specs.Reading.{Reading, View}
 use Rattle.bc_image.specs.Tree.{IsWalk, Node, node_of}
 use Rattle.bc_facts.specs.Layout.{IsLayoutOf}
-use Rattle.bc_facts.specs.Reads.{back}
 use Rattle.bc_facts.specs.Seen as seen
 use Rattle.bc_facts.specs.Seen.{counted, entry_rest, seen_entry, seen_entries, word_of}
 use Rattle.bc_facts.proofs.Stood.{all_in}
 use Rattle.bc_whole.specs.State as whole
-use Rattle.bc_known.specs.Laws.{IsSound}
 use Rattle.bc_opening.specs.Choices.{Choices}
 use Rattle.bc_opening.specs.Opening.{IsOpenedAs}
 use Rattle.bc_opening.specs.Read.{leaf_of}
 use Rattle.bc_opening.proofs.Nodes.{in_turned}
 use Rattle.bc_opening.proofs.Ring.{law_ring}
-use Rattle.bc_first_entry.specs.Entry.{Entering, CanFirst, bucket_for, entry_for, place_for}
-use Rattle.bc_entered.specs.Entry.{IsBehind, IsEntryAt, IsInFront}
+use Rattle.bc_first_entry.specs.Entry.{Entering, CanFirst, entry_for}
+use Rattle.bc_enter.specs.Entry.{IsBehind, IsInFront}
+use Rattle.bc_entered.specs.Entry.{IsEntryAt}
 
 -- ---- lists
 

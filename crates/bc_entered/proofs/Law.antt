@@ -1,5 +1,5 @@
 -- However much of the entry stands there, the pair shows what it showed.
-use Rattle.std.proofs.Common.{◌≡◌, ◌≢◌, ◌⊎◌, inl, inr, ℕ, zero, suc, ◌+◌, ◌<◌, ◌≤◌, Bool, true, false, List, [], ◌∷◌, ◌++◌, Option, Some, None, refl, sym, ap, ◌∙◌, subst, arith}
+use Rattle.std.proofs.Common.{◌≡◌, ◌≢◌, ◌⊎◌, inl, inr, ℕ, ◌+◌, ◌≤◌, Bool, true, false, List, [], ◌∷◌, Option, Some, None, refl, sym, ap, ◌∙◌, subst, arith}
 use Rattle.std.specs.Prelude.{if◌then◌else◌, ◌==◌, reverse}
 use Rattle.bc_model.specs.Sector.{Image, Value, at_run}
 use Rattle.bc_model.specs.History.{Allowed}
@@ -9,23 +9,19 @@ use Rattle.bc_disk.specs.Disk.{Torn}
 use Rattle.bc_disk.specs.declared.geometry.Geometry.{Geometry}
 use Rattle.bc_key.specs.declared.key.Key.{Key}
 use Rattle.bc_jset.specs.declared.entry.JEntry.{JEntry}
-use Rattle.bc_jset.specs.Entries.{FoundEntry, bucket_end, bucket_start}
+use Rattle.bc_jset.specs.Entries.{FoundEntry, bucket_end}
 use Rattle.bc_jset.specs.Records.{entry_kind}
-use Rattle.bc_super.specs.declared.state.BackingState.{BackingState}
-use Rattle.bc_super.specs.Super.{data_sectors}
 use Rattle.bc_meta.specs.Entries.{Entry}
-use Rattle.bc_meta.specs.Facts.{In, IsAtBlock}
+use Rattle.bc_meta.specs.Facts.{In}
 use Rattle.bc_meta.specs.Layout.{Layout}
 use Rattle.bc_meta.specs.Places.{Places, Wrote}
 use Rattle.bc_leaves.specs.Parts as parts
-use Rattle.bc_leaves_runs.specs.Reopen.{Replays}
 use Rattle.bc_image.specs.Pair.{Pair}
-use Rattle.bc_image.specs.Reading.{Reading, View, IsView}
+use Rattle.bc_image.specs.Reading.{Reading, View}
 use Rattle.bc_image.specs.Shown.{shown_by}
-use Rattle.bc_image.specs.Sound.{HasSoundParts, IsNodeKey}
+use Rattle.bc_image.specs.Sound.{IsNodeKey}
 use Rattle.bc_image.specs.Tree.{Node}
-use Rattle.bc_facts.specs.Layout.{IsLayoutOf}
-use Rattle.bc_facts.specs.Seen.{entry_rest, seen_entry, seen_entries}
+use Rattle.bc_facts.specs.Seen.{seen_entry, seen_entries}
 use Rattle.bc_facts.specs.Torn.{NoTornRecord}
 use Rattle.bc_facts.specs.Whole.{IsWhole}
 use Rattle.bc_facts.proofs.Made.{made, is_layout}
@@ -33,10 +29,8 @@ use Rattle.bc_facts.proofs.Stood.{all_in}
 use Rattle.bc_meta.proofs.Lists.{by_test}
 use Rattle.bc_whole.specs.State as whole
 use Rattle.bc_whole.specs.State.{OfEntry, SameChain, SameRoot}
-use Rattle.bc_known.specs.Acts.{State, Act, BeginBucket, CacheBarrier, Seal, WriteCache}
-use Rattle.bc_known.specs.Acts as known
+use Rattle.bc_known.specs.Acts.{State}
 use Rattle.bc_known.specs.Run.{IsRun, run, start}
-use Rattle.bc_known.specs.Laws.{IsSound}
 use Rattle.bc_events.specs.Run.{by}
 use Rattle.bc_origin.specs.Keys.{new_keys}
 use Rattle.bc_opened.specs.Opening.{IsOpeningOf}
@@ -47,15 +41,16 @@ use Rattle.bc_opening.proofs.Whole.{law_opening}
 use Rattle.bc_opening_runs.proofs.Law.{law_shown}
 use Rattle.bc_ranges.specs.Laws.{frame_of}
 use Rattle.bc_ranges.specs.Made.{AreWellMade, IsGoodEntry}
-use Rattle.bc_sound.specs.Laws.{IsLeftOf, view_with}
+use Rattle.bc_sound.specs.Laws.{view_with}
 use Rattle.bc_sound.proofs.Law.{law_sound}
 use Rattle.bc_reopened.proofs.Law.{law_opened}
-use Rattle.bc_first_entry.specs.Entry.{CanFirst, Entering, entering_acts, entry_for}
+use Rattle.bc_first_entry.specs.Entry.{entering_acts, entry_for}
 use Rattle.bc_first_entry.proofs.Law.{law_enters}
-use Rattle.bc_state.specs.State.{IsCached, view_in, with_sector}
+use Rattle.bc_state.specs.State.{view_in, with_sector}
 use Rattle.bc_state.proofs.State.{law_state}
-use Rattle.bc_entered.specs.Entry.{IsBehind, IsEntryAt, IsInFront, IsOpeningEntry}
-use Rattle.bc_entered.specs.Laws.{IsEntered, IsLeft, IsMarked, IsSameImage, LawEntered, LawLeft, ShowsTheSame}
+use Rattle.bc_enter.specs.Entry.{IsBehind, IsInFront, IsOpeningEntry}
+use Rattle.bc_entered.specs.Entry.{IsEntryAt}
+use Rattle.bc_entered.specs.Laws.{IsEntered, IsMarked, IsSameImage, LawEntered, LawLeft, ShowsTheSame}
 use Rattle.bc_entered.proofs.Entry.{can_behind, can_front, entering, entry_is, root_in, same_bucket, same_front, same_place, was_read}
 use Rattle.bc_entered.proofs.Since.{AreNeeded, since, since_from, since_replays}
 

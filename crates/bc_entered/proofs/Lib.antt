@@ -1,3 +1,4 @@
 pub mod Since
 pub mod Entry
 pub mod Law
+pub mod Next

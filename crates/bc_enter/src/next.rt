@@ -1,0 +1,71 @@
+//! The entry that comes next.
+ghost use Rattle.std.specs.Prelude.{◌≡◌, ◌∷◌, ◌++◌, ◌<◌, ◌↔◌, [], All, List, IfNone, IfOk, IfSome, IsTrue, length};
+ghost use Rattle.bc_entries.specs.Lists.{IsFit};
+ghost use Rattle.bc_entries.specs.Reading.{StandsWithin};
+ghost use Rattle.bc_jset.specs.Entries.{FoundEntry};
+ghost use Rattle.bc_jset.specs.EntryBytes.{IsLevel};
+ghost use Rattle.bc_enter.specs.Next.{IsNext, IsOdd};
+
+use crate::needed::oldest_needed;
+use bc_disk::geometry::Geometry;
+use bc_entries::Journal as Entries;
+use bc_journal::{Heads, Sealed};
+use bc_jset::JEntry;
+use bc_record::Placed;
+use bc_resume::resume;
+use std::alloc::{AllocError, Global};
+
+/// The last of the entries that count.
+fn last_entry(read: &Entries) -> &Placed<JEntry>
+    requires { 0 < length read.now.entries }
+    ensures { (older : List FoundEntry) × (read.now.entries ≡ older ++ result.now ∷ []) }
+{
+    let count = read.len();
+    read.entry(count - 1)
+}
+
+/// Whether an entry tells of a root that may have nodes below it: of level 1 or 2.
+fn has_level(e: &JEntry) -> bool
+    ensures { IsTrue result ↔ IsLevel e.now.level }
+{
+    e.level == 1 || e.level == 2
+}
+
+/// What an entry names.
+fn heads_of(e: &JEntry) -> Heads
+    ensures { result ≡ record {
+      uuid_bucket = e.now.uuid_bucket;
+      root = e.now.root;
+      level = e.now.level;
+      prio = e.now.prio;
+    } }
+{
+    Heads {
+        uuid_bucket: e.uuid_bucket,
+        root: e.root,
+        level: e.level,
+        prio: e.prio,
+    }
+}
+
+/// The entry that an opening writes behind those that were read of a device, sealed, with its place
+/// in the journal's ring. `None` comes only where the newest of these tells no level of a root, or
+/// still needs an entry of number 0. Takes the memory of two entries and of a number for each
+/// journal bucket. The time is linear in the number of entries.
+pub fn next_entry(alloc: Global, g: &Geometry, read: &Entries) -> Result<Option<Sealed>, AllocError>
+    requires fit { IsFit g.now read.now.all read.now.entries }
+    requires places { All (StandsWithin g.now) read.now.all }
+    ensures some { IfOk result (λ o. IfSome o (IsNext g.now read.now)) }
+    ensures none { IfOk result (λ o. IfNone o (IsOdd read.now)) }
+{
+    let newest = last_entry(read);
+    let mut journal = resume(alloc, g, read)?;
+    if !has_level(&newest.item) || !journal.room(0) {
+        return Ok(None);
+    }
+    journal.reclaim_to(oldest_needed(read, journal.number()));
+    let Ok(sealed) = journal.seal(&heads_of(&newest.item)) else {
+        unreachable!()
+    };
+    Ok(Some(sealed))
+}
