@@ -1,3 +1,4 @@
 pub mod Entry
 pub mod Next
+pub mod Begun
 pub mod Written

@@ -4,12 +4,13 @@ ghost use Rattle.bc_entries.specs.Lists.{IsFit};
 ghost use Rattle.bc_entries.specs.Reading.{StandsWithin};
 ghost use Rattle.bc_jset.specs.Entries.{FoundEntry};
 ghost use Rattle.bc_jset.specs.EntryBytes.{IsLevel};
-ghost use Rattle.bc_enter.specs.Next.{IsNext, IsOdd};
+ghost use Rattle.bc_enter.specs.Next.{IsOdd};
+ghost use Rattle.bc_enter.specs.Begun.{IsBegun};
 
 use crate::needed::oldest_needed;
 use bc_disk::geometry::Geometry;
 use bc_entries::Journal as Entries;
-use bc_journal::{Heads, Sealed};
+use bc_journal::{Heads, Journal, Sealed};
 use bc_jset::JEntry;
 use bc_record::Placed;
 use bc_resume::resume;
@@ -48,14 +49,21 @@ fn heads_of(e: &JEntry) -> Heads
     }
 }
 
+/// The entry that comes next, which is to be written, and the journal that waits for it.
+#[derive(Drop)]
+pub struct Next {
+    pub journal: Journal,
+    pub sealed: Sealed,
+}
+
 /// The entry that an opening writes behind those that were read of a device, sealed, with its place
 /// in the journal's ring. `None` comes only where the newest of these tells no level of a root, or
 /// still needs an entry of number 0. Takes the memory of two entries and of a number for each
 /// journal bucket. The time is linear in the number of entries.
-pub fn next_entry(alloc: Global, g: &Geometry, read: &Entries) -> Result<Option<Sealed>, AllocError>
+pub fn next_entry(alloc: Global, g: &Geometry, read: &Entries) -> Result<Option<Next>, AllocError>
     requires fit { IsFit g.now read.now.all read.now.entries }
     requires places { All (StandsWithin g.now) read.now.all }
-    ensures some { IfOk result (λ o. IfSome o (IsNext g.now read.now)) }
+    ensures some { IfOk result (λ o. IfSome o (IsBegun g.now read.now)) }
     ensures none { IfOk result (λ o. IfNone o (IsOdd read.now)) }
 {
     let newest = last_entry(read);
@@ -67,5 +75,5 @@ pub fn next_entry(alloc: Global, g: &Geometry, read: &Entries) -> Result<Option<
     let Ok(sealed) = journal.seal(&heads_of(&newest.item)) else {
         unreachable!()
     };
-    Ok(Some(sealed))
+    Ok(Some(Next { journal, sealed }))
 }

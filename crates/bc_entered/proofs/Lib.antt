@@ -2,3 +2,4 @@ pub mod Since
 pub mod Entry
 pub mod Law
 pub mod Next
+pub mod Safe

@@ -1,5 +1,4 @@
-//! What a crash leaves of a pair while it's opened and closed. It has definitions and laws, and
-//! nothing that runs.
+//! What a crash leaves of a pair while it's opened and closed, and the writing of an opening's entry.
 //!
 //! A pair that is opened is changed before it is served: an entry of the new run goes into the
 //! journal, and the backing device says that its cache may have what it lacks. A power cut may come
@@ -8,7 +7,15 @@
 //! sound pair which shows what the pair showed. So a program that does no more than these two
 //! writes, in whatever order and however far it gets, loses nothing.
 //!
-//! Read `specs/` in this order: Entry, Laws.
+//! `enter` writes the entry, and its contract says so of whatever it leaves.
+//!
+//! Read `specs/` in this order: Entry, Laws, Enter.
 #![tactic(auto)]
 
 pub mod laws;
+mod write;
+
+pub use write::{EnterError, enter};
+
+#[cfg(test)]
+mod tests;

@@ -1,8 +1,9 @@
-use Rattle.std.proofs.Common.{◌≡◌, ◌≤◌, ◌∙◌, refl, sym, subst, inl}
+use Rattle.std.proofs.Common.{◌≡◌, ◌≤◌, ◌∙◌, refl, ap, sym, subst, inl}
 use Rattle.std.specs.Prelude.{IsTrue}
 use Rattle.bc_jset.specs.Entries.{FoundEntry}
 use Rattle.bc_jset.specs.EntryBytes.{IsLevel}
-use Rattle.bc_journal.specs.Journal.{HasRoom, Journal}
+use Rattle.bc_jset.specs.declared.entry.JEntry.{JEntry}
+use Rattle.bc_journal.specs.Journal.{HasRoom, IsSealed, Journal}
 use Rattle.bc_journal.specs.declared.heads.Heads.{Heads}
 use Rattle.bc_resume.proofs.Held.{newest_of, not_empty}
 use Rattle.bc_enter.proofs.Following.{full_is_odd, is_next, needs_later, not_end}
@@ -54,8 +55,17 @@ returns-clause-some c =
     let last = c.last_entry-newest.ensures in
     let newest = c.last_entry-newest.result.now in
     let same : newest ≡ r.newest = sym (newest_of g read.all read.entries c.requires.fit last.0 newest last.1) ∙ newest_of g read.all read.entries c.requires.fit r.older r.newest r.parts in
-    is_next g read c.requires.fit c.in_ok-journal.journal r c.oldest_needed.result c.reclaim_to.new.self c.seal.new.self c.heads_of.result c.in-Ok.sealed c.reclaim_to.ensures c.in-Ok.ensures.sealed
+    let entry = is_next g read c.requires.fit c.in_ok-journal.journal r c.oldest_needed.result c.reclaim_to.new.self c.seal.new.self c.heads_of.result c.in-Ok.sealed c.reclaim_to.ensures c.in-Ok.ensures.sealed
     (subst (λ n. IsReached read.entries n c.oldest_needed.result) c.number.ensures.value c.oldest_needed.ensures.reached)
     (subst (λ n. c.oldest_needed.result ≤ n) c.number.ensures.value c.oldest_needed.ensures.most)
     c.oldest_needed.ensures.needed
-    (subst (λ (e : FoundEntry). c.heads_of.result ≡ record { uuid_bucket = e.item.uuid_bucket; root = e.item.root; level = e.item.level; prio = e.item.prio }) same c.heads_of.ensures)
+    (subst (λ (e : FoundEntry). c.heads_of.result ≡ record { uuid_bucket = e.item.uuid_bucket; root = e.item.root; level = e.item.level; prio = e.item.prio }) same c.heads_of.ensures) in
+    let low : c.in-Ok.sealed.entry.last_seq ≡ c.oldest_needed.result = ap (λ (e : JEntry). e.last_seq) c.in-Ok.ensures.sealed.entry ∙ ap (λ (j : Journal). j.needed) c.reclaim_to.ensures in
+    record {
+      entry = entry;
+      from = c.in_ok-journal.journal;
+      resumed = r;
+      heads = c.heads_of.result;
+      sealed = subst (λ (j : Journal). IsSealed j c.heads_of.result c.in-Ok.sealed c.seal.new.self)
+          (c.reclaim_to.ensures ∙ ap (λ n. record c.in_ok-journal.journal { needed = n }) (sym low)) c.in-Ok.ensures.sealed;
+    }
