@@ -156,11 +156,11 @@ module _ (g : Geometry) (r : Reading) (size : ℕ) (rows : List Key) (last : Are
             let at = m.1 in
             let same : get_or refs at.0 no_reference ≡ m.0 = get_or_default refs at.0 no_reference m.0 at.1 ∙ at.2 in
             subst (λ x. behind own x ≤ behind own n) (ap (λ (x : Reference). x.generation) same ∙ m.2) (old.none_older at.0 at.1)
-        );
+            );
         one = inr (
             let ref = get_or refs old.place no_reference in
             from_reference n ref (old.place, old.within, get_or_default refs old.place ref no_reference old.within) old.is
-        );
+            );
       }
 
   -- ---- all of it

@@ -166,7 +166,11 @@ module _ (g : Geometry) (gens : Gens) (k : ℕ) where
       some_in ptr is (inl same) c =
           let test : (bucket_at g ptr.offset == k) ≡ true = eq-eqb (bucket_at g ptr.offset) k same in
           record {
-            row = x; has = first x rows; ptr = ptr; points = is; place = same;
+            row = x;
+            has = first x rows;
+            ptr = ptr;
+            points = is;
+            place = same;
             is = only (reference_of x ptr) (subst (λ b. Contains (if b then reference_of x ptr ∷ [] else []) r) test c);
           }
       some_in ptr is (inr other) c =

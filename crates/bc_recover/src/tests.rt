@@ -21,6 +21,7 @@ const CACHE: usize = 128 * 64 * 512;
 
 /// The first word of a key of 8 sectors with one pointer, clean and dirty.
 const CLEAN: u64 = (1 << 63) + (1 << 60) + (8 << 20);
+
 const DIRTY: u64 = CLEAN + (1 << 36);
 
 // A disk of so many zeros, in sectors.

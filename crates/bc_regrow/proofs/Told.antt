@@ -285,8 +285,8 @@ module _ (s : Survey) (d : DiskFacts) (newest : FoundEntry) (at : slice_get s.jo
   pub refuse_root : (e : OpenError) → 0 < newest.item.level → IsInnerCause s.supers.geometry newest.item.level 0 newest.item.root d e → IsTreeCause s d e
   refuse_root e some cause =
       cause_of s d e (λ p h told.
-          no_cause s.supers.geometry p.cache h.view.reading.nodes h.openable.ranges (node_keys s p h) d newest.item.level 0 newest.item.root e told
-          (root_met s.supers.geometry p.cache newest.item.level 0 newest.item.root h.view.reading.nodes some (walk_is s p h newest at)) cause)
+      no_cause s.supers.geometry p.cache h.view.reading.nodes h.openable.ranges (node_keys s p h) d newest.item.level 0 newest.item.root e told
+      (root_met s.supers.geometry p.cache newest.item.level 0 newest.item.root h.view.reading.nodes some (walk_is s p h newest at)) cause)
 
   pub refuse_level : (e : OpenError) → ¬ (IsLevel newest.item.level) → IsTreeCause s d e
   refuse_level e not_level = never_read s d (λ p h told. not_level (level_is s p h newest at)) e

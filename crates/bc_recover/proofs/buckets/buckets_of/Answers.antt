@@ -24,11 +24,11 @@ returns c =
     let table = s.uses.items in
     if_ok (AreMarked g s.gens.records rows table) (λ (b : Buckets). (p : Pair) → (h : IsReadOf s p) → AreKnown h.view.geometry h.view.reading b) c.opened.result
     (λ b marked p h. (
-        let r = h.view.reading in
-        let size = data_sectors p.backing_sectors h.view.backing in
-        let told : AreMarked g r.gens.records rows table b = subst (λ (gs : Gens). AreMarked g gs.records rows table b) (sym h.gens) marked in
-        let once : HasOneUse g r = subst (λ (x : Geometry). HasOneUse x r) h.geometry h.openable.once in
-        let good = subst (λ (x : Geometry). All (IsDataKey x size) (keys_of r)) h.geometry h.openable.pointers.data_keys in
-        subst (λ (x : Geometry). AreKnown x r b) (sym h.geometry) (all_known g r size rows h.index good b (told_opened g r table h.uses once rows b told))
+    let r = h.view.reading in
+    let size = data_sectors p.backing_sectors h.view.backing in
+    let told : AreMarked g r.gens.records rows table b = subst (λ (gs : Gens). AreMarked g gs.records rows table b) (sym h.gens) marked in
+    let once : HasOneUse g r = subst (λ (x : Geometry). HasOneUse x r) h.geometry h.openable.once in
+    let good = subst (λ (x : Geometry). All (IsDataKey x size) (keys_of r)) h.geometry h.openable.pointers.data_keys in
+    subst (λ (x : Geometry). AreKnown x r b) (sym h.geometry) (all_known g r size rows h.index good b (told_opened g r table h.uses once rows b told))
     ))
     (subst (λ (us : List Use). IfOk c.opened.result (AreMarked g s.gens.records rows us)) c.deref.ensures.value c.opened.ensures)
