@@ -1,5 +1,5 @@
 -- A barrier, a write and a barrier: what they leave and count, one after another.
-use Rattle.std.proofs.Common.{◌≡◌, inl, inr, ℕ, List, Option, Some, None, ap, ◌∙◌, lit<, lit≤}
+use Rattle.std.proofs.Common.{◌≡◌, ◌⊎◌, inl, inr, ℕ, List, Option, Some, None, ap, ◌∙◌, lit<, lit≤}
 use Rattle.std.specs.Prelude.{Result, Ok, Err, IsErr}
 use Rattle.bc_model.specs.Sector.{Value, Image}
 use Rattle.bc_disk.specs.Disk.{BothTold, DiskFacts, IfTold, IsCounted, IsFailedWrite, IsSettled, Torn}
@@ -42,9 +42,9 @@ module _ (at : ℕ) (values : List Value) where
 
       left : (a b : Option Image) → BothTold (λ (x y : Image). (s : ℕ) → y s ≡ x s) a b
           → IfTold b (λ held. (image : Image) → mid.may_leave image → (s : ℕ) → image s ≡ held s)
-          → IfTold a (λ held. ((image : Image) → old.may_leave image → (s : ℕ) → image s ≡ held s) → (image : Image) → new.may_leave image → Torn at values held image)
+          → IfTold a (λ held. (image : Image) → new.may_leave image → old.may_leave image ⊎ Torn at values held image)
       left None b same only = tt
       left (Some a) None same only = elim same [ ]
-      left (Some a) (Some b) same only = λ was image may.
+      left (Some a) (Some b) same only = λ image may.
           let from = two.leaves.adds image may in
-          torn_same a from.0 image (λ s. only from.0 from.1 s ∙ same s) from.2
+          inr (torn_same a from.0 image (λ s. only from.0 from.1 s ∙ same s) from.2)

@@ -1,5 +1,5 @@
 -- What the calls of `enter` leave.
-use Rattle.std.proofs.Common.{◌≡◌, ℕ, ◌*◌, ◌≤◌, true, false, List, length, Option, refl, sym, ap, ◌∙◌, subst, arith}
+use Rattle.std.proofs.Common.{◌≡◌, ◌⊎◌, inl, inr, ℕ, ◌*◌, ◌≤◌, true, false, List, length, Option, refl, sym, ap, ◌∙◌, subst, arith}
 use Rattle.std.specs.Prelude.{Result, Ok, Err, OnOk, is_err}
 use Rattle.bc_model.specs.Sector.{Image, values_of}
 use Rattle.bc_disk.specs.Device.{next_count}
@@ -42,11 +42,12 @@ module _ (read : Read) (s : Sealed) (bytes : List ℕ) (old new : DiskFacts) whe
       let g = v.geometry in
       let at = sector_at g s.place in
       let values = values_of bytes in
-      let leaves = subst (λ (o : Option Image). IfTold o (λ h. ((i : Image) → old.may_leave i → (n : ℕ) → i n ≡ h n) → (i : Image) → new.may_leave i → Torn at values h i)) held.holds partly.leaves in
+      let leaves = subst (λ (o : Option Image). IfTold o (λ h. (i : Image) → new.may_leave i → old.may_leave i ⊎ Torn at values h i)) held.holds partly.leaves in
+      let torn : Torn at values p.cache image = elim (leaves image may) [ inl before ↦ (λ n. inl (held.still image before n)) | inr torn ↦ torn ] in
       law_entered p v s.entry s.place.bucket at values view sound
       (law_next g p.cache v.reading read s bytes view.reading was.journal was.entries next are (tears s bytes next are))
       (record p { cache = image })
-      (record { cache = leaves held.still image may; backing = λ n. refl; cache_sectors = refl; backing_sectors = refl })
+      (record { cache = torn; backing = λ n. refl; cache_sectors = refl; backing_sectors = refl })
 
   pub moved : (g : Geometry) → IsNext g read s → AreBytesOf g s.entry bytes → IsPartly (sector_at g s.place) (values_of bytes) old new → KeepsThePair g read old new
   moved g next are partly p v held view sound geometry was tears =
