@@ -1,5 +1,5 @@
 -- What the calls of `enter` leave.
-use Rattle.std.proofs.Common.{◌≡◌, ◌⊎◌, inl, inr, ℕ, ◌*◌, ◌≤◌, true, false, List, length, Option, refl, sym, ap, ◌∙◌, subst, arith}
+use Rattle.std.proofs.Common.{◌≡◌, ◌⊎◌, inl, inr, ℕ, ◌<◌, ◌*◌, ◌≤◌, true, false, List, length, Option, refl, sym, ap, ◌∙◌, subst, arith}
 use Rattle.std.specs.Prelude.{Result, Ok, Err, OnOk, is_err}
 use Rattle.bc_model.specs.Sector.{Image, values_of}
 use Rattle.bc_disk.specs.Device.{next_count}
@@ -69,6 +69,7 @@ pub good_is : {E : Type 0} (P : Type 0) (r : Result (Unit {0}) E) (old new : Dis
 good_is P (Ok u) old new good holds counts = (holds, counts.0, counts.1)
 good_is P (Err e) old new good holds counts = absurd (cc)
 
-pub fault_is : {E : Type 0} (r : Result (Unit {0}) E) (old new : DiskFacts) → is_err r ≡ true → AreCounted 3 r old new → new.faults ≡ next_count old.faults
+pub fault_is : {E : Type 0} (r : Result (Unit {0}) E) (old new : DiskFacts) → is_err r ≡ true → AreCounted 3 r old new
+    → ((k : ℕ) × (0 < k) × (k ≤ 3) × (new.calls ≡ count_after k old.calls)) × (new.faults ≡ next_count old.faults)
 fault_is (Ok u) old new bad counts = absurd (cc)
-fault_is (Err e) old new bad counts = counts.1
+fault_is (Err e) old new bad counts = counts

@@ -1,5 +1,5 @@
 -- What the writing of an opening's entry leaves.
-use Rattle.std.specs.Prelude.{◌≡◌, ℕ, List, None, Some}
+use Rattle.std.specs.Prelude.{◌≡◌, ℕ, ◌<◌, ◌≤◌, List, None, Some}
 use Rattle.bc_model.specs.Sector.{Image, values_of}
 use Rattle.bc_disk.specs.Device.{next_count}
 use Rattle.bc_disk.specs.Disk.{DiskFacts}
@@ -33,9 +33,11 @@ pub record HasEntered (g : Geometry) (read : Read) (old new : DiskFacts) (journa
   pub goes_on : journal
       ≡ record next.journal { durable = numbers_of next.sealed.entry; sealed = None }
 
--- Why it isn't written: the last call failed, or none was made.
+-- Why it isn't written: one of at most three calls failed, or none was made.
 abbrev pub IsEnterCause : {C : Type 0} → (C → DiskFacts) → Read → C → C → EnterError → Type 0
-IsEnterCause facts read old new errors.Fault = (facts new).faults ≡ next_count (facts old).faults
+IsEnterCause facts read old new errors.Fault =
+    ((k : ℕ) × (0 < k) × (k ≤ 3) × ((facts new).calls ≡ count_after k (facts old).calls))
+    × ((facts new).faults ≡ next_count (facts old).faults)
 IsEnterCause facts read old new errors.Memory = new ≡ old
 IsEnterCause facts read old new errors.Odd = IsOdd read × (new ≡ old)
 
