@@ -1,0 +1,4 @@
+pub mod Left
+pub mod Open
+pub mod Close
+pub mod Idle
