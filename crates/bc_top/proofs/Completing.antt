@@ -65,7 +65,7 @@ module _ (cache cache' old new : DiskFacts) (asks : AsksForNone old) (same : IsS
   not_cause e other why = by_reading e why
 
   -- whatever superblock was read before, it asks for no cache
-  asks_the_same : (s : BackingSuper) → ReadsSuper old s → (IsPassThrough s → ⊥) → ⊥
+  pub asks_the_same : (s : BackingSuper) → ReadsSuper old s → (IsPassThrough s → ⊥) → ⊥
   asks_the_same s read never =
       let theirs = asks.2.1 in
       let there = subst (λ (bs : List ℕ). IsBackingSuper bs old.sectors asks.2.0) (same_bytes old asks.0 asks.1 theirs.0 read.0 theirs.1 read.1) theirs.2 in

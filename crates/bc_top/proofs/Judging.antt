@@ -1,10 +1,10 @@
 -- What a pair with a cache is answered.
 use Rattle.std.specs.Prelude.{Result, Ok, Err, IfErr, IsErrAnd}
-use Rattle.std.proofs.Common.{◌≡◌, ◌⊎◌, inl, inr, ℕ, ◌≤◌, Option, Some, None, refl, sym, ap, ◌∙◌, subst, arith}
+use Rattle.std.proofs.Common.{◌≡◌, ◌⊎◌, inl, inr, ℕ, ◌≤◌, List, [], Option, Some, None, refl, sym, ap, ◌∙◌, subst, arith}
 use Rattle.bc_model.specs.Sector.{Image}
 use Rattle.bc_disk.specs.Device.{HasRisen, next_count}
 use Rattle.bc_disk.specs.Disk.{BothTold, DiskFacts, IfTold}
-use Rattle.bc_disk.specs.Stream.{StreamFacts}
+use Rattle.bc_disk.specs.Stream.{BothToldText, StreamFacts}
 use Rattle.bc_disk.specs.declared.disk.Device.TheVariants as device
 use Rattle.bc_image.specs.Pair.{Pair}
 use Rattle.bc_image.specs.Sound.{ServesAlone}
@@ -19,6 +19,9 @@ use Rattle.bc_replay.proofs.Ends.{end_before}
 use Rattle.bc_replay.proofs.Once.{never_both, one_refusal}
 use Rattle.bc_replay.proofs.Opens.{held_map}
 use Rattle.bc_replay.proofs.Pairs.{backing_refused, of_both}
+use Rattle.bc_script.specs.Trace.{IsWhole, SpellAll, lines_of}
+use Rattle.bc_script.specs.declared.line.Line.{Line}
+use Rattle.bc_script.proofs.OneReading.{one_script}
 use Rattle.bc_super.specs.Division.{IsPassThrough}
 use Rattle.bc_super.specs.Reading.{ReadsSuper}
 use Rattle.bc_super.specs.declared.backing.BackingSuper.{BackingSuper}
@@ -28,11 +31,26 @@ use Rattle.bc_top.specs.Ended.{IsPutOf}
 use Rattle.bc_super.proofs.Told.{reads_before}
 use Rattle.bc_top.specs.Opened.{AreQuiet, AreStill, AsksForCache, IsAnswerTo, IsLoneCause, IsOpened, IsOpeningCause, IsPairCause, IsSameDevice, LeavesLess, SameImage}
 use Rattle.bc_top.specs.Stops.{message_of, status_of, open_stop}
-use Rattle.bc_top.specs.Top.{AnswersPair, AreSame, EndsAnswering, IsServeCause, OneHasRisen, SpellsTrace}
+use Rattle.bc_top.specs.Top.{AnswersPair, AreSame, AskSomething, EndsAnswering, IsServeCause, OneHasRisen, SpellsTrace}
 use Rattle.bc_top.specs.declared.stop.Stop.{Stop}
 use Rattle.bc_top.specs.declared.stop.Stop.TheVariants as stop
 use Rattle.bc_top.proofs.Completing.{never_refused}
 use Rattle.bc_top.proofs.Settled.{both_same, next_risen}
+
+-- ---- the lines that the source tells
+
+spelled_as : (a b : Option (List ℕ)) (text : List ℕ) (lines : List Line) → a ≡ Some text
+    → BothToldText (λ text left. (left ≡ []) × SpellAll (lines_of text) lines) a b
+    → SpellAll (lines_of text) lines
+spelled_as None b text lines is both = absurd (cc)
+spelled_as (Some x) None text lines is both = absurd both
+spelled_as (Some x) (Some y) text lines is both =
+    let same : x ≡ text = cc in subst (λ (t : List ℕ). SpellAll (lines_of t) lines) same both.1
+
+pub same_lines : (source left : StreamFacts) (lines : List Line) → IsWhole source left lines
+    → (spelled : SpellsTrace source) → lines ≡ spelled.2.0
+same_lines source left lines whole spelled = one_script (lines_of spelled.0) lines spelled.2.0
+    (spelled_as source.text left.text spelled.0 lines spelled.1 whole.0) spelled.2.1
 
 -- ---- the pair that two devices hold
 
@@ -208,20 +226,25 @@ unserved_none p (inr x) = x.0
 -- a call that ended so before its run has answered the pair
 pub stopped_answers : (cache cache' backing backing' : DiskFacts) → AreSame cache cache' backing backing' → (source left : StreamFacts) (why : Stop) → IsServeCause why source left cache cache' backing backing'
     → (status : Status) (old new : StreamFacts) → status ≡ status_of why → IsPutOf (message_text (message_of why)) old new → AnswersPair source left cache cache' backing backing' status old new
-stopped_answers cache cache' backing backing' same source left why cause status old new is put = λ spells quiet still.
-    held_map (λ p. (why ≡ stop.Memory) ⊎ IsAnswerTo p why) (λ p. (ServesAlone p → ⊥) → EndsAnswering p status old new) cache backing (λ p answered never. ends p answered)
-    (served cache cache' backing backing' same still source left why spells quiet cause)
+stopped_answers cache cache' backing backing' same source left why cause status old new is put = λ spelled quiet still.
+    held_map (λ p. (why ≡ stop.Memory) ⊎ IsAnswerTo p why) (λ p. (ServesAlone p → ⊥) → EndsAnswering p spelled.2.0 status old new) cache backing (λ p answered never. ends spelled p answered)
+    (served cache cache' backing backing' same still source left why spelled quiet cause)
   where
-    ends : (p : Pair) → (why ≡ stop.Memory) ⊎ IsAnswerTo p why → EndsAnswering p status old new
-    ends p (inl memory) = inl (is ∙ (let nine : status_of why ≡ statuses.Memory = subst (λ (x : Stop). status_of x ≡ statuses.Memory) (sym memory) refl in nine))
-    ends p (inr answer) = inr (why, answer, is, put)
+    asked : (spelled : SpellsTrace source) → why ≡ stop.Unserved → AskSomething spelled.2.0
+    asked spelled unserved =
+        let read = (subst (λ (x : Stop). IsServeCause x source left cache cache' backing backing') unserved cause).0 in
+        subst AskSomething (same_lines source left read.0 read.2 spelled) read.3
+
+    ends : (spelled : SpellsTrace source) (p : Pair) → (why ≡ stop.Memory) ⊎ IsAnswerTo p why → EndsAnswering p spelled.2.0 status old new
+    ends spelled p (inl memory) = inl (is ∙ (let nine : status_of why ≡ statuses.Memory = subst (λ (x : Stop). status_of x ≡ statuses.Memory) (sym memory) refl in nine))
+    ends spelled p (inr answer) = inr (inl (why, answer, asked spelled, is, put))
 
 -- nor does one that had no memory answer otherwise
 pub nine_answers : (source left : StreamFacts) (cache cache' backing backing' : DiskFacts) (status : Status) (old new : StreamFacts) → status ≡ statuses.Memory → AnswersPair source left cache cache' backing backing' status old new
-nine_answers source left cache cache' backing backing' status old new nine = λ spells quiet still. held_all (λ p. (ServesAlone p → ⊥) → EndsAnswering p status old new) cache backing (λ p never. inl nine)
+nine_answers source left cache cache' backing backing' status old new nine = λ spelled quiet still. held_all (λ p. (ServesAlone p → ⊥) → EndsAnswering p spelled.2.0 status old new) cache backing (λ p never. inl nine)
 
 -- where a run began the backing device serves alone
 pub alone_answers : (source left : StreamFacts) (cache cache' backing backing' : DiskFacts) (s : BackingSuper) → ReadsSuper backing s → IsPassThrough s → (status : Status) (old new : StreamFacts) → AnswersPair source left cache cache' backing backing' status old new
-alone_answers source left cache cache' backing backing' s reads alone status old new = λ spells quiet still.
-    of_both (λ p. (ServesAlone p → ⊥) → EndsAnswering p status old new) cache backing (λ c b tells told never.
+alone_answers source left cache cache' backing backing' s reads alone status old new = λ spelled quiet still.
+    of_both (λ p. (ServesAlone p → ⊥) → EndsAnswering p spelled.2.0 status old new) cache backing (λ c b tells told never.
     absurd (never (s, backing_read backing (pair_of cache backing c b) s told refl (has_room backing s reads) reads, alone)))

@@ -7,3 +7,4 @@ pub mod Checking
 pub mod Completing
 pub mod Unread
 pub mod Judging
+pub mod Idle

@@ -9,6 +9,7 @@ use Rattle.bc_output.specs.declared.message.Message.{Message}
 use Rattle.bc_output.specs.declared.status.Status.TheVariants as statuses
 use Rattle.bc_words.specs.declared.command.Command.{Command}
 use Rattle.bc_top.specs.Ended.{HasStopped, IsPutOf}
+use Rattle.bc_top.specs.Idle.{HasOpened}
 use Rattle.bc_top.specs.Opened.{AsksForNone}
 use Rattle.bc_top.specs.Stops.{IsRefusal, message_of, status_of}
 use Rattle.bc_top.specs.Top.{AnswersPair, AreSame, Does, IsCheck, IsServeCause, LacksMemory, OneHasRisen, SpellsTrace}
@@ -44,12 +45,18 @@ module _ {C B : Type 0} (cache_facts : C → DiskFacts) (backing_facts : B → D
       Does cache_facts backing_facts command it.status cache it.cache backing it.backing old new
       ⊎ LacksMemory it.status cache it.cache backing it.backing old new
 
-  -- Where no run began the status has its cause, the message was put, and no sector was written.
-  abbrev pub HasNotBegun : StreamFacts → StreamFacts → StreamFacts → StreamFacts → Type 0
-  HasNotBegun source left old new = IsNone it.pass → (stop : Stop) × (it.status ≡ status_of stop)
+  -- the status has its cause, the message was put, and no sector was written
+  abbrev pub IsStopped : StreamFacts → StreamFacts → StreamFacts → StreamFacts → Type 0
+  IsStopped source left old new = (stop : Stop) × (it.status ≡ status_of stop)
       × IsServeCause stop source left (cache_facts cache) (cache_facts it.cache)
       (backing_facts backing) (backing_facts it.backing)
       × IsPutOf (message_text (message_of stop)) old new × IsUnwritten
+
+  -- Where no run began it is so, or the trace asks for nothing and the pair was opened and closed.
+  abbrev pub HasNotBegun : StreamFacts → StreamFacts → StreamFacts → StreamFacts → Type 0
+  HasNotBegun source left old new = IsNone it.pass → IsStopped source left old new
+      ⊎ HasOpened cache_facts backing_facts it.status source left cache it.cache backing it.backing
+      old new
 
   -- what is refused is refused before anything is written
   abbrev pub KeepsWhatItRefuses : Type 0
@@ -64,7 +71,8 @@ module _ {C B : Type 0} (cache_facts : C → DiskFacts) (backing_facts : B → D
       → (HasStopped old new → ⊥)
       → (it.status ≡ statuses.Done) ⊎ (it.status ≡ statuses.Memory)
 
-  -- a pair that needs its cache is answered by its first refusal, or that it isn't served
+  -- A pair that needs its cache is answered by its first refusal, or that it isn't served, or, where
+  -- the trace asks for nothing, it is opened and closed.
   abbrev pub IsJudged : StreamFacts → StreamFacts → StreamFacts → StreamFacts → Type 0
   IsJudged source left old new = AnswersPair source left (cache_facts cache) (cache_facts it.cache)
       (backing_facts backing) (backing_facts it.backing) it.status old new

@@ -4,4 +4,6 @@ pub mod Opened
 pub mod Stops
 pub mod Pairs
 pub mod Top
+pub mod Idle
+pub mod Ready
 pub mod Call

@@ -1,14 +1,18 @@
 -- The words of a command, and why a trace isn't served.
-use Rattle.std.specs.Prelude.{◌≡◌, ◌⊎◌, ℕ, Bool, List, Some, map, string_bytes, String}
+use Rattle.std.specs.Prelude.{◌≡◌, ◌≢◌, ◌⊎◌, ℕ, All, Any, Bool, List, Some, map, string_bytes, String}
 use Rattle.std.specs.declared.alloc.Global.{Global}
 use Rattle.bc_disk.specs.Device.{HasRisen}
 use Rattle.bc_disk.specs.Disk.{DiskFacts}
 use Rattle.bc_disk.specs.Stream.{StreamFacts}
 use Rattle.bc_image.specs.Pair.{Pair}
+use Rattle.bc_image.specs.Reading.{IsView, View}
 use Rattle.bc_image.specs.Sound.{ServesAlone}
 use Rattle.bc_replay.specs.Causes.{OfHeld}
+use Rattle.bc_replay.specs.Survey.{IsFirst}
+use Rattle.bc_replay.specs.declared.error.OpenError.{OpenError}
 use Rattle.bc_script.specs.Trace.{IsCause, IsTrace, IsWhole, SpellAll, lines_of}
 use Rattle.bc_script.specs.declared.line.Line.{Line}
+use Rattle.bc_script.specs.declared.line.Line.TheVariants as line
 use Rattle.bc_script.specs.declared.script.TraceError.TheVariants as trace
 use Rattle.bc_pair.specs.declared.pair.NewPair.{NewPair}
 use Rattle.bc_words.specs.Words.{IsInRange, Spells}
@@ -84,7 +88,17 @@ abbrev pub AreUncalled : DiskFacts → DiskFacts → DiskFacts → DiskFacts →
 AreUncalled cache cache' backing backing' =
     (cache'.calls ≡ cache.calls) × (backing'.calls ≡ backing.calls)
 
--- the whole trace was read before
+-- a line that asks for something, and lines of which none does
+abbrev pub AskSomething : List Line → Type 0
+AskSomething lines = Any (λ l. l ≢ line.Silent) lines
+
+abbrev pub AskNothing : List Line → Type 0
+AskNothing lines = All (λ l. l ≡ line.Silent) lines
+
+-- the whole trace was read before; its lines are such
+abbrev pub WasReadAs : (List Line → Type 0) → StreamFacts → StreamFacts → Type 0
+WasReadAs P source left = (lines : List Line) × IsTrace lines × IsWhole source left lines × P lines
+
 abbrev pub WasRead : StreamFacts → StreamFacts → Type 0
 WasRead source left = (lines : List Line) × IsTrace lines × IsWhole source left lines
 
@@ -106,6 +120,8 @@ IsServeCause stop.Memory source left cache cache' backing backing' =
     (IsCause source left trace.Memory × AreUncalled cache cache' backing backing')
     ⊎ (WasRead source left × (LacksRun cache cache' backing backing'
     ⊎ IsOpeningCause cache cache' backing backing' stop.Memory))
+IsServeCause stop.Unserved source left cache cache' backing backing' =
+    WasReadAs AskSomething source left × IsOpeningCause cache cache' backing backing' stop.Unserved
 IsServeCause why source left cache cache' backing backing' =
     WasRead source left × IsOpeningCause cache cache' backing backing' why
 
@@ -114,16 +130,26 @@ abbrev pub OneHasRisen : DiskFacts → DiskFacts → DiskFacts → DiskFacts →
 OneHasRisen cache cache' backing backing' =
     HasRisen cache.faults cache'.faults ⊎ HasRisen backing.faults backing'.faults
 
+-- the newest entry of the journal still needs one of number 0, which no tool writes
+abbrev pub NeedsFirst : Pair → Type 0
+NeedsFirst p = (v : View) × IsView p v × (v.reading.newest.item.last_seq ≡ 0)
+
+-- A pair that nothing refuses was opened and closed, and nothing was printed.
+abbrev pub EndsIdle : Pair → Status → StreamFacts → StreamFacts → Type 0
+EndsIdle p status old new = ((error : OpenError) → IsFirst p error → ⊥)
+    × (((status ≡ statuses.Done) × (new ≡ old)) ⊎ ((status ≡ statuses.Image) × NeedsFirst p))
+
 -- So it ended, or there was no memory.
-abbrev pub EndsAnswering : Pair → Status → StreamFacts → StreamFacts → Type 0
-EndsAnswering p status old new = (status ≡ statuses.Memory)
-    ⊎ ((why : Stop) × IsAnswerTo p why × (status ≡ status_of why)
-    × IsPutOf (message_text (message_of why)) old new)
+abbrev pub EndsAnswering : Pair → List Line → Status → StreamFacts → StreamFacts → Type 0
+EndsAnswering p lines status old new = (status ≡ statuses.Memory)
+    ⊎ ((why : Stop) × IsAnswerTo p why × (why ≡ stop.Unserved → AskSomething lines)
+    × (status ≡ status_of why) × IsPutOf (message_text (message_of why)) old new)
+    ⊎ (AskNothing lines × EndsIdle p status old new)
 
 -- Where the source tells a trace and no call of the source or of a device fails, the pair that both
 -- devices hold is so answered, if it isn't served by the backing device alone.
 abbrev pub AnswersPair : StreamFacts → StreamFacts → DiskFacts → DiskFacts → DiskFacts → DiskFacts
     → Status → StreamFacts → StreamFacts → Type 0
-AnswersPair source left cache cache' backing backing' status old new = SpellsTrace source
+AnswersPair source left cache cache' backing backing' status old new = (spelled : SpellsTrace source)
     → (HasRisen source.faults left.faults → ⊥) → (OneHasRisen cache cache' backing backing' → ⊥)
-    → OfHeld (λ p. (ServesAlone p → ⊥) → EndsAnswering p status old new) cache backing
+    → OfHeld (λ p. (ServesAlone p → ⊥) → EndsAnswering p spelled.2.0 status old new) cache backing

@@ -1,13 +1,19 @@
 //! The command that serves a trace.
-ghost use Rattle.std.specs.Prelude.{◌≡◌, IfOk, IfErr, IfSome};
+ghost use Rattle.std.specs.Prelude.{◌≡◌, ◌*◌, ◌≤◌, false, true, IfOk, IfErr, IfSome};
+ghost use Rattle.std.specs.Bool.{MatchBool};
 ghost use Rattle.bc_disk.specs.Device.{HasRisen};
 ghost use Rattle.bc_script.specs.Trace.{IsTrace, IsWhole};
 ghost use Rattle.bc_top.specs.Ended.{HasStopped};
-ghost use Rattle.bc_super.specs.Division.{IsPassThrough};
-ghost use Rattle.bc_top.specs.Opened.{IsOpened, IsOpeningCause};
+ghost use Rattle.bc_open.specs.Left.{LeavesThePair};
+ghost use Rattle.bc_recover.specs.Read.{HasParts, IsReadOf};
+ghost use Rattle.bc_replay.specs.Causes.{OfHeld};
+ghost use Rattle.bc_super.specs.Reading.{ReadsSuper};
+ghost use Rattle.bc_top.specs.Opened.{IsOpeningCause};
+ghost use Rattle.bc_top.specs.Idle.{EndsOpening};
+ghost use Rattle.bc_top.specs.Ready.{IsCached, IsReady};
 ghost use Rattle.bc_top.specs.Run.{HasServed};
 ghost use Rattle.bc_top.specs.Call.{Completes, DeviceRose, HasNotBegun, IsJudged, KeepsWhatItRefuses};
-ghost use Rattle.bc_top.specs.Top.{AreSame, IsServeCause};
+ghost use Rattle.bc_top.specs.Top.{AreSame, AskNothing, AskSomething, IsServeCause};
 
 use crate::ending::report;
 use crate::exit::Exit;
@@ -16,7 +22,9 @@ use crate::stop::{Stop, tell};
 use bc_disk::disk::Disk;
 use bc_disk::stream::{Sink, Source};
 use bc_machine::part::BackingPart;
+use bc_open::open_and_close;
 use bc_output::status::Status;
+use bc_replay::Survey;
 use bc_script::line::Line;
 use bc_script::trace::read_trace;
 use bc_serve::running::run_trace;
@@ -25,33 +33,61 @@ use bc_worker::gate::NoGate;
 use std::alloc::Global;
 use std::sync::Wait;
 
-// What a run is made of.
+// What stands ready of a pair.
+#[derive(Drop)]
+enum Opening {
+    // The backing device serves alone, with this superblock.
+    Alone(BackingSuper),
+    // It has a cache, and the pair can be opened.
+    Cached(BackingSuper, Survey),
+}
+
+// What a call is made of.
 #[derive(Drop)]
 struct Prepared {
     lines: Vec<Line>,
-    superblock: BackingSuper,
+    opening: Opening,
 }
 
-// Opens the pair for a run over the backing device alone.
+// Whether a line asks for something.
+fn ask_something(lines: &[Line]) -> bool
+    ensures { MatchBool result (AskSomething lines.now) (AskNothing lines.now) }
+{
+    for line in lines {
+        match line {
+            Line::Silent => {}
+            Line::Request { .. } => return true,
+        }
+    }
+    false
+}
+
+// Opens the pair for a run over the backing device alone, or tests it for an opening. A pair with a
+// cache of which something is asked isn't served yet.
 fn open<C: Disk, B: Disk>(
     alloc: Global,
     cache: &mut C,
     backing: &mut B,
-) -> Result<BackingSuper, Stop>
-    ensures opened { IfOk result (λ s. IsPassThrough s
-        × IsOpened s (B.facts backing.old) (B.facts backing.new)) }
-    ensures cache { IfOk result (λ _. cache.new ≡ cache.old) }
+    asked: bool,
+) -> Result<Opening, Stop>
+    ensures ready { IfOk result (IsReady C.facts B.facts cache.old cache.new
+        backing.old backing.new) }
+    ensures idle { IfOk result (λ o. IsCached o → asked ≡ false) }
+    ensures unserved { IfErr result (λ stop. stop ≡ Stop.Unserved → asked ≡ true) }
     ensures cause { IfErr result (IsOpeningCause (C.facts cache.old) (C.facts cache.new)
         (B.facts backing.old) (B.facts backing.new)) }
     ensures same { AreSame (C.facts cache.old) (C.facts cache.new) (B.facts backing.old)
         (B.facts backing.new) }
 {
     let superblock = open_backing(backing)?;
-    if !superblock.is_pass_through() {
-        test_pair(alloc, cache, backing)?;
+    if superblock.is_pass_through() {
+        return Ok(Opening::Alone(superblock));
+    }
+    let survey = test_pair(alloc, cache, backing)?;
+    if asked {
         return Err(Stop::Unserved);
     }
-    Ok(superblock)
+    Ok(Opening::Cached(superblock, survey))
 }
 
 // Reads the whole trace, then the pair.
@@ -63,20 +99,45 @@ fn prepare<C: Disk, B: Disk, S: Source>(
 ) -> Result<Prepared, Stop>
     ensures lines { IfOk result (λ p. IsTrace p.lines.items
         × IsWhole (S.facts trace.old) (S.facts trace.new) p.lines.items) }
-    ensures opened { IfOk result (λ p. IsPassThrough p.superblock
-        × IsOpened p.superblock (B.facts backing.old) (B.facts backing.new)) }
-    ensures cache { IfOk result (λ _. cache.new ≡ cache.old) }
+    ensures ready { IfOk result (λ p. IsReady C.facts B.facts cache.old cache.new
+        backing.old backing.new p.opening) }
+    ensures idle { IfOk result (λ p. IsCached p.opening → AskNothing p.lines.items) }
     ensures cause { IfErr result (λ stop. IsServeCause stop (S.facts trace.old) (S.facts trace.new)
         (C.facts cache.old) (C.facts cache.new) (B.facts backing.old) (B.facts backing.new)) }
     ensures same { AreSame (C.facts cache.old) (C.facts cache.new) (B.facts backing.old)
         (B.facts backing.new) }
 {
     let script = read_trace(alloc, trace)?;
-    let superblock = open(alloc, cache, backing)?;
-    Ok(Prepared {
-        lines: script.into_lines(),
-        superblock,
-    })
+    let lines = script.into_lines();
+    let asked = ask_something(&lines);
+    let opening = open(alloc, cache, backing, asked)?;
+    Ok(Prepared { lines, opening })
+}
+
+// Opens a pair that was tested, closes it, and answers the status; where that fails the message is
+// put.
+fn open_idle<C: Disk, B: Disk, K: Sink>(
+    alloc: Global,
+    cache: &mut C,
+    backing: &mut B,
+    superblock: &BackingSuper,
+    survey: &Survey,
+    out: &mut K,
+) -> Status
+    requires reads { ReadsSuper (B.facts backing.old) superblock.now }
+    requires parts { HasParts survey.now }
+    requires room { survey.now.supers.geometry.bucket * survey.now.supers.geometry.nbuckets
+        ≤ (C.facts cache.old).sectors }
+    requires read { OfHeld (IsReadOf survey.now) (C.facts cache.old) (B.facts backing.old) }
+    ensures ends { EndsOpening C.facts B.facts superblock.now survey.now cache.old cache.new
+        backing.old backing.new result (K.facts out.old) (K.facts out.new) }
+    ensures left { LeavesThePair (C.facts cache.old) (C.facts cache.new)
+        (B.facts backing.old) (B.facts backing.new) }
+{
+    match open_and_close(alloc, cache, backing, superblock, survey) {
+        Ok(()) => Status::Done,
+        Err(error) => tell(&Stop::from(error), out),
+    }
 }
 
 /// Serves a trace over a backing device alone. Its superblock has to ask for no cache, and then the
@@ -84,8 +145,9 @@ fn prepare<C: Disk, B: Disk, S: Source>(
 ///
 /// The whole trace is read first, then the superblock of the backing device and, where it asks for
 /// a cache, all of the pair but its data; the first of these that is refused ends the call with a
-/// message, as does a cache, which isn't served yet, and no sector is written. Then each line is
-/// served in order, a last barrier is made, and the answers are put in order.
+/// message, as does a cache of which a line asks something, which isn't served yet, and no sector is
+/// written. Then each line is served in order, a last barrier is made, and the answers are put in
+/// order. A pair with a cache of which no line asks anything is opened and closed.
 pub fn serve<R: Wait, C: Disk + Drop, B: Disk + Drop, S: Source, K: Sink>(
     rt: &R,
     alloc: Global,
@@ -96,7 +158,8 @@ pub fn serve<R: Wait, C: Disk + Drop, B: Disk + Drop, S: Source, K: Sink>(
 ) -> Exit<C, B>
     ensures cache { IfSome result.pass (λ _. result.cache ≡ cache) }
 
-    // Where no run began the status has its cause, the message was put, and no sector was written.
+    // Where no run began the status has its cause, the message was put, and no sector was written; or
+    // a pair with a cache was opened and closed, and whatever a crash leaves shows what it showed.
     ensures stopped { HasNotBegun C.facts B.facts cache backing result
         (S.facts trace.old) (S.facts trace.new) (K.facts out.old) (K.facts out.new) }
     ensures unwritten { KeepsWhatItRefuses C.facts B.facts cache backing result }
@@ -118,8 +181,8 @@ pub fn serve<R: Wait, C: Disk + Drop, B: Disk + Drop, S: Source, K: Sink>(
     ensures complete { Completes C.facts B.facts cache backing result
         (S.facts trace.old) (S.facts trace.new) (K.facts out.old) (K.facts out.new) }
 
-    // A pair with a cache is answered by its first refusal, and where it has none that it isn't
-    // served.
+    // A pair with a cache is answered by its first refusal. Where it has none it isn't served yet,
+    // and if nothing is asked of it, it is opened and closed.
     ensures judged { IsJudged C.facts B.facts cache backing result
         (S.facts trace.old) (S.facts trace.new) (K.facts out.old) (K.facts out.new) }
 {
@@ -136,14 +199,27 @@ pub fn serve<R: Wait, C: Disk + Drop, B: Disk + Drop, S: Source, K: Sink>(
             };
         }
     };
-    let offset = prepared.superblock.data_offset;
-    let size = prepared.superblock.data_sectors(backing.sectors());
+    let Prepared { lines, opening } = prepared;
+    let superblock = match opening {
+        Opening::Alone(superblock) => superblock,
+        Opening::Cached(superblock, survey) => {
+            let status = open_idle(alloc, &mut cache, &mut backing, &superblock, &survey, out);
+            return Exit {
+                status,
+                cache,
+                backing,
+                pass: None,
+            };
+        }
+    };
+    let offset = superblock.data_offset;
+    let size = superblock.data_sectors(backing.sectors());
     let backing = BackingPart {
         disk: backing,
         offset,
         size,
     };
-    match run_trace::<C, B, R, NoGate>(rt, alloc, backing, &prepared.lines, &NoGate) {
+    match run_trace::<C, B, R, NoGate>(rt, alloc, backing, &lines, &NoGate) {
         Ok(outcome) => Exit {
             status: report(alloc, &outcome.answers, outcome.closing, out),
             cache,

@@ -53,7 +53,8 @@ pub fn bcache<R: Wait, C: Disk + Drop, B: Disk + Drop, S: Source, K: Sink>(
     // A run began only where a trace is served, and then the cache device isn't touched.
     ensures cache { IfSome result.pass (λ _. IsServe words.now × (result.cache ≡ cache)) }
 
-    // Where no run began the status has its cause, the message was put, and no sector was written.
+    // Where no run began the status has its cause, the message was put, and no sector was written; or
+    // a pair with a cache was opened and closed, and whatever a crash leaves shows what it showed.
     ensures stopped { IsServe words.now → HasNotBegun C.facts B.facts cache backing result
         (S.facts trace.old) (S.facts trace.new) (K.facts out.old) (K.facts out.new) }
     ensures unwritten { KeepsWhatItRefuses C.facts B.facts cache backing result }
@@ -74,8 +75,8 @@ pub fn bcache<R: Wait, C: Disk + Drop, B: Disk + Drop, S: Source, K: Sink>(
     ensures complete { IsServe words.now → Completes C.facts B.facts cache backing result
         (S.facts trace.old) (S.facts trace.new) (K.facts out.old) (K.facts out.new) }
 
-    // A pair with a cache is answered by its first refusal, and where it has none that it isn't
-    // served.
+    // A pair with a cache is answered by its first refusal. Where it has none it isn't served yet,
+    // and if nothing is asked of it, it is opened and closed.
     ensures judged { IsServe words.now → IsJudged C.facts B.facts cache backing result
         (S.facts trace.old) (S.facts trace.new) (K.facts out.old) (K.facts out.new) }
 

@@ -5,6 +5,8 @@ use Rattle.bc_top.specs.Opened.{IsPairCause}
 use Rattle.bc_top.proofs.Judging.{held_settled, survey_cause}
 use Rattle.std.proofs.Common.{inl}
 use Rattle.bc_top.proofs.Settled.{same_kept, same_settled, still_kept, stands}
+use Rattle.bc_recover.specs.Read.{IsReadOf}
+use Rattle.bc_top.proofs.Idle.{held_after}
 use Rattle.bc_top.proofs.opening.test_pair.Goals as goal
 
 pub returns-clause-opened : goal.returns-clause-opened
@@ -44,3 +46,15 @@ returns-in_err-survey-clause-cache_same g c =
 
 pub returns-in_err-survey-clause-backing_same : goal.returns-in_err-survey-clause-backing_same
 returns-in_err-survey-clause-backing_same g c = same_kept (g.B.Disk.facts c.args.backing.now) (g.B.Disk.facts c.survey.new.backing) c.in_err-survey.ensures.backing_kept
+
+pub returns-clause-read : goal.returns-clause-read
+returns-clause-read g c =
+    held_after (IsReadOf c.in_ok-survey.survey) (g.C.Disk.facts c.barrier.new.self)
+    (g.C.Disk.facts c.survey.new.cache) (g.B.Disk.facts c.args.backing.now)
+    (g.B.Disk.facts c.survey.new.backing) c.in_ok-survey.ensures.cache_kept
+    c.in_ok-survey.ensures.backing_kept c.in_ok-survey.ensures.found
+
+pub returns-clause-cache_same : goal.returns-clause-cache_same
+returns-clause-cache_same g c =
+    same_settled (g.C.Disk.facts c.args.cache.now) (g.C.Disk.facts c.barrier.new.self)
+    (g.C.Disk.facts c.survey.new.cache) c.in-Ok.ensures.ok c.in_ok-survey.ensures.cache_kept

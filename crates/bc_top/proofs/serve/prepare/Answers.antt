@@ -1,3 +1,6 @@
+use Rattle.std.proofs.Common.{◌∙◌, subst}
+use Rattle.bc_top.specs.Top.{AskSomething}
+use Rattle.bc_top.proofs.Idle.{asks}
 use Rattle.bc_top.specs.Stops.{trace_stop}
 use Rattle.bc_top.specs.Top.{IsServeCause}
 use Rattle.bc_top.specs.declared.stop.Stop.{Stop}
@@ -16,16 +19,20 @@ returns-in_err-script-clause-cause g c =
     turned c.from_residual.result (trace_stop e) (λ (why : Stop). IsServeCause why source left cache cache backing backing)
     c.from_residual.ensures.1 (unread source left cache backing e c.in_err-script.ensures.cause)
 
-pub returns-in_err-superblock-clause-cause : goal.returns-in_err-superblock-clause-cause
-returns-in_err-superblock-clause-cause g c =
+pub returns-in_err-opening-clause-cause : goal.returns-in_err-opening-clause-cause
+returns-in_err-opening-clause-cause g c =
     let source = g.S.Source.facts c.args.trace.now in
     let left = g.S.Source.facts c.read_trace.new.source in
     let cache = g.C.Disk.facts c.args.cache.now in
     let cache' = g.C.Disk.facts c.open.new.cache in
     let backing = g.B.Disk.facts c.args.backing.now in
     let backing' = g.B.Disk.facts c.open.new.backing in
-    let why = c.in_err-superblock.field-0.0 in
-    turned c.from_residual-in_err-superblock.result why (λ (why : Stop). IsServeCause why source left cache cache' backing backing')
-    c.from_residual-in_err-superblock.ensures.1
+    let why = c.in_err-opening.field-0.0 in
+    turned c.from_residual-in_err-opening.result why (λ (why : Stop). IsServeCause why source left cache cache' backing backing')
+    c.from_residual-in_err-opening.ensures.1
     (open_cause source left cache cache' backing backing'
-    (c.in_ok-script.script, c.in_ok-script.ensures.trace, c.in_ok-script.ensures.whole) why c.in_err-superblock.ensures.cause)
+    (c.in_ok-script.script, c.in_ok-script.ensures.trace, c.in_ok-script.ensures.whole) why
+    (λ is. subst AskSomething (c.deref.ensures.value ∙ c.into_lines-lines.ensures)
+    (asks c.ask_something-asked.result c.deref.result.now (c.in_err-opening.ensures.unserved is)
+    c.ask_something-asked.ensures))
+    c.in_err-opening.ensures.cause)

@@ -34,7 +34,7 @@ returns-in-Err-clause-stopped g c = λ serves none.
     let lacking = lacks {cache = c.args.cache} {backing = c.args.backing} _ c.in-Err.error _ (Serve serves.0)
     (at_error (λ e. IsCause (map string_bytes c.args.words.now) e) c.read_words.result c.in-Err.error c.in-Err.is c.read_words.ensures.refused) serves.1 (c.tell.ensures.status ∙ ap (λ (s : Stop). status_of s) c.from.ensures)
     (subst (λ (s : Stop). IsPutOf (message_text (message_of s)) (g.K.Sink.facts c.args.out.now) (g.K.Sink.facts c.tell.new.out)) c.from.ensures c.tell.ensures.put) in
-    (stop.Memory, lacking.status_is, inl (refl, (refl, refl)), lacking.told, (same_self (g.C.Disk.facts c.args.cache), same_self (g.B.Disk.facts c.args.backing)))
+    inl (stop.Memory, lacking.status_is, inl (refl, (refl, refl)), lacking.told, (same_self (g.C.Disk.facts c.args.cache), same_self (g.B.Disk.facts c.args.backing)))
 
 pub returns-in-Err-clause-complete : goal.returns-in-Err-clause-complete
 returns-in-Err-clause-complete g c = λ serves spells asks quiet still takes.
