@@ -45,3 +45,8 @@ command format --set 5e70000000000000000000000000005e --cuuid ca0000000000000000
     --buuid ba0000000000000000000000000000ba --block 1 --bucket 64
 command show
 command check --list
+echo
+echo "Served with a trace that asks for nothing, the pair is opened and closed; its journal has an entry more:"
+echo "    bcache CACHE BACKING serve < /dev/null"
+"$bcache" "$folder/cache2.img" "$folder/backing2.img" serve < /dev/null
+command check

@@ -153,6 +153,16 @@ try_words 'an offset behind the last sector' 4 'superblock backing 14' cache.img
 try_words 'adopt of a pair in use' 4 'superblock cache 18' cache.img backing.img adopt
 try_words 'show to a sink that takes it' 0 "$("$bcache" cache.img backing.img show)" cache.img backing.img show
 try_trace 'a pair with a cache' 5 'unserved' '1 w 0 1 1\n'
+# A pair of which nothing is asked is opened and closed: its data stay, and it is sound and clean again.
+data=$(tail -c +8193 backing.img | sha256sum)
+for trace in '' '# nothing\n-\n'; do
+    cases=$((cases + 1))
+    if [ "$(printf '%b' "$trace" | "$bcache" cache.img backing.img serve; echo "$?")" != 0 ] || [ "$(tail -c +8193 backing.img | sha256sum)" != "$data" ] ||
+        [ "$("$bcache" cache.img backing.img check)" != 'check sound dirty 0 clean 0' ] || ! "$bcache" cache.img backing.img show | grep -q 'state clean$'; then
+        echo "a pair that is opened and closed by '$trace' differs"
+        differing=$((differing + 1))
+    fi
+done
 # The first sector of bucket 10 has the table of uuids, and that of bucket 1 the journal's only entry.
 dd if=/dev/zero of=cache.img bs=32K seek=10 count=1 conv=notrunc status=none
 try_trace 'a pair without a table of uuids' 5 'image 11' '1 w 0 1 1\n'
@@ -193,6 +203,12 @@ if command -v strace > /dev/null && strace -o calls true 2> /dev/null; then
     try_barriers 'two flushes' 0 4 2 cache.img backing.img serve
     printf '1 W 0 1 1\n1 W 255 258 2\n' > trace
     try_barriers 'a forced write of one piece and one of three' 0 6 2 cache.img backing.img serve
+    # A pair with a cache: the entry of the opening is written between two barriers, and the state of the backing device is stable
+    # after the opening and after the closing.
+    truncate -s 4M cache.img
+    "$bcache" cache.img backing.img format "${ids[@]}" --block 1 --bucket 64
+    : > trace
+    try_barriers 'a pair that is opened and closed' 3 4 1 cache.img backing.img serve
 else
     echo 'strace is not here, so no barrier was counted'
 fi

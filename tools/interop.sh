@@ -103,7 +103,8 @@ adopted() {
     expect 'the state' "$(field backing.img dev.data.cache_state)" 1
     command_is 0 "$(shown 3 "$journal" 1 "$offset" "$version" "$mode" clean)" show
     command_is 4 'superblock cache 18' adopt
-    command_is 5 unserved serve
+    command_is 0 '' serve
+    expect 'the state of a pair that was opened and closed' "$(field backing.img dev.data.cache_state)" 1
     command_is 0 'check sound dirty 0 clean 0' check
     expect 'the backing device but for its superblock, at the end' "$(others)" "$before"
 }
