@@ -32,6 +32,7 @@ backing uuid ba0000000000000000000000000000ba set 5e7000000000000000000000000000
 ";
 
 /// A pair as two images: what `check` and `show` print of it once it is closed.
+#[derive(Drop)]
 struct Row {
     cache: Vec<u8>,
     backing: Vec<u8>,
