@@ -163,29 +163,21 @@ fn test_crash<R: Abort + Wait>(
     };
     let ran = test_run(rt, alloc, left, "check", row.check, 0)?;
     let ran = test_idle(rt, alloc, "", ran)?;
-    test_closed(rt, alloc, row, ran)?;
+    let ran = test_run(rt, alloc, ran, "show", row.show, 0)?;
+    assert!(rt; same_data(ran.backing.bytes(), &row.backing));
     Ok(())
 }
 
-// The same of each crash.
+// The same of three crashes.
 fn test_crashes<R: Abort + Wait>(
     rt: &R,
     alloc: Global,
     row: &Row,
     pair: &Pair,
 ) -> Result<(), Fail> {
-    for pick in [
-        Pick::Stable,
-        Pick::Newest,
-        Pick::Mixed(1),
-        Pick::Mixed(2),
-        Pick::Mixed(3),
-    ] {
-        test_crash(rt, alloc, row, pair, (pick, Pick::Stable))?;
-        test_crash(rt, alloc, row, pair, (Pick::Stable, pick))?;
-        test_crash(rt, alloc, row, pair, (pick, pick))?;
-    }
-    Ok(())
+    test_crash(rt, alloc, row, pair, (Pick::Stable, Pick::Newest))?;
+    test_crash(rt, alloc, row, pair, (Pick::Newest, Pick::Stable))?;
+    test_crash(rt, alloc, row, pair, (Pick::Mixed(1), Pick::Mixed(2)))
 }
 
 // Serves a trace that asks for nothing over a pair of which a call fails, or is the last. Answers
