@@ -7,7 +7,10 @@ use Rattle.bc_prog.specs.declared.refusal.Refusal.TheVariants as refusals
 use Rattle.bc_disk.specs.Stream.{StreamFacts}
 use Rattle.bc_output.specs.declared.status.Status.{Status}
 use Rattle.bc_output.specs.declared.status.Status.TheVariants as statuses
-use Rattle.bc_top.specs.Stops.{status_of}
+use Rattle.bc_disk.specs.Disk.{DiskFacts}
+use Rattle.bc_prog.specs.Done.{HasAskedNothing}
+use Rattle.bc_top.specs.Idle.{HasOpened}
+use Rattle.bc_top.specs.Stops.{open_stop, status_of}
 use Rattle.bc_top.specs.Top.{LacksMemory}
 use Rattle.bc_top.specs.declared.stop.Stop.{Stop}
 use Rattle.bc_top.specs.declared.stop.Stop.TheVariants.{Usage, Trace, Source, Fault, Superblock, Image, Unserved, Memory}
@@ -22,10 +25,27 @@ stops_above_zero (Image number) zero = cc
 stops_above_zero Unserved zero = cc
 stops_above_zero Memory zero = cc
 
--- a run began
-pub began : {A : Type 0} {P : A → Type 0} (pass : Option A) (status : Status) → (IsNone pass → (stop : Stop) × (status ≡ status_of stop)) → IfSome pass P → status ≡ statuses.Done → (a : A) × P a
-began (Some pass) status stopped run zero = (pass, run)
-began None status stopped run zero = let it = stopped refl in absurd (stops_above_zero it.0 (sym it.1 ∙ zero))
+-- a run began, or a pair was opened and closed
+pub began : {A C B : Type 0} {P : A → Type 0} (cache_facts : C → DiskFacts) (facts : B → DiskFacts)
+    (pass : Option A) (status : Status) (source left : StreamFacts) (cache cache' : C)
+    (backing backing' : B) (old new : StreamFacts)
+    → (IsNone pass → ((stop : Stop) × (status ≡ status_of stop))
+    ⊎ HasOpened cache_facts facts status source left cache cache' backing backing' old new)
+    → IfSome pass P → status ≡ statuses.Done
+    → ((a : A) × P a) ⊎ HasAskedNothing source left old new
+began cache_facts facts (Some pass) status source left cache cache' backing backing' old new stopped
+    run zero = inl (pass, run)
+began cache_facts facts None status source left cache cache' backing backing' old new stopped run zero =
+    elim (stopped refl) [
+      | inl it ↦ absurd (stops_above_zero it.0 (sym it.1 ∙ zero))
+      | inr opened ↦ inr (
+        opened.trace,
+        elim opened.ends [
+          | inl done ↦ done.1
+          | inr failed ↦ absurd (stops_above_zero (open_stop failed.0) (sym failed.2 ∙ zero))
+        ],
+      )
+    ]
 
 -- a refusal that isn't one of memory
 pub refused : (refusal : Refusal) (status : Status) → (refusal ≡ refusals.Memory → ⊥) → status ≡ refusal_status refusal → (status ≡ statuses.Usage) ⊎ ((status ≡ statuses.Device) ⊎ (status ≡ statuses.Memory))

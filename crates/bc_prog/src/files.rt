@@ -1,6 +1,6 @@
 //! A command over two files.
 ghost use Rattle.std.specs.Prelude.{◌≡◌, ◌≢◌, ◌<◌, ◌≤◌, ◌↔◌, ◌⊎◌, length, drop, Ok, Err, OnOk, OnErr};
-ghost use Rattle.bc_prog.specs.Done.{IsDone};
+ghost use Rattle.bc_prog.specs.Done.{HasAskedNothing, IsDone};
 ghost use Rattle.bc_prog.specs.Refusal.{IsRefused};
 ghost use Rattle.bc_prog.specs.declared.refusal.Refusal.TheVariants as refusals;
 ghost use Rattle.bc_top.specs.Top.{IsServe, SaysNone};
@@ -60,8 +60,10 @@ pub fn run<R: Files<File = File> + Wait, S: Source, K: Sink>(
     ensures usage { result ≡ Status.Usage → SaysNone (drop 2 words.now) }
     ensures unknown { SaysNone (drop 2 words.now) → (result ≡ Status.Usage)
         ⊎ (result ≡ Status.Device) ⊎ (result ≡ Status.Memory) }
-    ensures done { IsServe (drop 2 words.now) → result ≡ Status.Done → IsDone (S.facts trace.old)
-        (S.facts trace.new) (K.facts out.old) (K.facts out.new) }
+    ensures done { IsServe (drop 2 words.now) → result ≡ Status.Done
+        → IsDone (S.facts trace.old) (S.facts trace.new) (K.facts out.old) (K.facts out.new)
+        ⊎ HasAskedNothing (S.facts trace.old) (S.facts trace.new) (K.facts out.old)
+        (K.facts out.new) }
 {
     match open_disks(rt, words) {
         Ok((cache, backing)) => bcache(rt, alloc, &words[2..], trace, cache, backing, out).status,

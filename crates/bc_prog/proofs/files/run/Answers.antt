@@ -1,4 +1,4 @@
-use Rattle.std.proofs.Common.{sym, subst, ap, ◌∙◌}
+use Rattle.std.proofs.Common.{inl, inr, sym, subst, ap, ◌∙◌}
 use Rattle.std.specs.Prelude.{Err}
 use Rattle.bc_output.proofs.Taken.{to_end}
 use Rattle.std.specs.Prelude.{List, String}
@@ -15,20 +15,26 @@ returns-in-Ok-clause-unknown g c = λ other. unknown _ (c.bcache.ensures.unknown
 
 pub returns-in-Ok-clause-done : goal.returns-in-Ok-clause-done
 returns-in-Ok-clause-done g c = λ serves zero.
-    let run = (began _ _ (λ none. let it = c.bcache.ensures.stopped (subst IsServe (sym (to_end 2 c.args.words.now)) serves) none in (it.0, it.1)) c.bcache.ensures.run zero).1 in
-    let done = run.done zero in
-    record {
-      lines = run.lines;
-      trace = run.trace;
-      whole = run.whole;
-      size = _;
-      answers = run.answers;
-      history = _;
-      served = run.run.served;
-      text = done.text;
-      printed = done.are_lines;
-      taken = done.taken;
-    }
+    elim (began _ _ _ _ _ _ _ _ _ _ _ _
+    (λ none. elim (c.bcache.ensures.stopped
+    (subst IsServe (sym (to_end 2 c.args.words.now)) serves) none) [
+      | inl it ↦ inl (it.0, it.1)
+      | inr opened ↦ inr opened
+    ]) c.bcache.ensures.run zero) [
+      | inl run ↦ (let done = run.1.done zero in inl (record {
+        lines = run.1.lines;
+        trace = run.1.trace;
+        whole = run.1.whole;
+        size = _;
+        answers = run.1.answers;
+        history = _;
+        served = run.1.run.served;
+        text = done.text;
+        printed = done.are_lines;
+        taken = done.taken;
+      }))
+      | inr idle ↦ inr idle
+    ]
 
 pub returns-in-Ok-clause-usage : goal.returns-in-Ok-clause-usage
 returns-in-Ok-clause-usage g c = λ two command says. c.bcache.ensures.usage two command (subst (λ (words : List (String Global)). Says words command) (sym (to_end 2 c.args.words.now)) says)
