@@ -8,8 +8,6 @@ mod failing;
 #[cfg(test)]
 mod forced;
 #[cfg(test)]
-mod idle;
-#[cfg(test)]
 mod lines;
 #[cfg(test)]
 mod pair;

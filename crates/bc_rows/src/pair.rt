@@ -1,9 +1,10 @@
 //! Commands over pairs of devices in memory.
 ghost use Rattle.std.specs.Prelude.{◌+◌, ◌*◌, ◌<◌, ◌≤◌, length};
 
-use crate::serving::{source, test_end};
+use crate::serving::test_end;
 use bc_disk::mem_disk::MemDisk;
 use bc_disk::mem_sink::MemSink;
+use bc_disk::mem_source::MemSource;
 use bc_output::status::Status;
 use bc_top::exit::Exit;
 use bc_top::top::bcache;
@@ -104,22 +105,8 @@ fn list(alloc: Global, words: &str) -> Result<Vec<String>, Fail> {
     Ok(list)
 }
 
-/// Runs the command of these words over the pair, before this trace. What is printed goes to the
-/// sink.
-pub fn run_before<R: Wait>(
-    rt: &R,
-    alloc: Global,
-    words: &str,
-    trace: &str,
-    pair: Pair,
-    out: &mut MemSink,
-) -> Result<Pair, Fail> {
-    let list = list(alloc, words)?;
-    let mut source = source(alloc, trace)?;
-    Ok(bcache(rt, alloc, &list, &mut source, pair.cache, pair.backing, out))
-}
-
-/// The same before a trace of one read.
+/// Runs the command of these words over the pair, before a trace of one read. What is printed goes to
+/// the sink.
 pub fn run<R: Wait>(
     rt: &R,
     alloc: Global,
@@ -127,7 +114,10 @@ pub fn run<R: Wait>(
     pair: Pair,
     out: &mut MemSink,
 ) -> Result<Pair, Fail> {
-    run_before(rt, alloc, words, "1 r 0 1\n", pair, out)
+    let list = list(alloc, words)?;
+    let trace = Vec::from_slice(alloc, b"1 r 0 1\n")?;
+    let mut source = MemSource::new(alloc, trace);
+    Ok(bcache(rt, alloc, &list, &mut source, pair.cache, pair.backing, out))
 }
 
 /// Runs the command over the pair: what is printed, and the status.

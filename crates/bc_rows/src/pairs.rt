@@ -14,7 +14,7 @@ use std::sync::Wait;
 use std::test::Fail;
 
 /// What `show` prints of a pair that was formatted.
-pub const SHOWN: &str =
+const SHOWN: &str =
     "cache version 3 block 1 bucket 64 buckets 128 first 1 journal 8 replacement lru sync 1 discard 0
 cache uuid ca000000000000000000000000000ca0 set 5e70000000000000000000000000005e
 backing version 1 offset 16 size 4096 mode writethrough state clean
@@ -53,8 +53,8 @@ backing version 1 offset 16 size 4096 mode writethrough state clean
 backing uuid 7815eacc9bce473cbeedbc10d9428558 set a99a46baf47a42e192749f9deb920ff0
 ";
 
-/// Whether the two images have the same bytes in each sector but the superblock's.
-pub fn same_data(left: &[u8], before: &[u8]) -> bool {
+// Whether the two images have the same bytes in each sector but the superblock's.
+fn same_data(left: &[u8], before: &[u8]) -> bool {
     left.len() == before.len()
         && 4608 <= left.len()
         && left.get(..4096) == before.get(..4096)
