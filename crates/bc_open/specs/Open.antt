@@ -53,7 +53,7 @@ pub record IsUnwritten (old new : DiskFacts) : Type 0 where
   pub kept : IsKept old new
   pub faults : new.faults ≡ old.faults
 
--- one of so many calls failed, and it was the last one
+-- at most so many calls were made, and just one of them failed
 pub record HasFailed (n : ℕ) (old new : DiskFacts) : Type 0 where
   pub calls : (k : ℕ) × (0 < k) × (k ≤ n) × (new.calls ≡ count_after k old.calls)
   pub faults : new.faults ≡ next_count old.faults

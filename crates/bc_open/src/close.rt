@@ -30,7 +30,8 @@ fn any_dirty(buckets: &[Bucket]) -> bool
 /// bucket has data that is all that there is of it, its superblock says so. The superblock is the one
 /// that the device had when it was opened. Takes no memory.
 ///
-/// After `Failed` a crash leaves what the device held, in the state that it said or as `clean`.
+/// After `Failed` a crash leaves what the device held, as it was or in another state of a device
+/// with a cache.
 pub fn close_pair<B: Disk>(
     backing: &mut B,
     superblock: &BackingSuper,
