@@ -22,7 +22,7 @@ use Rattle.bc_set.specs.declared.set.SetKind.TheVariants.{Extents}
 use Rattle.bc_set.proofs.NodeSets.{one_node}
 use Rattle.bc_cache.specs.Stands.{AddedStands, LoadedStands, NothingIsLost}
 
-none_added : AreLastOfAll [] []
+pub none_added : AreLastOfAll [] []
 none_added = record {
   order = ((λ k d inside. absurd (omega arith)), (λ i j d before inside. absurd (omega arith)));
   shown = λ sector. refl;
@@ -56,7 +56,7 @@ added_stands g image key from old new keys is same put added = record {
 one_pointer : (p q : Ptr) (o : Option Ptr) → o ≡ Some p → o ≡ Some q → p ≡ q
 one_pointer p q o a b = cc
 
-same_sets : (g : Geometry) (image : Image) (key : Key) (ss ts : List Set) → AreSetsAt g image 0 key ss → AreSetsAt g image 0 key ts → ss ≡ ts
+pub same_sets : (g : Geometry) (image : Image) (key : Key) (ss ts : List Set) → AreSetsAt g image 0 key ss → AreSetsAt g image 0 key ts → ss ≡ ts
 same_sets g image key ss ts a b =
     let p = one_pointer a.ptr b.ptr (pointer_of key) a.points b.points in
     one_node g (ptr_word b.ptr) Extents image (b.ptr.offset + g.node_sectors) b.ptr.offset ss ts

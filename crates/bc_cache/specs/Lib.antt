@@ -3,3 +3,4 @@ pub mod Search
 pub mod Fetch
 pub mod Lending
 pub mod Stands
+pub mod Copies

@@ -73,13 +73,18 @@ fn add(rt: &impl Abort, leaf: &mut Leaf, key: &Key) -> Result<(), AllocError> {
     Ok(())
 }
 
-/// Writes what a leaf has, where it stands.
+/// Writes what a leaf has, where it stands: what is pending, if its node takes a further set, and
+/// else all of it.
 fn write(rt: &impl Abort, disk: &mut MemDisk, leaf: &mut Leaf, buffer: &mut [u8]) {
     let to = leaf.ptr();
     assert!(rt; leaf.length() <= 512 * 64);
     assert_eq!(rt; buffer.len(), 512 * 64);
     assert!(rt; to.offset < 4_096 && to.offset + 64 <= disk.sectors());
-    let written = leaf.rewrite(disk, &GEOMETRY, &to, 7, buffer);
+    let written = if leaf.is_loaded() || leaf.is_full(&GEOMETRY) {
+        leaf.rewrite(disk, &GEOMETRY, &to, 7, buffer)
+    } else {
+        leaf.append(disk, &GEOMETRY, buffer)
+    };
     assert!(rt; written.is_ok());
     assert!(rt; disk.barrier().is_ok());
 }
