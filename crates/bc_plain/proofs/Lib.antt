@@ -8,4 +8,5 @@ pub mod Frees
 pub mod Spelled
 pub mod Claims
 pub mod Walks
+mod Reserved
 mod Vectors

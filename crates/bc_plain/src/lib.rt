@@ -27,6 +27,7 @@ pub mod mode;
 mod mode_tests;
 #[cfg(test)]
 mod random;
+pub mod reserves;
 mod slot;
 #[cfg(test)]
 mod tests;
