@@ -1,28 +1,21 @@
-//! The four lists beside plain vectors, at random, and their lengths on devices of some sizes.
+//! The four lists and the records of buckets beside plain ones, at random, and their lengths on
+//! devices of some sizes.
 ghost use Rattle.std.specs.Prelude.{◌≡◌, ◌<◌, [], length, false, IfOk, IsTrue};
 ghost use Rattle.bc_bucket.specs.Buckets.{bucket_of};
 ghost use Rattle.bc_alloc.specs.Buckets.{AreFor, AreLoose};
 ghost use Rattle.bc_alloc.specs.Reserve.{IsDistinct};
 ghost use Rattle.bc_alloc.specs.Reserves.{times_listed};
 
-use crate::alloc::first_candidates;
 use crate::random::next;
+use crate::reserves::PlainReserves;
 use bc_alloc::{Purpose, Reserves};
-use bc_bucket::Buckets;
+use bc_bucket::{Buckets, Mark};
 use bc_disk::gens::Gens;
 use bc_disk::geometry::Geometry;
 use std::alloc::{AllocError, Global};
 use std::test::Fail;
 
-// The lists of a device of 128 buckets, in their order, and the raised buckets.
-#[derive(Drop)]
-struct Plain {
-    lists: Vec<Vec<u32>>,
-    raised: Vec<u32>,
-}
-
-const ROOMS: [usize; 4] = [1, 4, 8, 8];
-
+// The purposes of the lists, in their order.
 const PURPOSES: [Purpose; 4] = [
     Purpose::Priorities,
     Purpose::Moving,
@@ -30,69 +23,12 @@ const PURPOSES: [Purpose; 4] = [
     Purpose::Plain,
 ];
 
-impl Plain {
-    // No bucket on any list.
-    fn new(alloc: Global) -> Result<Plain, AllocError> {
-        let mut lists = Vec::new(alloc);
-        for _room in ROOMS {
-            lists.push(Vec::new(alloc))?;
-        }
-        Ok(Plain {
-            lists,
-            raised: Vec::new(alloc),
-        })
-    }
-
-    // Puts a bucket onto the first list that has room.
-    fn store(&mut self, bucket: u32) -> Result<(), AllocError> {
-        for (list, room) in self.lists.iter_mut().zip(ROOMS) {
-            if list.len() < room {
-                list.push(bucket)?;
-                return Ok(());
-            }
-        }
-        Ok(())
-    }
-
-    // Puts a bucket onto the list priorities, if that has room.
-    fn give_back(&mut self, bucket: u32) -> Result<(), AllocError> {
-        if let Some(list) = self.lists.first_mut()
-            && list.is_empty()
-        {
-            list.push(bucket)?;
-        }
-        Ok(())
-    }
-
-    // How many more buckets the lists would take.
-    fn wanted(&self) -> usize {
-        let mut count = 0usize;
-        for list in &self.lists {
-            count = count.saturating_add(list.len());
-        }
-        21usize
-            .saturating_sub(count)
-            .saturating_sub(self.raised.len())
-    }
-
-    // Whether the bucket is on a list or raised.
-    fn has(&self, bucket: u32) -> bool {
-        let mut found = self.raised.contains(&bucket);
-        for list in &self.lists {
-            found |= list.contains(&bucket);
-        }
-        found
-    }
-
-    // Takes the first bucket from the plain list, or else from this one.
-    fn take(&mut self, place: usize) -> Option<u32> {
-        let plain = self.lists.get(3)?.is_empty();
-        let list = self.lists.get_mut(if plain { place } else { 3 })?;
-        if list.is_empty() {
-            return None;
-        }
-        Some(list.remove(0))
-    }
+// What the lists and the records are to be, and the buckets that were taken, the last one last.
+#[derive(Drop)]
+struct Plain {
+    lists: PlainReserves,
+    buckets: Buckets,
+    taken: Vec<u32>,
 }
 
 // A device of 128 buckets of 64 sectors.
@@ -128,6 +64,17 @@ const LARGE: Geometry = Geometry {
     node_sectors: 64,
 };
 
+// A device of 11,000 buckets of 64 sectors, whose priorities take two sets.
+const TWO_SETS: Geometry = Geometry {
+    block: 1,
+    bucket: 64,
+    nbuckets: 11_000,
+    first_bucket: 1,
+    journal: 64,
+    set_magic: 1,
+    node_sectors: 64,
+};
+
 // Its buckets, with priorities of which many are the same.
 fn some_buckets(alloc: Global, g: &Geometry) -> Result<Buckets, AllocError>
     ensures { IfOk result (λ b. length b.records ≡ g.now.nbuckets) }
@@ -139,18 +86,13 @@ fn some_buckets(alloc: Global, g: &Geometry) -> Result<Buckets, AllocError>
     Buckets::new(alloc, g, &gens)
 }
 
-// For each bucket whether it is on a list or raised.
-fn listed_flags(alloc: Global, r: &Reserves, b: &Buckets) -> Result<Vec<bool>, AllocError>
-    requires { AreFor r.now b.now }
-    ensures { IfOk result (λ flags. length flags.items ≡ length b.now.records) }
-{
-    let _size = b.bucket_sectors();
-    let count = b.records().len() as u32;
-    let mut flags = Vec::new(alloc);
-    for bucket in 0..count {
-        flags.push(r.is_listed(bucket))?;
-    }
-    Ok(flags)
+// Lists with no bucket, and the same buckets.
+fn plain_of(alloc: Global, g: &Geometry) -> Result<Plain, AllocError> {
+    Ok(Plain {
+        lists: PlainReserves::new(alloc, g, &[])?,
+        buckets: some_buckets(alloc, g)?,
+        taken: Vec::new(alloc),
+    })
 }
 
 // Whether the list of this purpose has just these buckets, in this order.
@@ -175,20 +117,62 @@ fn are_raised(r: &Reserves, raised: &[u32]) -> bool {
     same
 }
 
-// Whether the lists have the same buckets in the same order, and no other is listed.
-fn agrees(r: &Reserves, b: &Buckets, plain: &Plain) -> bool
+// Whether the lists have the same buckets in the same order.
+fn agrees(r: &Reserves, plain: &PlainReserves) -> bool {
+    let mut same = are_raised(r, plain.raised());
+    for purpose in PURPOSES {
+        same &= is_list(r, purpose, plain.list(purpose));
+    }
+    same
+}
+
+// Whether no other bucket is listed.
+fn agrees_on_each(r: &Reserves, b: &Buckets, plain: &PlainReserves) -> bool
     requires { AreFor r.now b.now }
 {
     let _size = b.bucket_sectors();
     let count = b.records().len() as u32;
-    let mut same = are_raised(r, &plain.raised);
-    for (purpose, list) in PURPOSES.into_iter().zip(&plain.lists) {
-        same &= is_list(r, purpose, list);
-    }
+    let mut same = true;
     for bucket in 0..count {
         same &= r.is_listed(bucket) == plain.has(bucket);
     }
     same
+}
+
+// Gives a bucket up in the plain records.
+fn raise_in(b: &mut Buckets, bucket: u32) {
+    if (bucket as usize) < b.records().len() && b.reclaimable(bucket) {
+        b.raise(bucket);
+    }
+}
+
+// Holds a bucket in the plain records.
+fn hold_in(b: &mut Buckets, bucket: u32) {
+    if (bucket as usize) < b.records().len() && !b.get(bucket).held {
+        b.hold(bucket);
+    }
+}
+
+// Lets a bucket go in the plain records.
+fn let_go_in(b: &mut Buckets, bucket: u32) {
+    if (bucket as usize) < b.records().len() && b.get(bucket).held {
+        b.let_go(bucket);
+    }
+}
+
+// Marks a bucket in the plain records.
+fn mark_in(b: &mut Buckets, bucket: u32, mark: Mark) {
+    if (bucket as usize) < b.records().len() {
+        b.mark(bucket, mark, 0);
+    }
+}
+
+// Notes in the plain records that a bucket's generation is durable, and unmarks it.
+fn make_ready_in(b: &mut Buckets, bucket: u32) {
+    if (bucket as usize) < b.records().len() {
+        b.make_durable(bucket);
+        b.mark(bucket, Mark::None, 0);
+    }
 }
 
 // Fills the lists in both.
@@ -196,21 +180,32 @@ fn refill(alloc: Global, r: &mut Reserves, b: &mut Buckets, plain: &mut Plain) -
     requires { AreFor r.old b.old }
     ensures { AreFor r.new b.new }
 {
-    let _size = b.bucket_sectors();
-    let flags = listed_flags(alloc, r, b)?;
-    let chosen = first_candidates(alloc, b.records(), &flags, plain.wanted())?;
-    let same = r.victim(b) == chosen.first().copied();
-    plain.raised.extend_from_slice(&chosen)?;
-    Ok(same & (r.refill(b) as usize == chosen.len()))
+    let chosen = plain.lists.victims(alloc, &plain.buckets)?;
+    let first = r.victim(b);
+    let count = plain.lists.refill(alloc, &plain.buckets)?;
+    for bucket in &chosen {
+        raise_in(&mut plain.buckets, *bucket);
+    }
+    let raised = r.refill(b);
+    Ok(first == chosen.first().copied() && raised as usize == count)
 }
 
 // Takes a bucket in both.
-fn take(r: &mut Reserves, b: &mut Buckets, plain: &mut Plain, place: usize) -> bool
-    requires fit { AreFor r.old b.old }
-    requires place { place < 4 }
+fn take(
+    r: &mut Reserves,
+    b: &mut Buckets,
+    plain: &mut Plain,
+    purpose: Purpose,
+) -> Result<bool, Fail>
+    requires { AreFor r.old b.old }
     ensures { AreFor r.new b.new }
 {
-    r.take(b, PURPOSES[place]).ok() == plain.take(place)
+    let taken = plain.lists.take(purpose);
+    if let Some(bucket) = taken {
+        hold_in(&mut plain.buckets, bucket);
+        plain.taken.push(bucket)?;
+    }
+    Ok(r.take(b, purpose).ok() == taken)
 }
 
 // Makes the first raised buckets ready in both, and gives these back.
@@ -227,16 +222,15 @@ fn ready(
     ensures { AreFor r.new b.new }
 {
     let named = named.min(r.raised_len() as usize);
-    r.ready(b, named, old);
     for bucket in old {
-        plain.give_back(*bucket)?;
+        mark_in(&mut plain.buckets, *bucket, Mark::None);
     }
-    for _bucket in 0..named {
-        if !plain.raised.is_empty() {
-            let bucket = plain.raised.remove(0);
-            plain.store(bucket)?;
-        }
+    for bucket in plain.lists.raised().iter().take(named) {
+        make_ready_in(&mut plain.buckets, *bucket);
     }
+    let waiting = plain.lists.raised().len();
+    plain.lists.ready(named.min(waiting), old)?;
+    r.ready(b, named, old);
     Ok(())
 }
 
@@ -249,70 +243,157 @@ fn is_loose(r: &Reserves, b: &Buckets, bucket: u32) -> bool
     (bucket as usize) < b.records().len() && !r.is_listed(bucket) && !b.get(bucket).held
 }
 
-// Makes the first raised buckets ready in both, and gives these two back, if they are loose.
+// Lets go the bucket that was taken last in both, and answers which one that is.
+fn let_go(r: &Reserves, b: &mut Buckets, plain: &mut Plain) -> Option<u32>
+    requires { AreFor r.now b.old }
+    ensures { AreFor r.now b.new }
+{
+    let bucket = plain.taken.pop()?;
+    if (bucket as usize) < b.records().len() && b.get(bucket).held {
+        b.let_go(bucket);
+    }
+    let_go_in(&mut plain.buckets, bucket);
+    Some(bucket)
+}
+
+// Makes the first raised buckets ready in both, and gives the two buckets back that were taken
+// last, as those of a chain that was replaced.
 fn ready_with_old(
     r: &mut Reserves,
     b: &mut Buckets,
     plain: &mut Plain,
     named: usize,
-    first: u32,
 ) -> Result<(), Fail>
     requires { AreFor r.old b.old }
     ensures { AreFor r.new b.new }
 {
-    let second = first ^ 1;
+    let (Some(first), Some(second)) = (let_go(r, b, plain), let_go(r, b, plain)) else {
+        return ready(r, b, plain, named, &[]);
+    };
     if first == second || !is_loose(r, b, first) || !is_loose(r, b, second) {
         return ready(r, b, plain, named, &[]);
     }
     ready(r, b, plain, named, &[first, second])
 }
 
-// Lets the bucket go, if it is held.
-fn let_go(r: &Reserves, b: &mut Buckets, bucket: u32)
-    requires { AreFor r.now b.old }
-    ensures { AreFor r.now b.new }
+// Puts the bucket back in both that was taken last.
+fn put_back(r: &mut Reserves, b: &mut Buckets, plain: &mut Plain) -> Result<(), Fail>
+    requires { AreFor r.old b.old }
+    ensures { AreFor r.new b.new }
 {
-    if (bucket as usize) < b.records().len() && b.get(bucket).held {
-        b.let_go(bucket);
+    let Some(bucket) = plain.taken.pop() else {
+        return Ok(());
+    };
+    if bucket as usize >= b.records().len() || r.is_listed(bucket) || !b.get(bucket).held {
+        return Ok(());
     }
+    r.put_back(b, bucket);
+    plain.lists.put_back(bucket)?;
+    let_go_in(&mut plain.buckets, bucket);
+    Ok(())
 }
 
-// Raises a bucket in both, or puts it back.
+// Raises a bucket in both, if it may be given up.
 fn raise(r: &mut Reserves, b: &mut Buckets, plain: &mut Plain, bucket: u32) -> Result<(), Fail>
     requires { AreFor r.old b.old }
     ensures { AreFor r.new b.new }
 {
-    if bucket as usize >= b.records().len() || r.is_listed(bucket) {
+    if bucket as usize >= b.records().len() || r.is_listed(bucket) || !b.reclaimable(bucket) {
         return Ok(());
     }
-    if b.reclaimable(bucket) {
-        r.raise(b, bucket);
-        plain.raised.push(bucket)?;
-    } else if b.get(bucket).held {
-        r.put_back(b, bucket);
-        plain.give_back(bucket)?;
+    r.raise(b, bucket);
+    plain.lists.raise(bucket)?;
+    raise_in(&mut plain.buckets, bucket);
+    Ok(())
+}
+
+// Marks a bucket in both.
+fn mark(r: &Reserves, b: &mut Buckets, plain: &mut Plain, bucket: u32)
+    requires { AreFor r.now b.old }
+    ensures { AreFor r.now b.new }
+{
+    if (bucket as usize) < b.records().len() {
+        b.mark(bucket, Mark::Metadata, 0);
+    }
+    mark_in(&mut plain.buckets, bucket, Mark::Metadata);
+}
+
+// Makes a random call in both, and answers whether both said the same.
+fn change(
+    alloc: Global,
+    r: &mut Reserves,
+    b: &mut Buckets,
+    plain: &mut Plain,
+    random: u64,
+) -> Result<bool, Fail>
+    requires { AreFor r.old b.old }
+    ensures { AreFor r.new b.new }
+{
+    let number = random / 65536 % 128;
+    match random / 1024 % 16 {
+        0 | 1 => return refill(alloc, r, b, plain),
+        2 => ready(r, b, plain, number as usize, &[])?,
+        3 | 4 => ready_with_old(r, b, plain, 5)?,
+        5 => {
+            let _bucket = let_go(r, b, plain);
+        }
+        6 => put_back(r, b, plain)?,
+        7 => raise(r, b, plain, number as u32)?,
+        8 => mark(r, b, plain, number as u32),
+        _ => {
+            let place = (random / 65536 % 4) as usize;
+            return take(r, b, plain, PURPOSES[place]);
+        }
+    }
+    Ok(true)
+}
+
+#[test]
+fn lists_beside_plain_lists(rt: HostRuntime) -> Result<(), Fail> {
+    let mut b = some_buckets(rt.alloc(), &SMALL)?;
+    let mut r = Reserves::new(rt.alloc(), &SMALL, &[])?;
+    let mut plain = plain_of(rt.alloc(), &SMALL)?;
+    let mut random: u64 = 1;
+    for _step in 0..3000 {
+        random = next(random);
+        assert!(rt; change(rt.alloc(), &mut r, &mut b, &mut plain, random)?);
+        assert!(rt; agrees(&r, &plain.lists));
+        assert!(rt; agrees_on_each(&r, &b, &plain.lists));
+        assert!(rt; b.records() == plain.buckets.records());
     }
     Ok(())
 }
 
 #[test]
-fn lists_beside_plain_vectors(rt: HostRuntime) -> Result<(), Fail> {
-    let mut b = some_buckets(rt.alloc(), &SMALL)?;
-    let mut r = Reserves::new(rt.alloc(), &SMALL, &[])?;
-    let mut plain = Plain::new(rt.alloc())?;
+fn lists_beside_plain_lists_with_two_priority_sets(rt: HostRuntime) -> Result<(), Fail> {
+    let mut b = some_buckets(rt.alloc(), &TWO_SETS)?;
+    let mut r = Reserves::new(rt.alloc(), &TWO_SETS, &[])?;
+    let mut plain = plain_of(rt.alloc(), &TWO_SETS)?;
     let mut random: u64 = 1;
-    for _step in 0..3000 {
+    for _step in 0..200 {
         random = next(random);
-        let number = random / 65536 % 128;
-        match random / 1024 % 8 {
-            0 => assert!(rt; refill(rt.alloc(), &mut r, &mut b, &mut plain)?),
-            1 => ready(&mut r, &mut b, &mut plain, number as usize, &[])?,
-            2 => ready_with_old(&mut r, &mut b, &mut plain, 5, number as u32)?,
-            3 if number % 4 == 0 => let_go(&r, &mut b, number as u32),
-            3 => raise(&mut r, &mut b, &mut plain, number as u32)?,
-            _ => assert!(rt; take(&mut r, &mut b, &mut plain, (number % 4) as usize)),
-        }
-        assert!(rt; agrees(&r, &b, &plain));
+        assert!(rt; change(rt.alloc(), &mut r, &mut b, &mut plain, random)?);
+        assert!(rt; agrees(&r, &plain.lists));
+    }
+    assert!(rt; b.records() == plain.buckets.records());
+    Ok(())
+}
+
+#[test]
+fn lists_are_filled_in_order(rt: HostRuntime) -> Result<(), Fail> {
+    let mut spare = Vec::new(rt.alloc());
+    for bucket in 0..30u32 {
+        spare.push(3 * bucket)?;
+    }
+    let plain = PlainReserves::new(rt.alloc(), &SMALL, &spare)?;
+    for (purpose, first, count) in [
+        (Purpose::Priorities, 0u32, 1usize),
+        (Purpose::Moving, 3, 4),
+        (Purpose::Tree, 15, 8),
+        (Purpose::Plain, 39, 8),
+    ] {
+        assert_eq!(rt; plain.list(purpose).first().copied(), Some(first));
+        assert_eq!(rt; plain.list(purpose).len(), count);
     }
     Ok(())
 }

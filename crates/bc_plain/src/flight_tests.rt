@@ -14,6 +14,9 @@ use std::test::Fail;
 // How many seats claim.
 const SEATS: u32 = 12;
 
+// How many seats a cache has at most.
+const ALL_SEATS: u32 = 320;
+
 // What a flight is to have.
 #[derive(Drop)]
 struct Plain {
@@ -172,5 +175,90 @@ fn claims_and_candidates_beside_plain_lists(rt: HostRuntime) -> Result<(), Fail>
         }
     }
     assert_eq!(rt; most, MOST);
+    Ok(())
+}
+
+// Claims eight sectors that no other seat claims, and answers whether that was granted.
+fn claim_own(flight: &mut Flight, seat: u32) -> bool
+    requires { seat < flight.old.seats }
+    ensures { flight.new.seats ≡ flight.old.seats }
+{
+    let None = claim_of(seat, flight.claims()) else {
+        return false;
+    };
+    let first = u64::from(seat) * 8;
+    flight.try_claim(seat, first, 8, Share::Exclusive).is_some()
+}
+
+// Tries to claim a sector that the seat before this one claimed, and answers whether that was
+// refused.
+fn is_refused(flight: &mut Flight, seat: u32) -> bool
+    requires { (1 ≤ seat) × (seat < flight.old.seats) }
+    ensures { flight.new.seats ≡ flight.old.seats }
+{
+    let None = claim_of(seat, flight.claims()) else {
+        return false;
+    };
+    let last = u64::from(seat) * 8 - 1;
+    flight.try_claim(seat, last, 1, Share::Shared).is_none()
+}
+
+// Ends the seat's claim, and answers whether it had one.
+fn release_own(flight: &mut Flight, seat: u32) -> bool
+    ensures { flight.new.seats ≡ flight.old.seats }
+{
+    let Some(standing) = claim_of(seat, flight.claims()) else {
+        return false;
+    };
+    flight.release(standing);
+    true
+}
+
+// Notes a candidate of eight sectors behind all claims, where there is room for it, and answers
+// its number.
+fn note_behind(flight: &mut Flight, place: u64) -> Option<u64>
+    requires { place < 64 }
+    ensures { flight.new.seats ≡ flight.old.seats }
+{
+    if flight.waiting() >= MOST || flight.next() == u64::MAX {
+        return None;
+    }
+    let end = 4096 + place * 8;
+    Some(flight.candidate(Key::new(end, 8, false, None)))
+}
+
+#[test]
+fn all_seats_and_all_candidates(rt: HostRuntime) -> Result<(), Fail> {
+    let mut flight = Flight::new(rt.alloc(), ALL_SEATS)?;
+    for seat in 0..ALL_SEATS {
+        assert!(rt; claim_own(&mut flight, seat));
+    }
+    for place in 0..64u64 {
+        assert_eq!(rt; note_behind(&mut flight, place), Some(place));
+    }
+    assert_eq!(rt; flight.claims().len(), 320);
+    assert_eq!(rt; flight.waiting(), MOST);
+
+    // There is room for no other candidate, and no claim of another's sectors is granted.
+    assert_eq!(rt; note_behind(&mut flight, 0), None);
+    assert!(rt; release_own(&mut flight, 319));
+    assert!(rt; is_refused(&mut flight, 319));
+    assert!(rt; claim_own(&mut flight, 319));
+
+    for seat in 0..ALL_SEATS {
+        assert!(rt; release_own(&mut flight, seat));
+    }
+    flight.kill(4088, 256);
+    for place in 0..64u64 {
+        let taken = if place < 32 {
+            flight.dead()
+        } else {
+            flight.settled(64)
+        };
+        assert_eq!(rt; taken, Some(Key::new(4096 + place * 8, 8, false, None)));
+    }
+    assert!(rt; flight.claims().is_empty());
+    assert_eq!(rt; flight.waiting(), 0);
+    assert_eq!(rt; flight.next(), 64);
     Ok(())
 }
