@@ -7,7 +7,6 @@ use Rattle.bc_key.specs.declared.key.Key.{Key}
 use Rattle.bc_node.specs.Leaf.{Leaf}
 use Rattle.bc_node.specs.Loading.{IsHeldLeaf, IsNotLoaded}
 use Rattle.bc_node.specs.declared.error.NodeError.{NodeError}
-use Rattle.bc_node.specs.declared.error.NodeError.TheVariants as nodes
 use Rattle.bc_pending.specs.declared.numbered.Numbered.{Numbered}
 use Rattle.bc_spine.specs.declared.leaf.LeafRange.{LeafRange}
 use Rattle.bc_reload.specs.Added.{HasAdded}
@@ -29,7 +28,6 @@ pub record IsReloaded (g : Geometry) (range : LeafRange) (more : List Numbered) 
   pub held : IsHeldLeaf g key range.from facts read
   pub added : HasAdded more read leaf
 
--- why it wasn't read, where that isn't for want of memory alone
+-- why it wasn't read: the leaf wasn't, or memory ran out after that
 abbrev pub IsNotReloaded : Geometry → LeafRange → DiskFacts → DiskFacts → NodeError → Type 0
-IsNotReloaded g range old new nodes.Memory = Unit {0}
 IsNotReloaded g range old new e = (key : Key) × NamesLeaf range key × IsNotLoaded g key range.from old new e

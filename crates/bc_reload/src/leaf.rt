@@ -1,6 +1,7 @@
 //! A leaf is read again.
-ghost use Rattle.std.specs.Prelude.{◌≡◌, ◌+◌, ◌≤◌, All, IfErr, IfOk};
-ghost use Rattle.bc_disk.specs.Disk.{IsKept};
+ghost use Rattle.std.specs.Prelude.{◌≡◌, ◌+◌, ◌≤◌, All, IfErr, IfOk, OnOk};
+ghost use Rattle.bc_disk.specs.Disk.{IsCounted, IsKept};
+ghost use Rattle.bc_node.specs.Loading.{good};
 ghost use Rattle.bc_reload.specs.Added.{FitsLeaf, HasAdded};
 ghost use Rattle.bc_reload.specs.Reload.{FitsRange, IsNotReloaded, IsReloaded, NamesLeaf};
 
@@ -13,9 +14,11 @@ use bc_pending::Numbered;
 use bc_spine::LeafRange;
 use std::alloc::Global;
 
-/// A key by which the leaf of a range is found.
-fn key_of(g: &Geometry, range: &LeafRange) -> Key
-    ensures { NamesLeaf range.now result }
+/// A key by which the leaf of a range is found: it has one pointer, and the size of a node.
+pub fn key_of(g: &Geometry, range: &LeafRange) -> Key
+    ensures names { NamesLeaf range.now result }
+    ensures size { result.size ≡ g.now.node_sectors }
+    ensures count { result.count ≡ 1 }
 {
     Key::new(range.end, g.node_sectors, false, Some(range.ptr))
 }
@@ -49,6 +52,7 @@ pub fn reload<D: Disk>(
     ensures found { IfOk result (IsReloaded g.now range.now keys.now (D.facts disk.old)) }
     ensures refused { IfErr result
         (IsNotReloaded g.now range.now (D.facts disk.old) (D.facts disk.new)) }
+    ensures read { OnOk result (IsCounted good (D.facts disk.old) (D.facts disk.new)) }
     ensures kept { IsKept (D.facts disk.old) (D.facts disk.new) }
 {
     let key = key_of(g, range);

@@ -6,4 +6,4 @@ mod add;
 mod leaf;
 
 pub use add::add_keys;
-pub use leaf::reload;
+pub use leaf::{key_of, reload};

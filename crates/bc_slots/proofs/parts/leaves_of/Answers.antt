@@ -1,0 +1,17 @@
+use Rattle.std.proofs.Common.{◌≡◌, ◌++◌, ◌∷◌, ◌<◌, ◌≤◌, ◌∙◌, [], List, length, get_or, take, sym, ap, subst}
+use Rattle.std.proofs.lemmas.List.{take_all}
+use Rattle.bc_spine.specs.Leaves.{AreLeaves}
+use Rattle.bc_spine.specs.declared.leaf.LeafRange.{LeafRange}
+use Rattle.bc_slots.proofs.parts.leaves_of.Goals as goal
+
+pub returns-clause-leaves : goal.returns-clause-leaves
+returns-clause-leaves c =
+    let xs = c.args.tree.now.leaves in
+    let all = subst (λ n. n ≤ c.loop-place.place) c.len-place-end.ensures.count c.loop-place-test.false in
+    c.loop-place.invariant ∙ take_all c.loop-place.place xs all
+
+pub returns-clause-all : goal.returns-clause-all
+returns-clause-all c =
+    let xs = c.args.tree.now.leaves in
+    let all = subst (λ n. n ≤ c.loop-place.place) c.len-place-end.ensures.count c.loop-place-test.false in
+    subst (λ (ls : List LeafRange). AreLeaves ls c.args.tree.now.root.end) (sym (c.loop-place.invariant ∙ take_all c.loop-place.place xs all)) c.len-place-end.ensures.all
