@@ -5,6 +5,7 @@ ghost use Rattle.bc_disk.specs.Disk.{IsKept};
 ghost use Rattle.bc_jset.specs.EntryBytes.{IsLevel};
 ghost use Rattle.bc_replay.specs.Causes.{RisesWith};
 ghost use Rattle.bc_regrow.specs.Tree.{IsTreeCause, IsTreeOf, OfRead};
+ghost use Rattle.bc_spine.specs.Leaves.{AreCounted};
 
 use crate::load::{below_root, load_inner};
 use bc_disk::disk::Disk;
@@ -28,6 +29,7 @@ pub fn tree_of<C: Disk>(alloc: Global, cache: &mut C, s: &Survey) -> Result<Spin
         ≤ (C.facts cache.old).sectors }
     ensures found { IfOk result (λ tree. OfRead s.now (C.facts cache.old)
         (λ p h. IsTreeOf h.view.geometry h.view.reading.nodes tree)) }
+    ensures counted { IfOk result (λ tree. AreCounted 0 tree.leaves) }
     ensures refused { IfErr result (IsTreeCause s.now (C.facts cache.old)) }
     ensures kept { IsKept (C.facts cache.old) (C.facts cache.new) }
     ensures faults { RisesWith result (C.facts cache.old).faults (C.facts cache.new).faults }
