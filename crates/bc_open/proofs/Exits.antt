@@ -12,15 +12,16 @@ use Rattle.bc_state.specs.State.{super_in}
 use Rattle.bc_super.specs.Super.{data_sectors}
 use Rattle.bc_super.specs.Writing.{AreCounted, IsBackingStored, IsBackingTorn, count_after}
 use Rattle.bc_super.specs.declared.backing.BackingSuper.{BackingSuper}
+use Rattle.bc_super.specs.declared.state.BackingState.{BackingState}
 use Rattle.bc_super.specs.declared.state.BackingState.TheVariants as states
 use Rattle.bc_bucket.specs.Buckets.{Buckets}
-use Rattle.bc_open.specs.Close.{HasDirty, IsClosed}
-use Rattle.bc_open.specs.Idle.{HasIdled}
+use Rattle.bc_open.specs.Close.{HasDirty, IsCleanOf, IsClosed}
+use Rattle.bc_open.specs.Idle.{HasIdled, MayBeLeft}
 use Rattle.bc_open.specs.Left.{ChangesState, IsStill}
 use Rattle.bc_open.specs.Open.{HasFailed, HasOpened}
 use Rattle.bc_open.specs.declared.open.Opened.{Opened}
 use Rattle.bc_open.proofs.Marked.{to_live, to_mark}
-use Rattle.bc_open.proofs.States.{changes_from, stored_again, stored_behind, stored_leaves, stored_settled, torn_leaves}
+use Rattle.bc_open.proofs.States.{changes_again, changes_from, changes_wider, stored_again, stored_behind, stored_leaves, stored_settled, torn_leaves}
 
 pub kept_self : (d : DiskFacts) → IsKept d d
 kept_self d = record {
@@ -123,21 +124,46 @@ module _ {E : Type 0} (b : BackingSuper) (old mid new : DiskFacts) (settled : Is
   closing_failed (Err e) calls faults counts = failed_behind old mid new calls faults
       (record { calls = counts.0; faults = counts.1 })
 
-  pub closing_leaves : (r : Result (Unit {0}) E)
+  pub closing_leaves : (r : Result (Unit {0}) E) (buckets : Buckets) → (HasDirty buckets → ⊥)
       → OnOk r (IsBackingStored (super_in states.Clean b) mid new)
-      → OnErr r (IsBackingTorn (super_in states.Clean b) mid new) → ChangesState b old new
-  closing_leaves (Ok u) stored torn =
-      changes_from b old mid new settled.holds (stored_leaves b mid new states.Clean tt stored)
-  closing_leaves (Err e) stored torn = changes_from b old mid new settled.holds
-      (torn_leaves b mid new states.Clean tt torn settled.leaves)
+      → OnErr r (IsBackingTorn (super_in states.Clean b) mid new)
+      → ChangesState (IsCleanOf buckets) b old new
+  closing_leaves (Ok u) buckets none stored torn =
+      changes_from (IsCleanOf buckets) b old mid new settled.holds
+      (stored_leaves (IsCleanOf buckets) b mid new states.Clean (refl, none) tt stored)
+  closing_leaves (Err e) buckets none stored torn =
+      changes_from (IsCleanOf buckets) b old mid new settled.holds
+      (torn_leaves (IsCleanOf buckets) b mid new states.Clean (refl, none) tt torn settled.leaves)
 
 -- ---- both
+
+-- an opening alone leaves no more than one with a closing
+pub dirty_left : (s : Survey) (b : BackingSuper) (old new : DiskFacts)
+    → ChangesState (λ (state : BackingState). state ≡ states.Dirty) b old new
+    → ChangesState (MayBeLeft s) b old new
+dirty_left s b old new changes = changes_wider (λ (state : BackingState). state ≡ states.Dirty)
+    (MayBeLeft s) (λ state is. subst (MayBeLeft s) (sym is) tt) b old new changes
 
 module _ {C : Type 0} (facts : C → DiskFacts) (s : Survey) (b : BackingSuper) (cache cache' : C)
     (backing mid backing' : DiskFacts) (o : Opened)
     (opened : HasOpened facts s b cache cache' backing mid o) where
   pub still_open : IsStill mid
   still_open = opened.state.2.leaves
+
+  -- where no bucket is marked as dirty, the pair has no such data
+  none_live : (HasDirty o.buckets → ⊥) → MayBeLeft s states.Clean
+  none_live clean = λ p h k live. clean (to_mark h.view.geometry h.view.reading o.buckets
+      (opened.parts.known p h) (data_sectors p.backing_sectors h.view.backing) h.openable.pointers
+      h.openable.once k live)
+
+  closing_may : (state : BackingState) → IsCleanOf o.buckets state → MayBeLeft s state
+  closing_may state may = subst (MayBeLeft s) (sym may.0) (none_live may.1)
+
+  -- what the closing leaves behind the opening
+  pub idle_leaves : ChangesState (IsCleanOf o.buckets) b mid backing'
+      → ChangesState (MayBeLeft s) b backing backing'
+  idle_leaves changes = changes_again (MayBeLeft s) b backing mid backing' states.Dirty tt tt opened.state
+      (changes_wider (IsCleanOf o.buckets) (MayBeLeft s) closing_may b mid backing' changes)
 
   pub idled : IsClosed b o.buckets mid backing' → backing'.faults ≡ mid.faults
       → HasIdled facts s b cache cache' backing backing'
@@ -148,10 +174,12 @@ module _ {C : Type 0} (facts : C → DiskFacts) (s : Survey) (b : BackingSuper) 
     journal = o.journal;
     entered = opened.entered;
     state = states.Dirty;
+    cached = tt;
     is = λ p h. to_live h.view.geometry h.view.reading o.buckets (opened.parts.known p h) dirty;
     bytes = opened.state.0;
     sector = opened.state.1;
     stored = stored_settled opened.state.0 backing mid backing' opened.state.2 settled;
+    calls = calls ∙ ap next_count opened.calls;
     faults = faults ∙ opened.faults;
   }
   idled (inr (clean, stored, calls)) faults = record {
@@ -161,10 +189,11 @@ module _ {C : Type 0} (facts : C → DiskFacts) (s : Survey) (b : BackingSuper) 
     journal = o.journal;
     entered = opened.entered;
     state = states.Clean;
-    is = λ p h k live. clean (to_mark h.view.geometry h.view.reading o.buckets (opened.parts.known p h)
-        (data_sectors p.backing_sectors h.view.backing) h.openable.pointers h.openable.once k live);
+    cached = tt;
+    is = none_live clean;
     bytes = stored.0;
     sector = stored.1;
     stored = stored_again opened.state.0 stored.0 backing mid backing' opened.state.2 stored.2;
+    calls = calls ∙ ap (λ n. count_after 3 n) opened.calls;
     faults = faults ∙ opened.faults;
   }

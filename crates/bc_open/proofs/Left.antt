@@ -25,6 +25,7 @@ use Rattle.bc_state.specs.State.{super_in}
 use Rattle.bc_super.specs.Reading.{ReadsSuper}
 use Rattle.bc_super.specs.Writing.{IsBackingSector}
 use Rattle.bc_super.specs.declared.backing.BackingSuper.{BackingSuper}
+use Rattle.bc_super.specs.declared.state.BackingState.{BackingState}
 use Rattle.bc_open.specs.Left.{ChangesState, IsStill, LeavesThePair, SaysState, ShowsOn, TearsNoEntry}
 use Rattle.bc_open.proofs.States.{everywhere, later_of, over_torn, same_held, told_of}
 
@@ -127,7 +128,8 @@ module _ (cache backing : DiskFacts) (still : IsStill cache) (rests : IsStill ba
         (same_backing b ((same.leaves b).0 can))
 
     -- it stands there, and the state may be another one
-    module _ (b : BackingSuper) (reads : ReadsSuper backing b) (journal : Journal)
+    module _ (May : BackingState → Type 0) (b : BackingSuper) (reads : ReadsSuper backing b)
+        (journal : Journal)
         (entered : HasEntered s.supers.geometry s.journal mid cache' journal) where
       torn_by : (c : Image) → cache'.may_leave c
           → Torn (sector_at s.supers.geometry entered.next.sealed.place) (values_of entered.bytes) c0 c
@@ -146,7 +148,7 @@ module _ (cache backing : DiskFacts) (still : IsStill cache) (rests : IsStill ba
           (backing_read backing pair b told refl view.backing.0 reads)
 
       marked : (v : View) → IsView pair v → (image : Image)
-          → IsSameImage b0 image ⊎ SaysState b b0 image
+          → IsSameImage b0 image ⊎ SaysState May b b0 image
           → IsSameImage pair.backing image ⊎ IsMarked pair v image
       marked v view image (inl same) = inl same
       marked v view image (inr says) = inr (record {
@@ -158,12 +160,12 @@ module _ (cache backing : DiskFacts) (still : IsStill cache) (rests : IsStill ba
         image = says.same;
       })
 
-      pub state_shows : (backing' : DiskFacts) → ChangesState b backing backing'
+      pub state_shows : (backing' : DiskFacts) → ChangesState May b backing backing'
           → ShowsOn cache' backing' pair
       state_shows backing' changes v view sound tears c i may can =
           let was = was_read pair v s view of_read in
           let changed = told_of (λ held. (image : Image) → backing'.may_leave image
-          → IsSameImage held image ⊎ SaysState b held image) backing.holds b0 told changes i can in
+          → IsSameImage held image ⊎ SaysState May b held image) backing.holds b0 told changes i can in
           subst (λ (g : Geometry). Keeps pair v s.journal entered.next.sealed entered.bytes g) was.0
           (keeps pair v s.journal entered.next.sealed entered.bytes view sound was.1)
           entered.begun.entry entered.are (tears_none v view tears) c i (torn_by c may)
@@ -187,9 +189,9 @@ module _ (cache cache' backing backing' : DiskFacts) where
       backing' keeps same)
 
   pub state_leaves : (s : Survey) (mid : DiskFacts) → OfHeld (IsReadOf s) cache backing
-      → IsKept cache mid → (b : BackingSuper) → ReadsSuper backing b → (journal : Journal)
-      → HasEntered s.supers.geometry s.journal mid cache' journal → ChangesState b backing backing'
-      → Leaves
-  state_leaves s mid read kept b reads journal entered changes still rests =
+      → IsKept cache mid → (May : BackingState → Type 0) (b : BackingSuper) → ReadsSuper backing b
+      → (journal : Journal) → HasEntered s.supers.geometry s.journal mid cache' journal
+      → ChangesState May b backing backing' → Leaves
+  state_leaves s mid read kept May b reads journal entered changes still rests =
       of_both (ShowsOn cache' backing') cache backing (λ c0 b0 tells told. state_shows cache backing still
-      rests c0 b0 tells told s read mid cache' kept b reads journal entered backing' changes)
+      rests c0 b0 tells told s read mid cache' kept May b reads journal entered backing' changes)

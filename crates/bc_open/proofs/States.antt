@@ -77,10 +77,10 @@ elsewhere : (bytes old : Value) (s : ℕ) → s ≢ 8 → (if s == 8 then bytes 
 elsewhere bytes old s apart = by_test s 8 (λ b. (if b then bytes else old) ≡ old)
     (λ is. absurd (apart is)) (λ other. refl)
 
-module _ (b : BackingSuper) (state : BackingState) (cached : IsCached state) (bytes : Value)
-    (sector : IsBackingSector bytes (super_in state b)) where
+module _ (May : BackingState → Type 0) (b : BackingSuper) (state : BackingState) (may : May state)
+    (cached : IsCached state) (bytes : Value) (sector : IsBackingSector bytes (super_in state b)) where
   pub torn_says : (held image : Image) → Torn 8 (bytes ∷ []) held image
-      → IsSameImage held image ⊎ SaysState b held image
+      → IsSameImage held image ⊎ SaysState May b held image
   torn_says held image torn = elim (torn 8) [ inl as_was ↦ inl (stays as_was) | inr new ↦ inr (says new) ]
     where
       stays : image 8 ≡ held 8 → IsSameImage held image
@@ -90,9 +90,10 @@ module _ (b : BackingSuper) (state : BackingState) (cached : IsCached state) (by
             ap image (sym k.0) ∙ as_was ∙ ap held k.0)
       ]
 
-      says : at_run 8 (bytes ∷ []) 8 ≡ Some (image 8) → SaysState b held image
+      says : at_run 8 (bytes ∷ []) 8 ≡ Some (image 8) → SaysState May b held image
       says new = record {
         state = state;
+        may = may;
         cached = cached;
         bytes = bytes;
         sector = sector;
@@ -107,20 +108,24 @@ module _ (b : BackingSuper) (state : BackingState) (cached : IsCached state) (by
           other s apart (inr written) = absurd (apart (sym (one_run bytes (image s) s written).0))
 
 -- one state after another
-pub says_again : (b : BackingSuper) (held mid image : Image)
-    → IsSameImage held mid ⊎ SaysState b held mid → IsSameImage mid image ⊎ SaysState b mid image
-    → IsSameImage held image ⊎ SaysState b held image
-says_again b held mid image (inl same) second =
-    subst (λ (x : Image). IsSameImage x image ⊎ SaysState b x image) (everywhere held mid same) second
-says_again b held mid image (inr first) (inl same) = inr (record {
+pub says_again : (May : BackingState → Type 0) (b : BackingSuper) (held mid image : Image)
+    → IsSameImage held mid ⊎ SaysState May b held mid
+    → IsSameImage mid image ⊎ SaysState May b mid image
+    → IsSameImage held image ⊎ SaysState May b held image
+says_again May b held mid image (inl same) second =
+    subst (λ (x : Image). IsSameImage x image ⊎ SaysState May b x image) (everywhere held mid same)
+    second
+says_again May b held mid image (inr first) (inl same) = inr (record {
   state = first.state;
+  may = first.may;
   cached = first.cached;
   bytes = first.bytes;
   sector = first.sector;
   same = λ s. same s ∙ first.same s;
 })
-says_again b held mid image (inr first) (inr second) = inr (record {
+says_again May b held mid image (inr first) (inr second) = inr (record {
   state = second.state;
+  may = second.may;
   cached = second.cached;
   bytes = second.bytes;
   sector = second.sector;
@@ -131,67 +136,95 @@ says_again b held mid image (inr first) (inr second) = inr (record {
 
 -- ---- the device
 
-pub same_leaves : (b : BackingSuper) (old new : DiskFacts) → IsStill old → IsKept old new
-    → ChangesState b old new
-same_leaves b old new still kept = if_held
-    (λ held. (image : Image) → new.may_leave image → IsSameImage held image ⊎ SaysState b held image)
+-- the states that it may say are some of others
+says_wider : (A B : BackingState → Type 0) → ((state : BackingState) → A state → B state)
+    → (b : BackingSuper) (held image : Image) → IsSameImage held image ⊎ SaysState A b held image
+    → IsSameImage held image ⊎ SaysState B b held image
+says_wider A B wider b held image (inl same) = inl same
+says_wider A B wider b held image (inr says) = inr (record {
+  state = says.state;
+  may = wider says.state says.may;
+  cached = says.cached;
+  bytes = says.bytes;
+  sector = says.sector;
+  same = says.same;
+})
+
+pub changes_wider : (A B : BackingState → Type 0) → ((state : BackingState) → A state → B state)
+    → (b : BackingSuper) (old new : DiskFacts) → ChangesState A b old new → ChangesState B b old new
+changes_wider A B wider b old new changes = go old.holds changes
+  where
+    go : (o : Option Image)
+        → IfTold o (λ held. (image : Image) → new.may_leave image
+        → IsSameImage held image ⊎ SaysState A b held image)
+        → IfTold o (λ held. (image : Image) → new.may_leave image
+        → IsSameImage held image ⊎ SaysState B b held image)
+    go None from = tt
+    go (Some held) from = λ image may. says_wider A B wider b held image (from image may)
+
+pub same_leaves : (May : BackingState → Type 0) (b : BackingSuper) (old new : DiskFacts)
+    → IsStill old → IsKept old new → ChangesState May b old new
+same_leaves May b old new still kept = if_held
+    (λ held. (image : Image) → new.may_leave image → IsSameImage held image ⊎ SaysState May b held image)
     old.holds (λ held is image may. inl
     (told_of (λ held. (image : Image) → old.may_leave image → IsSameImage held image) old.holds held is
     still image ((kept.leaves image).0 may)))
 
-module _ (b : BackingSuper) (old new : DiskFacts) where
+module _ (May : BackingState → Type 0) (b : BackingSuper) (old new : DiskFacts) where
   abbrev Leaves : Image → Type 0
   Leaves held = (image : Image) → new.may_leave image
-      → IsSameImage held image ⊎ SaysState b held image
+      → IsSameImage held image ⊎ SaysState May b held image
 
-  pub settled_leaves : IsSettled old new → ChangesState b old new
+  pub settled_leaves : IsSettled old new → ChangesState May b old new
   settled_leaves settled = if_held Leaves old.holds (λ held is image may. inl
       (told_of (λ held. (image : Image) → new.may_leave image → IsSameImage held image) new.holds held
       (same_held old.holds new.holds held is settled.holds) settled.leaves image may))
 
-  module _ (state : BackingState) (cached : IsCached state) where
-    pub torn_leaves : IsBackingTorn (super_in state b) old new → IsStill old → ChangesState b old new
-    torn_leaves (bytes, sector, failed) still = if_held Leaves old.holds (λ held is image may.
-        let from = failed.leaves.adds image may in
+  module _ (state : BackingState) (may : May state) (cached : IsCached state) where
+    pub torn_leaves : IsBackingTorn (super_in state b) old new → IsStill old
+        → ChangesState May b old new
+    torn_leaves (bytes, sector, failed) still = if_held Leaves old.holds (λ held is image left.
+        let from = failed.leaves.adds image left in
         let same = everywhere held from.0 (told_of
         (λ held. (image : Image) → old.may_leave image → IsSameImage held image) old.holds held is
         still from.0 from.1) in
-        torn_says b state cached bytes sector held image
+        torn_says May b state may cached bytes sector held image
         (subst (λ (x : Image). Torn 8 (bytes ∷ []) x image) same from.2))
 
-    pub stored_leaves : IsBackingStored (super_in state b) old new → ChangesState b old new
-    stored_leaves (bytes, sector, stored) = if_held Leaves old.holds (λ held is image may.
+    pub stored_leaves : IsBackingStored (super_in state b) old new → ChangesState May b old new
+    stored_leaves (bytes, sector, stored) = if_held Leaves old.holds (λ held is image left.
         let l = later_of (Overwritten 8 (bytes ∷ [])) old.holds new.holds held is stored.holds in
         let same = everywhere l.image image (told_of
         (λ held. (image : Image) → new.may_leave image → (s : ℕ) → image s ≡ held s) new.holds l.image
-        l.is stored.leaves image may) in
-        torn_says b state cached bytes sector held image
+        l.is stored.leaves image left) in
+        torn_says May b state may cached bytes sector held image
         (over_torn 8 (bytes ∷ []) held image
         (subst (λ (x : Image). Overwritten 8 (bytes ∷ []) held x) (sym same) l.related)))
 
 -- what follows on a device that holds the same
-pub changes_from : (b : BackingSuper) (old mid new : DiskFacts)
-    → BothTold IsSameImage old.holds mid.holds → ChangesState b mid new → ChangesState b old new
-changes_from b old mid new both changes = if_held
-    (λ held. (image : Image) → new.may_leave image → IsSameImage held image ⊎ SaysState b held image)
+pub changes_from : (May : BackingState → Type 0) (b : BackingSuper) (old mid new : DiskFacts)
+    → BothTold IsSameImage old.holds mid.holds → ChangesState May b mid new
+    → ChangesState May b old new
+changes_from May b old mid new both changes = if_held
+    (λ held. (image : Image) → new.may_leave image → IsSameImage held image ⊎ SaysState May b held image)
     old.holds (λ held is. told_of
-    (λ held. (image : Image) → new.may_leave image → IsSameImage held image ⊎ SaysState b held image)
+    (λ held. (image : Image) → new.may_leave image → IsSameImage held image ⊎ SaysState May b held image)
     mid.holds held (same_held old.holds mid.holds held is both) changes)
 
 -- and on one that says such a state
-pub changes_again : (b : BackingSuper) (old mid new : DiskFacts) (state : BackingState)
-    → IsCached state → IsBackingStored (super_in state b) old mid → ChangesState b mid new
-    → ChangesState b old new
-changes_again b old mid new state cached (bytes, sector, stored) changes = if_held
-    (λ held. (image : Image) → new.may_leave image → IsSameImage held image ⊎ SaysState b held image)
-    old.holds (λ held is image may.
+pub changes_again : (May : BackingState → Type 0) (b : BackingSuper) (old mid new : DiskFacts)
+    (state : BackingState) → May state → IsCached state → IsBackingStored (super_in state b) old mid
+    → ChangesState May b mid new → ChangesState May b old new
+changes_again May b old mid new state may cached (bytes, sector, stored) changes = if_held
+    (λ held. (image : Image) → new.may_leave image → IsSameImage held image ⊎ SaysState May b held image)
+    old.holds (λ held is image left.
     let l = later_of (Overwritten 8 (bytes ∷ [])) old.holds mid.holds held is stored.holds in
-    says_again b held l.image image
-    (torn_says b state cached bytes sector held l.image
+    says_again May b held l.image image
+    (torn_says May b state may cached bytes sector held l.image
     (over_torn 8 (bytes ∷ []) held l.image l.related))
     (told_of
-    (λ held. (image : Image) → new.may_leave image → IsSameImage held image ⊎ SaysState b held image)
-    mid.holds l.image l.is changes image may))
+    (λ held. (image : Image) → new.may_leave image → IsSameImage held image ⊎ SaysState May b held image)
+    mid.holds l.image l.is changes image left))
 
 -- ---- stored twice
 

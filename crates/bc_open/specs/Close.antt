@@ -7,11 +7,16 @@ use Rattle.bc_disk.specs.Disk.{DiskFacts, IsSettled}
 use Rattle.bc_state.specs.State.{super_in}
 use Rattle.bc_super.specs.Writing.{IsBackingStored, count_after}
 use Rattle.bc_super.specs.declared.backing.BackingSuper.{BackingSuper}
+use Rattle.bc_super.specs.declared.state.BackingState.{BackingState}
 use Rattle.bc_super.specs.declared.state.BackingState.TheVariants as states
 
 -- some bucket has data that is all that there is of it
 abbrev pub HasDirty : Buckets → Type 0
 HasDirty b = Any (λ r. r.mark ≡ marks.Dirty) b.records
+
+-- what a closing may make the device say: that no bucket has such data, where none has
+abbrev pub IsCleanOf : Buckets → BackingState → Type 0
+IsCleanOf buckets state = (state ≡ states.Clean) × ¬ (HasDirty buckets)
 
 -- What the device holds is stable. Where no bucket has such data it says so, and nothing is written
 -- where some has.

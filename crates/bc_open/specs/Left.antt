@@ -16,18 +16,20 @@ use Rattle.bc_super.specs.declared.state.BackingState.{BackingState}
 
 -- ---- the backing device
 
--- it says such a state of its cache, and else has what it had
-pub record SaysState (b : BackingSuper) (held image : Image) : Type 0 where
+-- it says of its cache a state that it may say, and else has what it had
+pub record SaysState (May : BackingState → Type 0) (b : BackingSuper) (held image : Image)
+    : Type 0 where
   pub state : BackingState
+  pub may : May state
   pub cached : IsCached state
   pub bytes : Value
   pub sector : IsBackingSector bytes (super_in state b)
   pub same : IsSameImage (λ s. if s == 8 then bytes else held s) image
 
--- a crash leaves what the device held, but for such a state
-abbrev pub ChangesState : BackingSuper → DiskFacts → DiskFacts → Type 0
-ChangesState b old new = IfTold old.holds (λ held. (image : Image) → new.may_leave image
-    → IsSameImage held image ⊎ SaysState b held image)
+-- a crash leaves what the device held, or but for such a state
+abbrev pub ChangesState : (BackingState → Type 0) → BackingSuper → DiskFacts → DiskFacts → Type 0
+ChangesState May b old new = IfTold old.holds (λ held. (image : Image) → new.may_leave image
+    → IsSameImage held image ⊎ SaysState May b held image)
 
 -- ---- both devices
 

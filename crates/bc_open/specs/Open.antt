@@ -1,5 +1,5 @@
 -- A pair that is opened.
-use Rattle.std.specs.Prelude.{◌≡◌, ◌⊎◌, ◌<◌, ◌≤◌, ℕ}
+use Rattle.std.specs.Prelude.{◌≡◌, ◌⊎◌, ◌<◌, ◌≤◌, ◌∷◌, ◌++◌, ℕ, List, []}
 use Rattle.bc_alloc.specs.Reserves.{Reserves}
 use Rattle.bc_bucket.specs.Buckets.{Buckets}
 use Rattle.bc_disk.specs.Device.{next_count}
@@ -9,6 +9,7 @@ use Rattle.bc_enter.specs.Next.{IsOdd}
 use Rattle.bc_entered.specs.Enter.{HasEntered}
 use Rattle.bc_entries.specs.Journal.{Journal}
 use Rattle.bc_image.specs.Pair.{Pair}
+use Rattle.bc_jset.specs.Entries.{FoundEntry}
 use Rattle.bc_recover.specs.Known.{AreKnown}
 use Rattle.bc_recover.specs.Read.{IsReadOf}
 use Rattle.bc_recover.specs.Spare.{HasReserves}
@@ -66,11 +67,20 @@ IsReadStop s old new (errors.Fault device.Backing) = ⊥
 IsReadStop s old new errors.Memory = IsUnwritten old new
 IsReadStop s old new error = OfRead s old (λ p h. ⊥) × IsUnwritten old new
 
+-- the number of the newest of these entries
+abbrev pub IsNewestNumber : Journal → ℕ → Type 0
+IsNewestNumber read seq = (older : List FoundEntry) × (newest : FoundEntry)
+    × (read.entries ≡ older ++ newest ∷ []) × (seq ≡ newest.item.seq)
+
+-- the newest of them is one behind which none can come, and this is its number
+abbrev pub EndsOdd : Journal → ℕ → Type 0
+EndsOdd read seq = IsOdd read × IsNewestNumber read seq
+
 -- Why the entry wasn't written: one of three calls failed, or none was made.
 abbrev pub IsEntryStop : {C : Type 0} → (C → DiskFacts) → Journal → C → C → OpenError → Type 0
 IsEntryStop facts read old new (errors.Fault device.Cache) = HasFailed 3 (facts old) (facts new)
 IsEntryStop facts read old new errors.Memory = new ≡ old
-IsEntryStop facts read old new (errors.JournalEnd seq) = IsOdd read × (new ≡ old)
+IsEntryStop facts read old new (errors.JournalEnd seq) = EndsOdd read seq × (new ≡ old)
 IsEntryStop facts read old new error = ⊥
 
 module _ {B : Type 0} (facts : B → DiskFacts) (s : Survey) (n : ℕ) (cache cache' : DiskFacts)
@@ -85,13 +95,13 @@ module _ {B : Type 0} (facts : B → DiskFacts) (s : Survey) (n : ℕ) (cache ca
 
   -- Why a pair that was read isn't opened. One call of a device failed, and no other; of the backing
   -- device it was one of so many, and it wasn't called where the cache device failed. Or memory ran
-  -- out before anything was written, or the newest entry is one behind which none can come. Nothing
-  -- else comes of devices that hold what was read.
+  -- out before anything was written, or the newest entry, of this number, is one behind which none can
+  -- come. Nothing else comes of devices that hold what was read.
   abbrev pub IsOpenStop : OpenError → Type 0
   IsOpenStop (errors.Fault device.Cache) =
       (cache'.faults ≡ next_count cache.faults) × (backing' ≡ backing)
   IsOpenStop (errors.Fault device.Backing) = (cache'.faults ≡ cache.faults)
       × HasFailed n (facts backing) (facts backing')
   IsOpenStop errors.Memory = IsAsBefore
-  IsOpenStop (errors.JournalEnd seq) = (IsOdd s.journal ⊎ IsAnother) × IsAsBefore
+  IsOpenStop (errors.JournalEnd seq) = (EndsOdd s.journal seq ⊎ IsAnother) × IsAsBefore
   IsOpenStop error = IsAnother × IsAsBefore

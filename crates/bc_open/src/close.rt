@@ -3,7 +3,7 @@ ghost use Rattle.std.specs.Prelude.{◌≡◌, Any, OnErr, OnOk};
 ghost use Rattle.std.specs.Bool.{MatchBool};
 ghost use Rattle.bc_bucket.specs.declared.bucket.Mark.TheVariants as marks;
 ghost use Rattle.bc_super.specs.Super.{IsUsable};
-ghost use Rattle.bc_open.specs.Close.{IsClosed};
+ghost use Rattle.bc_open.specs.Close.{IsCleanOf, IsClosed};
 ghost use Rattle.bc_open.specs.Open.{HasFailed};
 ghost use Rattle.bc_open.specs.Left.{ChangesState, IsStill};
 
@@ -30,8 +30,8 @@ fn any_dirty(buckets: &[Bucket]) -> bool
 /// bucket has data that is all that there is of it, its superblock says so. The superblock is the one
 /// that the device had when it was opened. Takes no memory.
 ///
-/// After `Failed` a crash leaves what the device held, as it was or in another state of a device
-/// with a cache.
+/// Wherever the device stops, also within a write, a crash leaves what it held, or that with `clean`
+/// in its superblock, and this only where no bucket has such data.
 pub fn close_pair<B: Disk>(
     backing: &mut B,
     superblock: &BackingSuper,
@@ -42,8 +42,8 @@ pub fn close_pair<B: Disk>(
         (B.facts backing.new)) }
     ensures failed { OnErr result (HasFailed 3 (B.facts backing.old) (B.facts backing.new)) }
     ensures faults { OnOk result ((B.facts backing.new).faults ≡ (B.facts backing.old).faults) }
-    ensures left { IsStill (B.facts backing.old)
-        → ChangesState superblock.now (B.facts backing.old) (B.facts backing.new) }
+    ensures left { IsStill (B.facts backing.old) → ChangesState (IsCleanOf buckets.now)
+        superblock.now (B.facts backing.old) (B.facts backing.new) }
 {
     backing.barrier()?;
     if any_dirty(buckets.records()) {

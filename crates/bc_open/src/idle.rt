@@ -3,8 +3,8 @@ ghost use Rattle.std.specs.Prelude.{◌*◌, ◌≤◌, IfErr, OnOk};
 ghost use Rattle.bc_recover.specs.Read.{HasParts, IsReadOf};
 ghost use Rattle.bc_replay.specs.Causes.{OfHeld};
 ghost use Rattle.bc_super.specs.Reading.{ReadsSuper};
-ghost use Rattle.bc_open.specs.Idle.{HasIdled};
-ghost use Rattle.bc_open.specs.Left.{LeavesThePair};
+ghost use Rattle.bc_open.specs.Idle.{HasIdled, MayBeLeft};
+ghost use Rattle.bc_open.specs.Left.{ChangesState, IsStill, LeavesThePair};
 ghost use Rattle.bc_open.specs.Open.{IsOpenStop};
 
 use crate::close::close_pair;
@@ -16,11 +16,12 @@ use std::alloc::Global;
 
 /// Opens a pair that was read, as `open_pair` does, and closes it again. After `Ok` its backing
 /// device says `dirty` exactly where some live data of the cache is all that there is of it, and else
-/// `clean`.
+/// `clean`; it was called three times, or five times for `clean`.
 ///
 /// The errors are those of `open_pair`, and `Fault` of the backing device at the closing. Whatever is
 /// answered, and wherever a device stops, also within a write, a crash leaves a sound pair that shows
-/// what the pair showed.
+/// what the pair showed, and the backing device as it was or with another state in its superblock:
+/// `dirty`, or `clean` where no live data of the cache is all that there is of it.
 pub fn open_and_close<C: Disk, B: Disk>(
     alloc: Global,
     cache: &mut C,
@@ -37,6 +38,8 @@ pub fn open_and_close<C: Disk, B: Disk>(
         (B.facts backing.old) (B.facts backing.new)) }
     ensures cause { IfErr result (IsOpenStop B.facts s.now 5 (C.facts cache.old) (C.facts cache.new)
         backing.old backing.new) }
+    ensures state { IsStill (B.facts backing.old) → ChangesState (MayBeLeft s.now) superblock.now
+        (B.facts backing.old) (B.facts backing.new) }
     ensures left { LeavesThePair (C.facts cache.old) (C.facts cache.new)
         (B.facts backing.old) (B.facts backing.new) }
 {

@@ -1,14 +1,13 @@
 //! A pair is opened.
-ghost use Rattle.std.specs.Prelude.{◌≡◌, ◌∷◌, ◌++◌, ◌*◌, ◌<◌, ◌≤◌, [], List, IfErr, IfOk, OnOk, length};
+ghost use Rattle.std.specs.Prelude.{◌≡◌, ◌*◌, ◌<◌, ◌≤◌, IfErr, IfOk, OnOk, length};
 ghost use Rattle.bc_disk.specs.Disk.{IsKept};
 ghost use Rattle.bc_entered.specs.Enter.{HasEntered, KeepsThePair};
-ghost use Rattle.bc_jset.specs.Entries.{FoundEntry};
 ghost use Rattle.bc_recover.specs.Read.{HasParts, IsReadOf};
 ghost use Rattle.bc_replay.specs.Causes.{OfHeld};
 ghost use Rattle.bc_replay.specs.Parts.{IsOfEntries};
 ghost use Rattle.bc_super.specs.Reading.{ReadsSuper};
-ghost use Rattle.bc_open.specs.Left.{LeavesThePair};
-ghost use Rattle.bc_open.specs.Open.{AreParts, HasOpened, IsEntryStop, IsOpenStop, IsReadStop};
+ghost use Rattle.bc_open.specs.Left.{ChangesState, IsStill, LeavesThePair};
+ghost use Rattle.bc_open.specs.Open.{AreParts, HasOpened, IsEntryStop, IsNewestNumber, IsOpenStop, IsReadStop};
 
 use bc_alloc::Reserves;
 use bc_bucket::Buckets;
@@ -75,8 +74,7 @@ fn read_parts<C: Disk>(alloc: Global, cache: &mut C, s: &Survey) -> Result<Parts
 /// The number of the newest entry that counts.
 fn newest_number(read: &Entries) -> u64
     requires { 0 < length read.now.entries }
-    ensures { (older : List FoundEntry) × (newest : FoundEntry)
-        × (read.now.entries ≡ older ++ newest ∷ []) × (result ≡ newest.item.seq) }
+    ensures { IsNewestNumber read.now result }
 {
     let count = read.len();
     read.entry(count - 1).item.seq
@@ -111,9 +109,10 @@ fn write_entry<C: Disk>(
 /// device holds. The time is linear in the keys and buckets that were read, but for a logarithm.
 ///
 /// The error is `Fault` where a call of a device failed, or `Memory`, before which nothing was
-/// written; a pair whose newest entry is one behind which none can come is refused as `JournalEnd`.
-/// Of devices that hold what was read no other error comes. Whatever is answered, and wherever a
-/// device stops, also within a write, a crash leaves a sound pair that shows what the pair showed.
+/// written; a pair whose newest entry is one behind which none can come is refused as `JournalEnd`
+/// with that entry's number. Of devices that hold what was read no other error comes. Whatever is
+/// answered, and wherever a device stops, also within a write, a crash leaves a sound pair that shows
+/// what the pair showed, and the backing device as it was or with `dirty` in its superblock.
 pub fn open_pair<C: Disk, B: Disk>(
     alloc: Global,
     cache: &mut C,
@@ -130,6 +129,9 @@ pub fn open_pair<C: Disk, B: Disk>(
         (B.facts backing.old) (B.facts backing.new)) }
     ensures cause { IfErr result (IsOpenStop B.facts s.now 2 (C.facts cache.old) (C.facts cache.new)
         backing.old backing.new) }
+    ensures state { IsStill (B.facts backing.old)
+        → ChangesState (λ state. state ≡ BackingState.Dirty) superblock.now
+        (B.facts backing.old) (B.facts backing.new) }
     ensures left { LeavesThePair (C.facts cache.old) (C.facts cache.new)
         (B.facts backing.old) (B.facts backing.new) }
 {

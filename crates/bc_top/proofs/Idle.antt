@@ -314,7 +314,7 @@ module _ {C B : Type 0} (cache_facts : C → DiskFacts) (facts : B → DiskFacts
               (next_risen (facts tested_backing).faults (facts backing').faults stop.1.faults))))
           failed lines nothing errors.Memory stop at = inl at
           failed lines nothing (errors.JournalEnd seq) stop at = elim stop.0 [
-            | inl is_odd ↦ inr (inr (nothing, (refused_none, inr (at, odd is_odd))))
+            | inl is_odd ↦ inr (inr (nothing, (refused_none, inr (at, odd is_odd.0))))
             | inr another ↦ absurd (not_another another)
           ]
           failed lines nothing e stop at = absurd (not_another stop.0)

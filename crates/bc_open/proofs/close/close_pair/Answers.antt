@@ -25,5 +25,6 @@ pub returns-clause-left : goal.returns-clause-left
 returns-clause-left g c = λ still.
     closing_leaves c.args.superblock.now (g.B.Disk.facts c.args.backing.now)
     (g.B.Disk.facts c.barrier.new.self) (g.B.Disk.facts c.write_state.new.disk)
-    c.in_ok-barrier.ensures.ok c.write_state.result c.write_state.ensures.ok
-    c.write_state.ensures.failed
+    c.in_ok-barrier.ensures.ok c.write_state.result c.args.buckets.now
+    (subst (λ (xs : List Bucket). Any (λ b. b.mark ≡ marks.Dirty) xs → ⊥) c.records.ensures
+    c.if-any_dirty.ensures) c.write_state.ensures.ok c.write_state.ensures.failed

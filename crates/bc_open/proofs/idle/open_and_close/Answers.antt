@@ -1,11 +1,10 @@
 use Rattle.std.proofs.Common.{◌∙◌, sym}
-use Rattle.bc_super.specs.declared.state.BackingState.TheVariants as states
 use Rattle.bc_open.specs.Close.{IsClosed}
 use Rattle.bc_open.specs.Open.{HasFailed}
 use Rattle.std.proofs.Common.{◌≡◌}
-use Rattle.bc_open.proofs.Exits.{failed_more, idled, on_err, on_ok, still_open}
+use Rattle.bc_open.specs.Idle.{MayBeLeft}
+use Rattle.bc_open.proofs.Exits.{dirty_left, failed_more, idle_leaves, idled, on_err, on_ok, still_open}
 use Rattle.bc_open.proofs.Left.{state_leaves}
-use Rattle.bc_open.proofs.States.{changes_again}
 use Rattle.bc_open.proofs.idle.open_and_close.Goals as goal
 
 pub returns-then-is_err-clause-cause : goal.returns-then-is_err-clause-cause
@@ -28,9 +27,10 @@ returns-then-is_err-clause-left g c =
     let backing' = g.B.Disk.facts c.close_pair.new.backing in
     let b = c.args.superblock.now in
     state_leaves (g.C.Disk.facts c.args.cache.now) (g.C.Disk.facts c.open_pair.new.cache) backing backing'
-    c.args.s.now (g.C.Disk.facts opened.between) c.requires.read opened.kept b c.requires.reads
-    c.in_ok-opened.opened.journal opened.entered
-    (changes_again b backing mid backing' states.Dirty tt opened.state
+    c.args.s.now (g.C.Disk.facts opened.between) c.requires.read opened.kept (MayBeLeft c.args.s.now) b
+    c.requires.reads c.in_ok-opened.opened.journal opened.entered
+    (idle_leaves g.C.Disk.facts c.args.s.now b c.args.cache.now c.open_pair.new.cache backing mid
+    backing' c.in_ok-opened.opened opened
     (c.close_pair.ensures.left (still_open g.C.Disk.facts c.args.s.now b c.args.cache.now
     c.open_pair.new.cache backing mid backing' c.in_ok-opened.opened opened)))
 
@@ -56,8 +56,39 @@ returns-clause-left g c =
     let backing' = g.B.Disk.facts c.close_pair.new.backing in
     let b = c.args.superblock.now in
     state_leaves (g.C.Disk.facts c.args.cache.now) (g.C.Disk.facts c.open_pair.new.cache) backing backing'
-    c.args.s.now (g.C.Disk.facts opened.between) c.requires.read opened.kept b c.requires.reads
-    c.in_ok-opened.opened.journal opened.entered
-    (changes_again b backing mid backing' states.Dirty tt opened.state
+    c.args.s.now (g.C.Disk.facts opened.between) c.requires.read opened.kept (MayBeLeft c.args.s.now) b
+    c.requires.reads c.in_ok-opened.opened.journal opened.entered
+    (idle_leaves g.C.Disk.facts c.args.s.now b c.args.cache.now c.open_pair.new.cache backing mid
+    backing' c.in_ok-opened.opened opened
     (c.close_pair.ensures.left (still_open g.C.Disk.facts c.args.s.now b c.args.cache.now
     c.open_pair.new.cache backing mid backing' c.in_ok-opened.opened opened)))
+
+pub returns-then-is_err-clause-state : goal.returns-then-is_err-clause-state
+returns-then-is_err-clause-state g c = λ rests.
+    let opened = c.in_ok-opened.ensures.opened in
+    let backing = g.B.Disk.facts c.args.backing.now in
+    let mid = g.B.Disk.facts c.open_pair.new.backing in
+    let backing' = g.B.Disk.facts c.close_pair.new.backing in
+    let b = c.args.superblock.now in
+    idle_leaves g.C.Disk.facts c.args.s.now b c.args.cache.now c.open_pair.new.cache backing mid
+    backing' c.in_ok-opened.opened opened
+    (c.close_pair.ensures.left (still_open g.C.Disk.facts c.args.s.now b c.args.cache.now
+    c.open_pair.new.cache backing mid backing' c.in_ok-opened.opened opened))
+
+pub returns-clause-state : goal.returns-clause-state
+returns-clause-state g c = λ rests.
+    let opened = c.in_ok-opened.ensures.opened in
+    let backing = g.B.Disk.facts c.args.backing.now in
+    let mid = g.B.Disk.facts c.open_pair.new.backing in
+    let backing' = g.B.Disk.facts c.close_pair.new.backing in
+    let b = c.args.superblock.now in
+    idle_leaves g.C.Disk.facts c.args.s.now b c.args.cache.now c.open_pair.new.cache backing mid
+    backing' c.in_ok-opened.opened opened
+    (c.close_pair.ensures.left (still_open g.C.Disk.facts c.args.s.now b c.args.cache.now
+    c.open_pair.new.cache backing mid backing' c.in_ok-opened.opened opened))
+
+pub returns-in_err-opened-clause-state : goal.returns-in_err-opened-clause-state
+returns-in_err-opened-clause-state g c = λ rests.
+    let backing = g.B.Disk.facts c.args.backing.now in
+    let mid = g.B.Disk.facts c.open_pair.new.backing in
+    dirty_left c.args.s.now c.args.superblock.now backing mid (c.in_err-opened.ensures.state rests)

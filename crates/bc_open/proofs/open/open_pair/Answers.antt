@@ -1,12 +1,13 @@
-use Rattle.std.proofs.Common.{◌∙◌, sym}
+use Rattle.std.proofs.Common.{◌≡◌, ◌∙◌, refl, sym}
 use Rattle.bc_replay.proofs.Pairs.{passed_on}
 use Rattle.bc_state.specs.State.{super_in}
 use Rattle.bc_super.specs.Writing.{IsBackingStored, IsBackingTorn}
+use Rattle.bc_super.specs.declared.state.BackingState.{BackingState}
 use Rattle.bc_super.specs.declared.state.BackingState.TheVariants as states
 use Rattle.bc_open.specs.Open.{IsOpenStop}
 use Rattle.bc_open.proofs.Exits.{failed_of, good_of, kept_self, on_err, on_ok}
 use Rattle.bc_open.proofs.Left.{entered_leaves, kept_leaves, state_leaves}
-use Rattle.bc_open.proofs.States.{stored_leaves, torn_leaves}
+use Rattle.bc_open.proofs.States.{same_leaves, stored_leaves, torn_leaves}
 use Rattle.bc_open.proofs.Stops.{read_stop}
 use Rattle.bc_open.proofs.open.open_pair.Goals as goal
 
@@ -48,9 +49,11 @@ returns-then-is_err-clause-left g c = λ still rests.
     let backing' = g.B.Disk.facts c.write_state.new.disk in
     let b = c.args.superblock.now in
     state_leaves cache (g.C.Disk.facts c.write_entry.new.cache) backing backing' c.args.s.now
-    (g.C.Disk.facts c.read_parts.new.cache) c.requires.read c.in_ok-parts.ensures.kept b
-    c.requires.reads c.in_ok-journal.journal c.in_ok-journal.ensures.ok
-    (torn_leaves b backing backing' states.Dirty tt
+    (g.C.Disk.facts c.read_parts.new.cache) c.requires.read c.in_ok-parts.ensures.kept
+    (λ (state : BackingState). state ≡ states.Dirty) b c.requires.reads c.in_ok-journal.journal
+    c.in_ok-journal.ensures.ok
+    (torn_leaves (λ (state : BackingState). state ≡ states.Dirty) b backing backing' states.Dirty refl
+    tt
     (on_err (IsBackingTorn (super_in states.Dirty b) backing backing') c.write_state.result
     (sym c.is_err.ensures.value ∙ c.if-is_err.true) c.write_state.ensures.failed) rests) still rests
 
@@ -79,8 +82,42 @@ returns-clause-left g c =
     let backing' = g.B.Disk.facts c.write_state.new.disk in
     let b = c.args.superblock.now in
     state_leaves cache (g.C.Disk.facts c.write_entry.new.cache) backing backing' c.args.s.now
-    (g.C.Disk.facts c.read_parts.new.cache) c.requires.read c.in_ok-parts.ensures.kept b
-    c.requires.reads c.in_ok-journal.journal c.in_ok-journal.ensures.ok
-    (stored_leaves b backing backing' states.Dirty tt
+    (g.C.Disk.facts c.read_parts.new.cache) c.requires.read c.in_ok-parts.ensures.kept
+    (λ (state : BackingState). state ≡ states.Dirty) b c.requires.reads c.in_ok-journal.journal
+    c.in_ok-journal.ensures.ok
+    (stored_leaves (λ (state : BackingState). state ≡ states.Dirty) b backing backing' states.Dirty refl
+    tt
     (on_ok (IsBackingStored (super_in states.Dirty b) backing backing') c.write_state.result
     (sym c.is_err.ensures.value ∙ c.if-is_err.false) c.write_state.ensures.ok))
+
+pub returns-in_err-parts-clause-state : goal.returns-in_err-parts-clause-state
+returns-in_err-parts-clause-state g c = λ rests.
+    let backing = g.B.Disk.facts c.args.backing.now in
+    same_leaves (λ (state : BackingState). state ≡ states.Dirty) c.args.superblock.now backing backing
+    rests (kept_self backing)
+
+pub returns-in_err-journal-clause-state : goal.returns-in_err-journal-clause-state
+returns-in_err-journal-clause-state g c = λ rests.
+    let backing = g.B.Disk.facts c.args.backing.now in
+    same_leaves (λ (state : BackingState). state ≡ states.Dirty) c.args.superblock.now backing backing
+    rests (kept_self backing)
+
+pub returns-then-is_err-clause-state : goal.returns-then-is_err-clause-state
+returns-then-is_err-clause-state g c = λ rests.
+    let backing = g.B.Disk.facts c.args.backing.now in
+    let backing' = g.B.Disk.facts c.write_state.new.disk in
+    let b = c.args.superblock.now in
+    torn_leaves (λ (state : BackingState). state ≡ states.Dirty) b backing backing' states.Dirty refl
+    tt
+    (on_err (IsBackingTorn (super_in states.Dirty b) backing backing') c.write_state.result
+    (sym c.is_err.ensures.value ∙ c.if-is_err.true) c.write_state.ensures.failed) rests
+
+pub returns-clause-state : goal.returns-clause-state
+returns-clause-state g c = λ rests.
+    let backing = g.B.Disk.facts c.args.backing.now in
+    let backing' = g.B.Disk.facts c.write_state.new.disk in
+    let b = c.args.superblock.now in
+    stored_leaves (λ (state : BackingState). state ≡ states.Dirty) b backing backing' states.Dirty refl
+    tt
+    (on_ok (IsBackingStored (super_in states.Dirty b) backing backing') c.write_state.result
+    (sym c.is_err.ensures.value ∙ c.if-is_err.false) c.write_state.ensures.ok)
