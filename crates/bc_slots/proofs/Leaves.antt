@@ -82,7 +82,7 @@ none_opened d g leaves pending count part cache is empty =
 pieces_fit : (leaf : LeafRange) (keys pieces : List Numbered) → ArePieces leaf keys pieces → All (FitsRange leaf) pieces
 pieces_fit leaf [] pieces none = subst (λ (ps : List Numbered). All (FitsRange leaf) ps) (sym none) (All-nil (FitsRange leaf))
 pieces_fit leaf (key ∷ keys) pieces are = elim are [
-  inl out ↦ pieces_fit leaf keys pieces out.1
+  | inl out ↦ pieces_fit leaf keys pieces out.1
   | inr more ↦ subst (λ (ps : List Numbered). All (FitsRange leaf) ps) (sym more.3) (All-cons (FitsRange leaf) more.0 more.1 (fits leaf key more.0 more.2) (pieces_fit leaf keys more.1 more.4))
 ]
   where

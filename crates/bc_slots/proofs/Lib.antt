@@ -1,6 +1,7 @@
 pub mod Passed
 pub mod Filled
 pub mod Steps
-pub mod Reads
+pub mod Loads
 pub mod Made
-pub mod Laws
+pub mod Leaves
+pub mod Calls

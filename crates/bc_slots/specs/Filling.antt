@@ -45,3 +45,8 @@ abbrev pub IsTaken : Geometry → LeafRange → List Numbered → DiskFacts → 
 IsTaken g range [] d old new filled filled' = (new ≡ old) × (filled' ≡ filled)
 IsTaken g range (key ∷ keys) d old new filled filled' =
     HasCome g range (key ∷ keys) d old new filled filled'
+
+-- how many calls were made then: one more where the leaf was read
+abbrev pub calls_with : List Numbered → ℕ → ℕ
+calls_with [] calls = calls
+calls_with (key ∷ keys) calls = next_count calls

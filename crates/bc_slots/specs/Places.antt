@@ -17,3 +17,7 @@ is_in pending count part number =
 abbrev pub numbers_in : List (List Numbered) → ℕ → ℕ → List ℕ
 numbers_in pending count part =
     filter (is_in pending count part) (range_with_len 0 (length pending))
+
+-- how many leaves have some
+abbrev pub readings : List (List Numbered) → ℕ
+readings pending = length (filter has_keys pending)

@@ -11,11 +11,7 @@ use std::alloc::{AllocError, Global};
 pub const SPARE: u32 = 4;
 
 /// For each part, of so many, how many of its leaves have keys.
-pub fn count_leaves(
-    alloc: Global,
-    pending: &[Pending],
-    count: u32,
-) -> Result<Vec<u32>, AllocError>
+pub fn count_leaves(alloc: Global, pending: &[Pending], count: u32) -> Result<Vec<u32>, AllocError>
     requires some { 0 < count }
     requires few { length pending.now < 2 ^ 32 }
     ensures { IfOk result (λ counts. AreCounts pending.now count counts.items) }

@@ -1,10 +1,12 @@
 //! Leaves come into their parts.
-ghost use Rattle.std.specs.Prelude.{◌≡◌, ◌+◌, ◌*◌, ◌<◌, ◌≤◌, ◌^◌, length, IfErr, IfOk};
+ghost use Rattle.std.specs.Prelude.{◌≡◌, ◌+◌, ◌*◌, ◌<◌, ◌≤◌, ◌^◌, length, IfErr, IfOk, OnOk};
 ghost use Rattle.bc_disk.specs.Disk.{IsKept};
 ghost use Rattle.bc_replay.specs.Causes.{RisesWith};
 ghost use Rattle.bc_slots.specs.Filling.{ArePrepared};
 ghost use Rattle.bc_slots.specs.Parts.{AreOfLeaves, AreParts, IsPartsCause};
+ghost use Rattle.bc_slots.specs.Places.{readings};
 ghost use Rattle.bc_spine.specs.Leaves.{AreCounted};
+ghost use Rattle.bc_super.specs.Writing.{count_after};
 
 use crate::leaf::take_leaf;
 use bc_cache::NodeCache;
@@ -34,6 +36,8 @@ pub fn fill<C: Disk>(
         (length parts.items) (C.facts cache.old) filled.items) }
     ensures refused { IfErr result
         (IsPartsCause g.now leaves.now pending.now (C.facts cache.old)) }
+    ensures calls { OnOk result ((C.facts cache.new).calls
+        ≡ count_after (readings pending.now) (C.facts cache.old).calls) }
     ensures kept { IsKept (C.facts cache.old) (C.facts cache.new) }
     ensures faults { RisesWith result (C.facts cache.old).faults (C.facts cache.new).faults }
 {

@@ -1,11 +1,12 @@
 //! One leaf, with keys of the journal.
-ghost use Rattle.std.specs.Prelude.{◌≡◌, ◌+◌, ◌*◌, ◌<◌, ◌≤◌, ◌^◌, true, All, Some, None, slice_get, IfErr, IfOk};
+ghost use Rattle.std.specs.Prelude.{◌≡◌, ◌+◌, ◌*◌, ◌<◌, ◌≤◌, ◌^◌, true, All, Some, None, slice_get, IfErr, IfOk, OnOk};
 ghost use Rattle.bc_cache.specs.Slots.{Misses};
-ghost use Rattle.bc_disk.specs.Disk.{IsKept};
+ghost use Rattle.bc_disk.specs.Disk.{IsCounted, IsKept};
+ghost use Rattle.bc_node.specs.Loading.{good};
 ghost use Rattle.bc_regrow.specs.Held.{open_node};
 ghost use Rattle.bc_reload.specs.Reload.{FitsRange, IsReloaded};
 ghost use Rattle.bc_replay.specs.Causes.{RisesWith};
-ghost use Rattle.bc_slots.specs.Filling.{IsTaken};
+ghost use Rattle.bc_slots.specs.Filling.{IsTaken, calls_with};
 ghost use Rattle.bc_slots.specs.Parts.{IsLeafCause};
 ghost use Rattle.bc_slots.specs.Places.{has_keys};
 
@@ -43,6 +44,7 @@ fn read_leaf<C: Disk>(
     requires fit { All (FitsRange range.now) keys.now }
     ensures found { IfOk result (IsReloaded g.now range.now keys.now (C.facts cache.old)) }
     ensures refused { IfErr result (IsLeafCause g.now range.now (C.facts cache.old)) }
+    ensures read { OnOk result (IsCounted good (C.facts cache.old) (C.facts cache.new)) }
     ensures kept { IsKept (C.facts cache.old) (C.facts cache.new) }
     ensures faults { RisesWith result (C.facts cache.old).faults (C.facts cache.new).faults }
 {
@@ -75,7 +77,9 @@ pub fn take_leaf<C: Disk>(
     ensures taken { IfOk result (λ _. IsTaken g.now range.now keys.now (C.facts cache.old)
         part.old part.new filled.old filled.new) }
     ensures refused { IfErr result (IsLeafCause g.now range.now (C.facts cache.old)) }
-    ensures read { IfErr result (λ _. has_keys keys.now ≡ true) }
+    ensures keys { IfErr result (λ _. has_keys keys.now ≡ true) }
+    ensures calls { OnOk result
+        ((C.facts cache.new).calls ≡ calls_with keys.now (C.facts cache.old).calls) }
     ensures kept { IsKept (C.facts cache.old) (C.facts cache.new) }
     ensures faults { RisesWith result (C.facts cache.old).faults (C.facts cache.new).faults }
 {

@@ -1,9 +1,11 @@
 //! The parts of a pair that is opened.
-ghost use Rattle.std.specs.Prelude.{◌≡◌, ◌*◌, ◌<◌, ◌≤◌, IfErr, IfOk};
+ghost use Rattle.std.specs.Prelude.{◌≡◌, ◌*◌, ◌<◌, ◌≤◌, IfErr, IfOk, OnOk};
 ghost use Rattle.bc_disk.specs.Disk.{IsKept};
 ghost use Rattle.bc_replay.specs.Causes.{RisesWith};
 ghost use Rattle.bc_slots.specs.Parts.{AreOfLeaves, AreParts, IsPartsCause};
+ghost use Rattle.bc_slots.specs.Places.{readings};
 ghost use Rattle.bc_spine.specs.Leaves.{AreCounted, AreLeaves};
+ghost use Rattle.bc_super.specs.Writing.{count_after};
 
 use crate::count::{SPARE, count_leaves, empty_parts};
 use crate::fill::fill;
@@ -51,6 +53,8 @@ pub fn leaf_parts<C: Disk>(
         (C.facts cache.old) parts.items) }
     ensures refused { IfErr result
         (IsPartsCause g.now leaves.now pending.now (C.facts cache.old)) }
+    ensures calls { OnOk result ((C.facts cache.new).calls
+        ≡ count_after (readings pending.now) (C.facts cache.old).calls) }
     ensures kept { IsKept (C.facts cache.old) (C.facts cache.new) }
     ensures faults { RisesWith result (C.facts cache.old).faults (C.facts cache.new).faults }
 {

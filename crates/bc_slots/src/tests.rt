@@ -4,7 +4,6 @@ ghost use Rattle.std.specs.Prelude.{◌≡◌, ◌<◌, ◌≤◌, length};
 use crate::{leaf_parts, leaves_of};
 use bc_bytes::{crc64, put_u32, put_u64};
 use bc_cache::NodeCache;
-use bc_disk::disk::Disk;
 use bc_disk::mem_disk::MemDisk;
 use bc_keys::put_words;
 use bc_mode::Mode;
@@ -14,7 +13,6 @@ use bc_pending::pending_of;
 use bc_regrow::tree_of;
 use bc_replay::{OpenError, survey};
 use std::alloc::{AllocError, Global};
-use std::process::Abort;
 use std::test::Fail;
 
 /// The bytes of the cache device: 128 buckets of 64 sectors. Entry 1 stands in sector 64, and the
@@ -75,9 +73,8 @@ fn put_entry(bytes: &mut [u8])
     put_u64(bytes, at, sum);
 }
 
-// So many parts of a pair whose tree has one leaf.
+// So many parts of a pair.
 fn parts_of(
-    rt: &impl Abort,
     alloc: Global,
     cache: &mut MemDisk,
     backing: &mut MemDisk,
@@ -87,14 +84,9 @@ fn parts_of(
 {
     let s = survey(alloc, cache, backing)?;
     let g = s.supers.geometry;
-    let size = u64::from(g.bucket) * u64::from(g.nbuckets);
-    assert!(rt; size <= cache.sectors());
     let tree = tree_of(alloc, cache, &s)?;
     let leaves = leaves_of(alloc, &tree)?;
     let pending = pending_of(alloc, &leaves, &s.journal)?;
-    assert_eq!(rt; leaves.len(), 1);
-    assert_eq!(rt; leaves[0].number, 0);
-    assert!(rt; size <= cache.sectors());
     leaf_parts(alloc, cache, &g, &leaves, &pending, count)
 }
 
@@ -128,11 +120,14 @@ fn leaves_in(
 #[test]
 fn new_pair_has_empty_parts(rt: HostRuntime) -> Result<(), Fail> {
     let (mut cache, mut backing) = new_pair(rt.alloc())?;
-    let one = parts_of(&rt, rt.alloc(), &mut cache, &mut backing, 1)?;
+    let one = parts_of(rt.alloc(), &mut cache, &mut backing, 1)?;
     assert_eq!(rt; lengths(rt.alloc(), &one)?.as_slice(), [4].as_slice());
     assert!(rt; leaves_in(rt.alloc(), &one)?.is_empty());
-    let three = parts_of(&rt, rt.alloc(), &mut cache, &mut backing, 3)?;
-    assert_eq!(rt; lengths(rt.alloc(), &three)?.as_slice(), [4, 4, 4].as_slice());
+    let three = parts_of(rt.alloc(), &mut cache, &mut backing, 3)?;
+    assert_eq!(rt;
+        lengths(rt.alloc(), &three)?.as_slice(),
+        [4, 4, 4].as_slice()
+    );
     assert!(rt; leaves_in(rt.alloc(), &three)?.is_empty());
     Ok(())
 }
@@ -145,11 +140,20 @@ fn leaf_with_a_key_of_the_journal_is_read(rt: HostRuntime) -> Result<(), Fail> {
     put_leaf(&mut bytes);
     put_entry(&mut bytes);
     let mut cache = MemDisk::new(rt.alloc(), bytes, 1000)?;
-    let one = parts_of(&rt, rt.alloc(), &mut cache, &mut backing, 1)?;
+    let one = parts_of(rt.alloc(), &mut cache, &mut backing, 1)?;
     assert_eq!(rt; lengths(rt.alloc(), &one)?.as_slice(), [5].as_slice());
-    assert_eq!(rt; leaves_in(rt.alloc(), &one)?.as_slice(), [(0, 0, 0, 3, 1)].as_slice());
-    let three = parts_of(&rt, rt.alloc(), &mut cache, &mut backing, 3)?;
-    assert_eq!(rt; lengths(rt.alloc(), &three)?.as_slice(), [5, 4, 4].as_slice());
-    assert_eq!(rt; leaves_in(rt.alloc(), &three)?.as_slice(), [(0, 0, 0, 3, 1)].as_slice());
+    assert_eq!(rt;
+        leaves_in(rt.alloc(), &one)?.as_slice(),
+        [(0, 0, 0, 3, 1)].as_slice()
+    );
+    let three = parts_of(rt.alloc(), &mut cache, &mut backing, 3)?;
+    assert_eq!(rt;
+        lengths(rt.alloc(), &three)?.as_slice(),
+        [5, 4, 4].as_slice()
+    );
+    assert_eq!(rt;
+        leaves_in(rt.alloc(), &three)?.as_slice(),
+        [(0, 0, 0, 3, 1)].as_slice()
+    );
     Ok(())
 }

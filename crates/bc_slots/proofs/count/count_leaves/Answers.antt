@@ -32,13 +32,13 @@ loop-i-preserved c =
     let each = c.loop-i.invariant.each in
     let inside : at < length counts = omega (arith, below, each) in
     elim c.if-not-is_empty.branch [
-      then-not-is_empty w ↦
-      let some : (length keys == 0) ≡ false = cc (w.if-not-is_empty.ensures) in
-      let was = w.index_mut.ensures.value ∙ get_or_default counts at w.index_mut.result.now 0 inside in
-      rw w.counts-is (counts_more pending count i at (w.index_mut.result.now + 1) counts c.loop-i-test.true (here_keys pending count i item keys c.loop-i-test.true c.index-pending-i.is c.as_slice.ensures some) refl below (ap (λ n. n + 1) was) c.loop-i.invariant)
+      | then-not-is_empty w ↦
+          let some : (length keys == 0) ≡ false = cc (w.if-not-is_empty.ensures) in
+          let was = w.index_mut.ensures.value ∙ get_or_default counts at w.index_mut.result.now 0 inside in
+          rw w.counts-is (counts_more pending count i at (w.index_mut.result.now + 1) counts c.loop-i-test.true (here_keys pending count i item keys c.loop-i-test.true c.index-pending-i.is c.as_slice.ensures some) refl below (ap (λ n. n + 1) was) c.loop-i.invariant)
       | else-not-is_empty w ↦
-      let none : (length keys == 0) ≡ true = cc (w.if-not-is_empty.ensures) in
-      rw w.counts-is (counts_stay pending count i counts c.loop-i-test.true (here_none pending count i item keys c.loop-i-test.true c.index-pending-i.is c.as_slice.ensures none) c.loop-i.invariant)
+          let none : (length keys == 0) ≡ true = cc (w.if-not-is_empty.ensures) in
+          rw w.counts-is (counts_stay pending count i counts c.loop-i-test.true (here_none pending count i item keys c.loop-i-test.true c.index-pending-i.is c.as_slice.ensures none) c.loop-i.invariant)
     ]
 
 pub returns : goal.returns

@@ -1,4 +1,4 @@
-use Rattle.bc_slots.proofs.Laws.{four_more, last_four_empty, some_can_go}
+use Rattle.bc_slots.proofs.Leaves.{four_more, last_four_empty, some_can_go}
 use Rattle.bc_slots.proofs.laws.another_leaf_finds_a_slot.Goals as goal
 
 pub returns-clause-slots : goal.returns-clause-slots

@@ -1,4 +1,4 @@
-use Rattle.bc_slots.proofs.Laws.{each_has_one, no_other}
+use Rattle.bc_slots.proofs.Leaves.{each_has_one, no_other}
 use Rattle.bc_slots.proofs.laws.each_leaf_with_keys_is_in_one_slot.Goals as goal
 
 pub returns-clause-one : goal.returns-clause-one

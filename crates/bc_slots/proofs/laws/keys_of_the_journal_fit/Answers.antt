@@ -1,4 +1,4 @@
-use Rattle.bc_slots.proofs.Laws.{pending_fit}
+use Rattle.bc_slots.proofs.Leaves.{pending_fit}
 use Rattle.bc_slots.proofs.laws.keys_of_the_journal_fit.Goals as goal
 
 pub returns : goal.returns

@@ -1,4 +1,4 @@
-use Rattle.bc_slots.proofs.Laws.{none_opened}
+use Rattle.bc_slots.proofs.Leaves.{none_opened}
 use Rattle.bc_slots.proofs.laws.no_leaf_is_read_without_keys.Goals as goal
 
 pub returns : goal.returns

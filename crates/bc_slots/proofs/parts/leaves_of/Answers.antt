@@ -1,8 +1,15 @@
 use Rattle.std.proofs.Common.{◌≡◌, ◌++◌, ◌∷◌, ◌<◌, ◌≤◌, ◌∙◌, [], List, length, get_or, take, sym, ap, subst}
 use Rattle.std.proofs.lemmas.List.{take_all}
+use Rattle.bc_model.proofs.Sectors.{take_more}
 use Rattle.bc_spine.specs.Leaves.{AreLeaves}
 use Rattle.bc_spine.specs.declared.leaf.LeafRange.{LeafRange}
 use Rattle.bc_slots.proofs.parts.leaves_of.Goals as goal
+
+pub loop-place-preserved : goal.loop-place-preserved
+loop-place-preserved c =
+    let xs = c.args.tree.now.leaves in
+    c.in_ok-push.ensures.items ∙ ap (λ (ls : List LeafRange). ls ++ c.leaf.result ∷ []) c.loop-place.invariant
+    ∙ sym (take_more c.loop-place.place xs c.leaf.result c.leaf.ensures.leaf)
 
 pub returns-clause-leaves : goal.returns-clause-leaves
 returns-clause-leaves c =
