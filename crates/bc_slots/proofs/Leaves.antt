@@ -1,18 +1,16 @@
 -- The parts, leaf by leaf.
-use Rattle.std.proofs.Common.{◌≡◌, inl, inr, ℕ, zero, suc, ◌+◌, ◌%◌, ◌<◌, ◌≤◌, List, [], ◌∷◌, Bool, true, false, length, replicate, get_or, Option, Some, None, refl, sym, ap, ◌∙◌, subst, arith}
+use Rattle.std.proofs.Common.{◌≡◌, inl, inr, ℕ, zero, suc, List, [], ◌∷◌, true, length, get_or, Option, Some, None, refl, sym, ap, ◌∙◌, subst, arith}
 use Rattle.std.specs.Prelude.{All, slice_get}
-use Rattle.std.specs.List.{filter, range_with_len}
 use Rattle.std.proofs.lemmas.List.Elements.{All-cons, All-nil}
-use Rattle.bc_cache.specs.Slots.{HasLeaf, IsSlotOf, NodeCache, NoneCanGo}
+use Rattle.bc_cache.specs.Slots.{HasLeaf}
 use Rattle.bc_cache.specs.declared.slots.Cached.{Cached}
 use Rattle.bc_disk.specs.Disk.{DiskFacts}
-use Rattle.bc_disk.specs.declared.geometry.Geometry.{Geometry}
 use Rattle.bc_pending.specs.declared.numbered.Numbered.{Numbered}
-use Rattle.bc_pending.specs.Pieces.{ArePending, ArePieces, IsPiece}
+use Rattle.bc_pending.specs.Pieces.{ArePieces, IsPiece}
 use Rattle.bc_reload.specs.Reload.{FitsRange}
 use Rattle.bc_spine.specs.declared.leaf.LeafRange.{LeafRange}
-use Rattle.bc_slots.specs.Laws.{EachHasOne, FourMore, HasOne, LastFourEmpty, NoneOpened, NoOther, PendingFit, SomeCanGo}
-use Rattle.bc_slots.specs.Parts.{AreFilled, AreOfLeaves, IsOpened, IsPart}
+use Rattle.bc_slots.specs.Laws.{EachHasOne, FourMore, LastFourEmpty, NoneOpened, NoOther, PendingFit, SomeCanGo}
+use Rattle.bc_slots.specs.Parts.{AreFilled, IsOpened}
 use Rattle.bc_slots.specs.Places.{has_keys, is_in, numbers_in}
 use Rattle.bc_slots.proofs.Filled.{filled_at, filled_has, filled_length, filled_rest}
 use Rattle.bc_slots.proofs.Passed.{found, none, once, passed_all, passed_each}

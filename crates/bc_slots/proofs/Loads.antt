@@ -11,7 +11,7 @@ use Rattle.bc_image.specs.Tree.{AreSetsAt}
 use Rattle.bc_key.specs.Key.{pointer_of, ptr_at}
 use Rattle.bc_key.specs.declared.key.Key.{Key}
 use Rattle.bc_key.specs.declared.ptr.Ptr.{Ptr}
-use Rattle.bc_node.specs.Leaf.{Leaf, LieWithin}
+use Rattle.bc_node.specs.Leaf.{Leaf}
 use Rattle.bc_node.specs.declared.error.NodeError.{NodeError}
 use Rattle.bc_node.specs.declared.error.NodeError.TheVariants as nodes
 use Rattle.bc_pending.specs.declared.numbered.Numbered.{Numbered}
@@ -24,7 +24,6 @@ use Rattle.bc_replay.specs.declared.error.OpenError.{OpenError}
 use Rattle.bc_replay.specs.declared.error.OpenError.TheVariants as errors
 use Rattle.bc_replay.proofs.Behind.{told_back}
 use Rattle.bc_replay.proofs.Judge.{pointer_is}
-use Rattle.bc_set.specs.declared.set.Set.{Set}
 use Rattle.bc_spine.specs.declared.leaf.LeafRange.{LeafRange}
 use Rattle.bc_walk.proofs.Nodes.{told_so}
 use Rattle.bc_walk.specs.Seen.{IsNodeIn}

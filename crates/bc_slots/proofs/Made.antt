@@ -1,6 +1,6 @@
 -- How many slots each part gets.
-use Rattle.std.proofs.Common.{◌≡◌, ◌≢◌, ◌⊎◌, inl, inr, ℕ, zero, suc, ◌+◌, ◌%◌, ◌<◌, ◌≤◌, ◌^◌, List, [], ◌∷◌, ◌++◌, Bool, true, false, length, replicate, get_or, set, refl, sym, ap, ◌∙◌, subst, arith, get_or-set_same, get_or-set_other, length-set, length-append}
-use Rattle.std.specs.Prelude.{◌==◌, Option, None}
+use Rattle.std.proofs.Common.{◌≡◌, ◌≢◌, ◌⊎◌, inl, inr, ℕ, zero, suc, ◌+◌, ◌%◌, ◌<◌, ◌≤◌, ◌^◌, List, [], ◌∷◌, ◌++◌, true, false, length, replicate, get_or, set, refl, sym, ap, ◌∙◌, subst, arith, get_or-set_same, get_or-set_other, length-set, length-append}
+use Rattle.std.specs.Prelude.{◌==◌}
 use Rattle.std.proofs.lemmas.Bool.{cases_eq}
 use Rattle.std.proofs.lemmas.List.{get_or_default}
 use Rattle.bc_cache.specs.Slots.{NodeCache}
@@ -8,7 +8,7 @@ use Rattle.bc_disk.specs.declared.geometry.Geometry.{Geometry}
 use Rattle.bc_pending.specs.declared.numbered.Numbered.{Numbered}
 use Rattle.bc_slots.specs.Filling.{AreCounts, AreEmpty, ArePrepared, IsEmpty}
 use Rattle.bc_slots.specs.Places.{has_keys, is_in, numbers_in}
-use Rattle.bc_slots.proofs.Passed.{passed, passed_all, passed_below, passed_few, passed_no, passed_yes}
+use Rattle.bc_slots.proofs.Passed.{passed, passed_all, passed_below, passed_no, passed_yes}
 use Rattle.bc_slots.proofs.Steps.{elsewhere, in_part, keyless, zeros}
 
 pub none_of : (keys : List Numbered) → (length keys == 0) ≡ true → keys ≡ []

@@ -1,13 +1,13 @@
 -- What the parts come to, leaf by leaf.
-use Rattle.std.specs.Prelude.{◌≡◌, ◌≢◌, ℕ, ◌+◌, ◌%◌, ◌<◌, ◌≤◌, List, [], true, All, Option, Some, None, length, replicate, slice_get, slice_index_or}
-use Rattle.bc_cache.specs.Slots.{IsSlotOf, Misses, NodeCache, NoneCanGo}
+use Rattle.std.specs.Prelude.{◌≡◌, ℕ, ◌+◌, ◌%◌, ◌<◌, ◌≤◌, List, [], true, All, Some, None, length, replicate, slice_get, slice_index_or}
+use Rattle.bc_cache.specs.Slots.{IsSlotOf, NodeCache, NoneCanGo}
 use Rattle.bc_cache.specs.declared.slots.Cached.{Cached}
 use Rattle.bc_disk.specs.Disk.{DiskFacts}
 use Rattle.bc_disk.specs.declared.geometry.Geometry.{Geometry}
 use Rattle.bc_pending.specs.declared.numbered.Numbered.{Numbered}
 use Rattle.bc_pending.specs.Pieces.{ArePending}
 use Rattle.bc_spine.specs.declared.leaf.LeafRange.{LeafRange}
-use Rattle.bc_slots.specs.Parts.{AreOfLeaves, AreParts, IsOpened, IsPart}
+use Rattle.bc_slots.specs.Parts.{AreOfLeaves, IsOpened, IsPart}
 use Rattle.bc_slots.specs.Places.{has_keys, is_in, numbers_in}
 
 -- one slot of the part has the leaf, and no other

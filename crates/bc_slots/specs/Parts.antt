@@ -1,5 +1,5 @@
 -- The parts that hold the leaves of a pair, when it is opened.
-use Rattle.std.specs.Prelude.{◌≡◌, ◌⊎◌, ℕ, ◌<◌, List, [], ◌∷◌, All, Bool, true, false, Option, Some, None, length, replicate, slice_get, slice_index_or}
+use Rattle.std.specs.Prelude.{◌≡◌, ◌⊎◌, ℕ, ◌<◌, List, [], ◌∷◌, All, true, false, Option, Some, None, length, replicate, slice_get, slice_index_or}
 use Rattle.bc_cache.specs.Slots.{NodeCache}
 use Rattle.bc_cache.specs.declared.slots.Cached.{Cached}
 use Rattle.bc_disk.specs.Disk.{DiskFacts, IfTold}

@@ -1,8 +1,8 @@
-use Rattle.std.proofs.Common.{◌≡◌, ◌+◌, ◌%◌, ◌<◌, ◌∙◌, ℕ, true, false, length, get_or, refl, ap, sym, subst, arith}
+use Rattle.std.proofs.Common.{◌≡◌, ◌+◌, ◌%◌, ◌<◌, ◌∙◌, true, false, length, refl, ap, arith}
 use Rattle.std.specs.Prelude.{◌==◌}
 use Rattle.std.proofs.lemmas.List.{get_or_default}
 use Rattle.std.proofs.lemmas.Nat.{mod_below}
-use Rattle.bc_slots.proofs.Made.{AreCountedTo, counts_end, counts_more, counts_stay, few_counted, here_keys, here_none}
+use Rattle.bc_slots.proofs.Made.{counts_end, counts_more, counts_stay, few_counted, here_keys, here_none}
 use Rattle.bc_slots.proofs.count.count_leaves.Goals as goal
 use Rattle.bc_slots.proofs.count.count_leaves.Goals.{then-not-is_empty, else-not-is_empty}
 

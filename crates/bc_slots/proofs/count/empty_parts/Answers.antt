@@ -1,4 +1,4 @@
-use Rattle.std.proofs.Common.{◌≡◌, ◌+◌, ◌∙◌, List, [], ◌∷◌, length, get_or, sym, ap, subst, arith, length-append}
+use Rattle.std.proofs.Common.{◌∙◌, List, [], ◌∷◌, length, get_or, sym, ap, subst, arith, length-append}
 use Rattle.bc_cache.specs.Slots.{NodeCache}
 use Rattle.bc_slots.specs.Filling.{IsEmpty}
 use Rattle.bc_slots.proofs.Made.{empty_push}

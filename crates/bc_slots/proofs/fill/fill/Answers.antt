@@ -1,5 +1,5 @@
-use Rattle.std.proofs.Common.{◌≡◌, ◌*◌, ◌+◌, ◌%◌, ◌<◌, ◌≤◌, ◌∙◌, ℕ, List, [], Some, length, get_or, take, refl, sym, subst, ap, arith}
-use Rattle.std.specs.Prelude.{All, slice_get, true}
+use Rattle.std.proofs.Common.{◌≡◌, ◌*◌, ◌+◌, ◌%◌, ◌<◌, ◌≤◌, ◌∙◌, List, [], length, get_or, take, refl, sym, subst, ap, arith}
+use Rattle.std.specs.Prelude.{All, true}
 use Rattle.std.proofs.lemmas.List.{get_or_default, take_all}
 use Rattle.std.proofs.lemmas.Nat.{mod_below}
 use Rattle.std.proofs.lemmas.Option.{slice_get_read}
@@ -16,7 +16,7 @@ use Rattle.bc_slots.specs.Parts.{IsPartsCause}
 use Rattle.bc_slots.specs.Places.{has_keys, readings}
 use Rattle.bc_slots.proofs.Calls.{readings_next}
 use Rattle.bc_slots.proofs.Loads.{parts_cause, taken_back}
-use Rattle.bc_slots.proofs.Steps.{all_begin, all_end, all_next, few_filled, is_new, next_is_empty, part_at}
+use Rattle.bc_slots.proofs.Steps.{all_end, all_next, few_filled, is_new, next_is_empty, part_at}
 use Rattle.bc_slots.proofs.fill.fill.Goals as goal
 
 pub take_leaf-requires-clause-room : goal.take_leaf-requires-clause-room

@@ -1,4 +1,4 @@
-use Rattle.std.proofs.Common.{◌+◌, ◌<◌, ◌^◌, ℕ, List, length, sym, subst, arith}
+use Rattle.std.proofs.Common.{ℕ, List, sym, subst, arith}
 use Rattle.bc_slots.specs.Filling.{AreCounts}
 use Rattle.bc_slots.proofs.Made.{prepared, room_for_four}
 use Rattle.bc_slots.proofs.parts.leaf_parts.Goals as goal

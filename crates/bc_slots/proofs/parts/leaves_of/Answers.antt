@@ -1,4 +1,4 @@
-use Rattle.std.proofs.Common.{◌≡◌, ◌++◌, ◌∷◌, ◌<◌, ◌≤◌, ◌∙◌, [], List, length, get_or, take, sym, ap, subst}
+use Rattle.std.proofs.Common.{◌++◌, ◌∷◌, ◌≤◌, ◌∙◌, [], List, sym, ap, subst}
 use Rattle.std.proofs.lemmas.List.{take_all}
 use Rattle.bc_model.proofs.Sectors.{take_more}
 use Rattle.bc_spine.specs.Leaves.{AreLeaves}
