@@ -17,9 +17,9 @@ use Rattle.bc_events.specs.declared.event.Event.{Event}
 use Rattle.bc_events.proofs.Machine.{law_machine}
 use Rattle.bc_shares.specs.Shares.{journal_share, SameBuckets, books_of, leaf_share, SameSpine}
 use Rattle.bc_shares.specs.Touched.{touches_leaf, NamesItsChange}
-use Rattle.bc_shares.specs.Laws.{LawJournal, LawBuckets, Happens, LawSpine, LawLeaf}
+use Rattle.bc_shares.specs.Laws.{LawJournal, LawBuckets, Happens, LawSpine, LawSlot, LawLeaf}
 use Rattle.bc_shares.proofs.Acts.{AllActs, IsKept, kept_run, journal_act, journal_kept, buckets_act, buckets_kept}
-use Rattle.bc_shares.proofs.Parts.{IsKeptAt, kept_at, not_either, leaf_act, SameLeaf, leaf_kept, install_leaf, spine_act, spine_kept}
+use Rattle.bc_shares.proofs.Parts.{IsKeptAt, kept_at, not_either, leaf_act, SameLeaf, leaf_kept, install_leaf, SameSlot, slot_kept, install_slot, spine_act, spine_kept}
 use Rattle.bc_shares.proofs.Rows.{journal_row, buckets_row, leaf_row, spine_row}
 
 pub in_order : (w : Opening) (st : State) (e : Event) (o : Option (List Act)) → IsSome o (CanDo w st e)
@@ -97,6 +97,24 @@ leaf_by w x n es seat d h k off names some =
     frame_at w x n es (record { seat = seat; deed = d }) h (λ act. leaf_act k act ≡ false)
     (SameLeaf k) (leaf_kept w.machine x h.sound k) (leaf_row k w.machine st.machine seat d tt off)
     some
+
+pub law_slot : LawSlot
+law_slot w st e on k off names = go e.seat e.deed on off names
+  where
+    go : (seat : ℕ) (d : Deed) → IsEnabled w st (record { seat = seat; deed = d })
+        → touches_leaf k d ≡ false → NamesItsChange st.machine.whole.parts d
+        → SameSlot k st.machine (after w st (record { seat = seat; deed = d })).machine
+    go seat (deed.Install c come gone) on off names =
+        let none = not_either (has c.gone.items k) (has c.come.items k) off in
+        install_slot w.machine st.machine seat k
+        (with st.machine.whole.parts.records.unused (buckets_gone st.machine.whole.parts c))
+        (regroup st.machine.whole.flow.books.index st.machine.whole.parts.leaves c
+        ∷ (made seat come.items ++ dropped gone.items))
+        (λ is. true_false (has c.gone.items k) (names.gone k is) none.0)
+        (λ is. true_false (has c.come.items k) (names.come k is) none.1)
+    go seat d on off names = frame (λ act. leaf_act k act ≡ false) (SameSlot k) (slot_kept k) w st
+        (record { seat = seat; deed = d }) on
+        (leaf_row k w.machine st.machine seat d tt off)
 
 pub law_leaf : LawLeaf
 law_leaf w x n es e h k off names some = leaf_by w x n es e.seat e.deed h k off names some

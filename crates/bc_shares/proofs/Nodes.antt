@@ -86,7 +86,7 @@ stays_some Free s none = cc
 stays_some Leaving s none = s
 stays_some Coming s none = cc
 
-touches_more : (st : State) (e : Event) (k : ℕ) → TouchesLeaf st e k → TouchesSets st e k
+pub touches_more : (st : State) (e : Event) (k : ℕ) → TouchesLeaf st e k → TouchesSets st e k
 touches_more st (FailSet i set values) k t = absurd t
 touches_more st e k t = t
 
@@ -115,7 +115,7 @@ IsOffSpine (SealRoot last_seq prio rest r) = ⊥
 IsOffSpine (Install unused) = ⊥
 IsOffSpine e = Unit {0}
 
-inner_same : (st : State) (e : Event) → IsOffSpine e → (after st e).inner_nodes ≡ st.inner_nodes
+pub inner_same : (st : State) (e : Event) → IsOffSpine e → (after st e).inner_nodes ≡ st.inner_nodes
 inner_same st (NewLeaf j leaf set values) off = absurd off
 inner_same st (NewInner j inner set values) off = absurd off
 inner_same st ForgetDrafts off = absurd off

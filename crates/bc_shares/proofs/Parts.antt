@@ -32,8 +32,8 @@ use Rattle.bc_known.proofs.Others.{take_enabled}
 use Rattle.bc_known.proofs.Law.{At, inv_at, order_at, keep}
 use Rattle.bc_events.specs.Run as core
 use Rattle.bc_shares.specs.Shares.{node_share, shape_of, LeafShare, leaf_share, InnerShare, inner_share, SameSpine}
-use Rattle.bc_shares.proofs.Acts.{AllActs, released_parts}
-use Rattle.bc_shares.proofs.Nodes.{TouchesSets, leaf_frame, IsOffSpine, inner_frame, shape_frame}
+use Rattle.bc_shares.proofs.Acts.{AllActs, IsKept, released_parts}
+use Rattle.bc_shares.proofs.Nodes.{TouchesSets, touches_more, leaf_frame, IsOffSpine, inner_same, inner_frame, shape_frame}
 
 -- ---- facts that acts keep in states of a run, a run of them keeps
 
@@ -187,6 +187,56 @@ module _ (w : Opening) (x : parts.State) (sound : IsSound w x) (k : ℕ) where
     one = leaf_one;
   }
 
+-- ---- a slot
+
+abbrev pub SameSlot : ℕ → State → State → Type 0
+SameSlot k a b = b.whole.parts.leaves k ≡ a.whole.parts.leaves k
+
+keyed_slot : (p : parts.State) (slot : ℕ) (keys : List Key) (k : ℕ) → (k ≡ slot → ⊥)
+    → (parts_of p (inserted slot keys)).leaves k ≡ p.leaves k
+keyed_slot p slot [] k ne = refl
+keyed_slot p slot (key ∷ keys) k ne =
+    let q = parts_of p (inserted slot keys) in
+    ap (λ (s : parts.State). s.leaves k) (parts_join p (inserted slot keys)
+    (step (meta.Plain (event.AddKey key)) (parts_event.Insert slot key)))
+    ∙ law_frame q (parts_event.Insert slot key) k ne ∙ keyed_slot p slot keys k ne
+
+slot_one : (k : ℕ) (w : Opening) (st : State) (i : ℕ) (act : Act) → leaf_act k act ≡ false
+    → IsEnabled w st i act → SameSlot k st (after w st i act)
+slot_one k w st i (Keyed act slot keys) off on =
+    keyed_slot st.whole.parts slot keys k (other k slot off)
+slot_one k w st i (WriteCache y values) off on = law_frame st.whole.parts
+    (parts_write w.layout y values) k (λ t. write_off w.layout st.whole.parts y values k off
+    (touches_more st.whole.parts (parts_write w.layout y values) k t))
+slot_one k w st i (FailCache y values) off on = law_frame st.whole.parts
+    (parts_fault w.layout y values) k (λ t. fault_off w.layout st.whole.parts y values k off
+    (touches_more st.whole.parts (parts_fault w.layout y values) k t))
+slot_one k w st i (Seal last_seq rest SameRoot chain) off on = refl
+slot_one k w st i (Seal last_seq rest (NewRoot r) chain) off on = refl
+slot_one k w st i (BeginChange low high gone come old new un) off on =
+    let none = not_either (has gone k) (has come k) off in
+    law_frame st.whole.parts (parts_event.BeginChange low high gone come old new un) k
+    (λ t. elim t [ inl a ↦ not_in gone k none.0 a | inr b ↦ not_in come k none.1 b ])
+slot_one k w st i (Install un steps) off on = absurd (cc)
+slot_one k w st i ForgetDrafts off on = absurd (cc)
+slot_one k w st i act off on = refl
+
+pub slot_kept : (k : ℕ) → IsKept (λ act. leaf_act k act ≡ false) (SameSlot k)
+slot_kept k = record {
+  same = λ a. refl;
+  both = λ a b c x y. y ∙ x;
+  one = slot_one k;
+}
+
+pub install_slot : (w : Opening) (st : State) (i k : ℕ) (un : ℕ → Bool) (steps : List Step)
+    → (st.whole.parts.leaves k).role ≢ Leaving → (st.whole.parts.leaves k).role ≢ Coming
+    → SameSlot k st (after w st i (Install un steps))
+install_slot w st i k un steps stays old =
+    let p = parts_step.after st.whole.parts (parts_event.Install un) in
+    ap (λ (s : parts.State). s.leaves k) (released_parts p steps)
+    ∙ law_frame st.whole.parts (parts_event.Install un) k
+    (λ t. elim t [ inl a ↦ stays a | inr b ↦ old b ])
+
 -- an install leaves a leaf that neither leaves nor comes
 pub install_leaf : (w : Opening) (st : State) (i k : ℕ) (un : ℕ → Bool) (steps : List Step)
     → (st.whole.parts.leaves k).role ≢ Leaving → (st.whole.parts.leaves k).role ≢ Coming
@@ -225,6 +275,7 @@ spine_act act = false
 -- the same of the parts
 pub record SameParts (a b : parts.State) : Type 0 where
   pub leaves : (k : ℕ) → shape_of (b.leaves k) ≡ shape_of (a.leaves k)
+  pub slots : b.inner_nodes ≡ a.inner_nodes
   pub inner_nodes : (x : ℕ) → (a.inner_nodes x).role ≢ NoNode → inner_share b x ≡ inner_share a x
   pub end : b.end ≡ a.end
   pub change : b.change ≡ a.change
@@ -233,6 +284,7 @@ pub record SameParts (a b : parts.State) : Type 0 where
 same_parts : (a : parts.State) → SameParts a a
 same_parts a = record {
   leaves = λ k. refl;
+  slots = refl;
   inner_nodes = λ x some. refl;
   end = refl;
   change = refl;
@@ -242,6 +294,7 @@ same_parts a = record {
 both_parts : (a b c : parts.State) → SameParts a b → SameParts b c → SameParts a c
 both_parts a b c x y = record {
   leaves = λ k. y.leaves k ∙ x.leaves k;
+  slots = y.slots ∙ x.slots;
   inner_nodes = λ n some. let first = x.inner_nodes n some in
       y.inner_nodes n (λ none. some (sym (ap (λ (l : InnerShare). l.inner.role) first) ∙ none))
       ∙ first;
@@ -279,6 +332,7 @@ parts_frame : (st : parts.State) → HaveBuckets st.records.nodes st.leaves st.i
     → SameParts st (parts_step.after st e)
 parts_frame st apart e on off = record {
   leaves = λ k. shape_frame st e k off;
+  slots = inner_same st e off;
   inner_nodes = λ x some. inner_frame st apart e x on some off;
   end = refl;
   change = change_same st e off;
@@ -296,6 +350,7 @@ keyed_parts p slot (key ∷ keys) =
     (both_parts p q (parts_step.after q (parts_event.Insert slot key)) (keyed_parts p slot keys)
     (record {
       leaves = λ k. refl;
+      slots = refl;
       inner_nodes = λ x some. refl;
       end = refl;
       change = refl;
@@ -335,6 +390,7 @@ spine_is : (a b : State) → SameParts a.whole.parts b.whole.parts → b.next_se
     → SameSpine a b
 spine_is a b p n = record {
   leaves = p.leaves;
+  slots = p.slots;
   inner_nodes = p.inner_nodes;
   end = p.end;
   change = p.change;
@@ -345,6 +401,7 @@ spine_is a b p n = record {
 parts_are : (a b : State) → SameSpine a b → SameParts a.whole.parts b.whole.parts
 parts_are a b s = record {
   leaves = s.leaves;
+  slots = s.slots;
   inner_nodes = s.inner_nodes;
   end = s.end;
   change = s.change;
@@ -381,6 +438,7 @@ module _ (w : Opening) (x : parts.State) (sound : IsSound w x) where
   spine_one st i ForgetDrafts at off on = absurd (cc)
   spine_one st i act at off on = spine_is st (after w st i act) (record {
     leaves = λ k. refl;
+    slots = refl;
     inner_nodes = λ x some. refl;
     end = refl;
     change = refl;

@@ -35,6 +35,12 @@ LawSpine = (w : Opening) (x : parts.State) (next_seq : ℕ) (es : List Event) (e
     → let st = run w (start w x next_seq) es in
     SameSpine st.machine (after w st e).machine
 
+-- A slot has the same leaf, or none, as before.
+abbrev pub LawSlot : Type 0
+LawSlot = (w : Opening) (st : State) (e : Event) → IsEnabled w st e → (k : ℕ)
+    → touches_leaf k e.deed ≡ false → NamesItsChange st.machine.whole.parts e.deed
+    → (after w st e).machine.whole.parts.leaves k ≡ st.machine.whole.parts.leaves k
+
 -- of a slot that has a leaf
 abbrev pub LawLeaf : Type 0
 LawLeaf = (w : Opening) (x : parts.State) (next_seq : ℕ) (es : List Event) (e : Event)

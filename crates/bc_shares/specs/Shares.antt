@@ -187,6 +187,7 @@ shape_of x = record {
 -- the same shapes of all leaves, the same inner nodes, and the same change under way
 pub record SameSpine (a b : State) : Type 0 where
   pub leaves : (k : ℕ) → shape_of (b.whole.parts.leaves k) ≡ shape_of (a.whole.parts.leaves k)
+  pub slots : b.whole.parts.inner_nodes ≡ a.whole.parts.inner_nodes
   pub inner_nodes : (x : ℕ) → (a.whole.parts.inner_nodes x).role ≢ NoNode
       → inner_share b.whole.parts x ≡ inner_share a.whole.parts x
   pub end : b.whole.parts.end ≡ a.whole.parts.end

@@ -1,5 +1,5 @@
 //! What a deed leaves alone: each law is the contract of a function.
-ghost use Rattle.bc_shares.specs.Laws.{LawJournal, LawBuckets, LawSpine, LawLeaf};
+ghost use Rattle.bc_shares.specs.Laws.{LawJournal, LawBuckets, LawSpine, LawSlot, LawLeaf};
 
 /// Only a deed that brings keys, seals or makes durable changes the share of the journal.
 pub fn law_journal()
@@ -16,6 +16,13 @@ pub fn law_buckets()
 /// share of the spine.
 pub fn law_spine()
     ensures { LawSpine }
+{}
+
+/// Only such a deed as changes the share of a leaf changes what its slot has, or that it has nothing.
+///
+/// The premise of an install is that it names the leaves that leave and come.
+pub fn law_slot()
+    ensures { LawSlot }
 {}
 
 /// Only a deed that brings keys into a leaf, writes a set of it, or takes or brings it by a change of
