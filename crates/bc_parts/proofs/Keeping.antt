@@ -72,7 +72,7 @@ module _ {Z P E B T : Type 0} (m : Ghosts Z P E B T) (start : List P) (seats : �
 
   later_of : Frame m → (s : S) (r : R s) (id : ℕ) (v : K) → v.first < v.end → v.middle ≡ v.end → get_elem? s.views id ≡ some v → LaterOf m v r.log
   later_of frame s r id v live whole at = let kn = r.each id v at in
-      Later-grows m frame v.start v.first v.end v.held v.seen r.log (subst (λ n. Grows m v.first n v.held v.seen r.log) whole kn.grows) (subst (λ (ps : List P). IsRun m (m.opening ps) r.log) (sym (kn.begun live)) r.run)
+      Later-grows m frame v.start v.first v.end v.held v.seen r.log (subst (λ (ps : List P). Grows m (length ps) v.first v.end v.held v.seen r.log) (sym (kn.begun live)) (subst (λ n. Grows m (length start) v.first n v.held v.seen r.log) whole kn.grows)) (subst (λ (ps : List P). IsRun m (m.opening ps) r.log) (sym (kn.begun live)) r.run)
 
   -- words and slots that differ at the slot k alone
   record Touches (s : S) (k : ℕ) (words : List ℕ) (homes : Homes) : Type 0 where
@@ -209,7 +209,7 @@ module _ {Z P E B T : Type 0} (m : Ghosts Z P E B T) (start : List P) (seats : �
       let kn = r.each id v at in
       let one : get_or (set s.words (k + 2) 1) (k + 2) 0 ≡ 1 = get_or-set_same s.words (k + 2) 1 0 (let l = r.words in omega arith) in
       let other : (i : ℕ) → Has v i → i ≢ k = λ i h e. (kn.slots i h).1 (ap (claim_of s.words) e ∙ free) in record {
-        grows = Grows-nil m v.first v.middle (k ∷ v.held) r.log r.log refl;
+        grows = Grows-nil m (length start) v.first v.middle (k ∷ v.held) r.log r.log refl;
         beside = λ l. absurd (omega arith);
         middle = kn.middle;
         begun = kn.begun;
@@ -319,7 +319,7 @@ module _ {Z P E B T : Type 0} (m : Ghosts Z P E B T) (start : List P) (seats : �
   knows_given s r id k v c at live has out =
       let kn = r.each id v at in
       let old : (i : ℕ) → Has (giving v k) i → (i ≢ k) × Has v i = λ i h. Holds-without k i v.held h in record {
-        grows = Grows-weaker m v.first v.middle v.first v.middle v.held (without k v.held) v.seen r.log (λ n low high. (low, high)) (λ i h. (old i h).1) kn.grows;
+        grows = Grows-weaker m (length start) v.first v.middle v.first v.middle v.held (without k v.held) v.seen r.log (λ n low high. (low, high)) (λ i h. (old i h).1) kn.grows;
         beside = λ l. kn.beside l;
         middle = kn.middle;
         begun = kn.begun;
@@ -361,8 +361,11 @@ module _ {Z P E B T : Type 0} (m : Ghosts Z P E B T) (start : List P) (seats : �
       let kn = r.each id v at in
       let w : K = looking v r.log in
       let run : IsRun m (m.opening v.start) r.log = subst (λ (ps : List P). IsRun m (m.opening ps) r.log) (sym (kn.begun live)) r.run in
+      let counted : (first end : ℕ) (parts : List ℕ) (seen : List E) → Grows m (length start) first end parts seen r.log
+      → Grows m (length v.start) first end parts seen r.log =
+      λ first end parts seen h. subst (λ (ps : List P). Grows m (length ps) first end parts seen r.log) (sym (kn.begun live)) h in
       let knows : Know r.log r.owed r.by s.words s.homes id w = record {
-        grows = Grows-nil m v.first v.end v.held r.log r.log refl;
+        grows = Grows-nil m (length start) v.first v.end v.held r.log r.log refl;
         beside = λ l. absurd (omega arith);
         middle = (omega arith, omega arith);
         begun = kn.begun;
@@ -376,7 +379,7 @@ module _ {Z P E B T : Type 0} (m : Ghosts Z P E B T) (start : List P) (seats : �
         keeps,
         tt,
         same_words s 0 s.homes (set s.views id w) (view_step s r id v w at refl (λ k h. h) knows),
-        record { is = refl; long = sym r.count; later = Later-grows m frame v.start v.first v.middle v.held v.seen r.log kn.grows run; beside = λ l. Later-grows m frame v.start v.middle v.end [] v.beside r.log (kn.beside l) run },
+        record { is = refl; long = sym r.count; later = Later-grows m frame v.start v.first v.middle v.held v.seen r.log (counted v.first v.middle v.held v.seen kn.grows) run; beside = λ l. Later-grows m frame v.start v.middle v.end [] v.beside r.log (counted v.middle v.end [] v.beside (kn.beside l)) run },
       )
 
   -- a number is noted, and a view changes that keeps the seat's slots
@@ -449,20 +452,20 @@ module _ {Z P E B T : Type 0} (m : Ghosts Z P E B T) (start : List P) (seats : �
       (w, keeps, tt, noted s r more (set s.views id w) kept, refl)
 
   -- an event of the seat `id`, which holds what it changes, is foreign to each other seat
-  foreign_to : (s : S) (r : R s) (id : ℕ) (v : K) (e : E) → get_elem? s.views id ≡ some v → v.first < v.end → m.number e ≡ v.first → ((k : ℕ) → m.changes e k ≡ true → Has v k)
+  foreign_to : (s : S) (r : R s) (id : ℕ) (v : K) (e : E) → get_elem? s.views id ≡ some v → v.first < v.end → m.number e ≡ v.first → ((k : ℕ) → m.changes (length start) e k ≡ true → Has v k)
       → (j : ℕ) (u : K) → j ≢ id → get_elem? s.views j ≡ some u → (low high : ℕ) (parts : List ℕ) → ((n : ℕ) → low ≤ n → n < high → (u.first ≤ n) × (n < u.end)) → ((k : ℕ) → Holds parts k → Has u k)
-      → IsForeign m low high parts e
+      → IsForeign m (length start) low high parts e
   foreign_to s r id v e at live number holds j u other there low high parts within fewer = let kn = r.each id v at in let ku = r.each j u there in (
     (λ n a b is. let in' = within n a b in other (sym (ku.numbers n in'.0 in'.1).1 ∙ (ap r.by.number (sym is ∙ number) ∙ (kn.numbers v.first (omega arith) live).1))),
-    (λ k h. not_true (m.changes e k) (λ yes. alone s r id k v at (holds k yes) j u other there (fewer k h))),
+    (λ k h. not_true (m.changes (length start) e k) (λ yes. alone s r id k v at (holds k yes) j u other there (fewer k h))),
   )
 
   -- what another seat knows after such an event
-  theirs_know : (s : S) (r : R s) (id : ℕ) (v : K) (e : E) (words : List ℕ) → get_elem? s.views id ≡ some v → v.first < v.end → m.number e ≡ v.first → ((k : ℕ) → m.changes e k ≡ true → Has v k) → Has v (length start)
+  theirs_know : (s : S) (r : R s) (id : ℕ) (v : K) (e : E) (words : List ℕ) → get_elem? s.views id ≡ some v → v.first < v.end → m.number e ≡ v.first → ((k : ℕ) → m.changes (length start) e k ≡ true → Has v k) → Has v (length start)
       → ((k : ℕ) → claim_of words k ≡ claim_of s.words k) → (j : ℕ) (u : K) → j ≢ id → get_elem? s.views j ≡ some u → Know (r.log ++ e ∷ []) (r.owed - 1) r.by words s.homes j u
   theirs_know s r id v e words at live number holds has claims j u other there = let ku = r.each j u there in let mid = ku.middle in record {
-    grows = Grows-push m u.first u.middle u.held u.seen r.log e (foreign_to s r id v e at live number holds j u other there u.first u.middle u.held (λ n a b. (a, omega (arith, mid, b))) (λ k h. h)) ku.grows;
-    beside = λ l. Grows-push m u.middle u.end [] u.beside r.log e (foreign_to s r id v e at live number holds j u other there u.middle u.end [] (λ n a b. (omega (arith, mid, a), b)) (λ k h. absurd h)) (ku.beside l);
+    grows = Grows-push m (length start) u.first u.middle u.held u.seen r.log e (foreign_to s r id v e at live number holds j u other there u.first u.middle u.held (λ n a b. (a, omega (arith, mid, b))) (λ k h. h)) ku.grows;
+    beside = λ l. Grows-push m (length start) u.middle u.end [] u.beside r.log e (foreign_to s r id v e at live number holds j u other there u.middle u.end [] (λ n a b. (omega (arith, mid, a), b)) (λ k h. absurd h)) (ku.beside l);
     middle = ku.middle;
     begun = ku.begun;
     bare = ku.bare;
@@ -475,7 +478,7 @@ module _ {Z P E B T : Type 0} (m : Ghosts Z P E B T) (start : List P) (seats : �
   module _ (frame : Frame m) where
     pub commits : (slots id : ℕ) (me : Me C K) (b : B) (e : E) → me.0.first < me.0.end → me.0.middle ≡ me.0.end → me.0.start ≡ start → Has me.0 (length start) → me.1 ≡ (length start, Some (Book b)) ∷ []
         → m.events b ≡ me.0.seen ++ e ∷ [] → length (m.events b) < 2 ^ 64 → m.number e ≡ me.0.first → 0 < me.0.promises → m.enabled (state_after m start me.0.seen) e
-        → ((k : ℕ) → m.changes e k ≡ true → Has me.0 k)
+        → ((k : ℕ) → m.changes (length start) e k ≡ true → Has me.0 k)
         → Allows R slots id me 0 (λ n. (n + 1) % 2 ^ 64) (committed m (step slots 0 1 0 none) me)
     commits slots id me b e live whole begun has carried adds few number promise may holds s r deep at small =
         let v : K = me.0 in
@@ -491,7 +494,7 @@ module _ {Z P E B T : Type 0} (m : Ghosts Z P E B T) (start : List P) (seats : �
         let words : List ℕ = set s.words 0 y in
         let claims : (k : ℕ) → claim_of words k ≡ claim_of s.words k = λ k. get_or-set_other s.words 0 (k + 2) y 0 (λ q. absurd (omega arith)) in
         let mine : Know log (r.owed - 1) r.by words s.homes id w = record {
-          grows = Grows-nil m v.first v.middle v.held (m.events b) log (sym is);
+          grows = Grows-nil m (length start) v.first v.middle v.held (m.events b) log (sym is);
           beside = λ l. absurd (omega arith);
           middle = kn.middle;
           begun = kn.begun;
@@ -513,7 +516,7 @@ module _ {Z P E B T : Type 0} (m : Ghosts Z P E B T) (start : List P) (seats : �
           count = get_or-set_same s.words 0 y 0 (let l = r.words in omega arith)
               ∙ (mod-eq_of_lt (let c = r.count in let q : length (m.events b) ≡ length log = ap length is in omega (arith, c, q, longer, few)) ∙ (let c = r.count in omega (arith, c, longer)));
           parts = λ k l z. let p = r.parts k l (sym (claims k) ∙ z) in
-              (p.0, p.1, subst (m.stands k p.0) (sym (state_after-push m start r.log e)) (frame k p.0 (state_after m start r.log) e now (not_true (m.changes e k) (λ yes. (kn.slots k (holds k yes)).1 (sym (claims k) ∙ z))) p.2));
+              (p.0, p.1, subst (m.stands k p.0) (sym (state_after-push m start r.log e)) (frame start r.log k p.0 e r.run now (not_true (m.changes (length start) e k) (λ yes. (kn.slots k (holds k yes)).1 (sym (claims k) ∙ z))) p.2));
           book = λ z. absurd (out.1 (sym (claims (length start)) ∙ z));
           vector = r.vector;
           promises = (let sums = sum_by-put (λ (u : K). u.promises) s.views id v w at in let q = r.promises in let l = at-le-sum_by (λ (u : K). u.promises) s.views id v at in omega (arith, sums, q, l, promise));
@@ -530,7 +533,7 @@ module _ {Z P E B T : Type 0} (m : Ghosts Z P E B T) (start : List P) (seats : �
       let left : List K = set s.views id (below v) in
       let mid = kn.middle in
       let keeps_below : Know r.log r.owed by s.words s.homes id (below v) = record {
-        grows = Grows-weaker m v.first v.middle v.first v.cut v.held v.held v.seen r.log (λ n a b. (a, omega (arith, whole, high, b))) (λ k h. h) kn.grows;
+        grows = Grows-weaker m (length start) v.first v.middle v.first v.cut v.held v.held v.seen r.log (λ n a b. (a, omega (arith, whole, high, b))) (λ k h. h) kn.grows;
         beside = λ l. absurd (omega arith);
         middle = (omega arith, omega arith);
         begun = λ l. kn.begun (omega arith);
@@ -541,7 +544,7 @@ module _ {Z P E B T : Type 0} (m : Ghosts Z P E B T) (start : List P) (seats : �
         emptied = kn.emptied;
       } in
       let keeps_above : Know r.log r.owed by s.words s.homes new (above v) = record {
-        grows = Grows-weaker m v.first v.middle v.cut v.middle v.held [] v.seen r.log (λ n a b. (omega arith, b)) (λ k h. absurd h) kn.grows;
+        grows = Grows-weaker m (length start) v.first v.middle v.cut v.middle v.held [] v.seen r.log (λ n a b. (omega arith, b)) (λ k h. absurd h) kn.grows;
         beside = λ l. absurd (omega arith);
         middle = (omega arith, omega arith);
         begun = λ l. kn.begun (omega arith);
@@ -586,7 +589,7 @@ module _ {Z P E B T : Type 0} (m : Ghosts Z P E B T) (start : List P) (seats : �
             (at-push left (above v) u j there);
       }
 
-  all_foreign : (es : List E) → All (IsForeign m 0 0 []) es
+  all_foreign : (es : List E) → All (IsForeign m (length start) 0 0 []) es
   all_foreign es = λ k d l. ((λ n a b. absurd (omega arith)), (λ i h. absurd h))
 
   pub joins : (id other : ℕ) (v w : K) → v.first < v.end → v.middle ≡ v.end → w.first < w.end → w.middle ≡ w.end → w.first ≡ v.end → w.held ≡ [] → Joins R id v other w (joining v w) spent
@@ -598,7 +601,7 @@ module _ {Z P E B T : Type 0} (m : Ghosts Z P E B T) (start : List P) (seats : �
       let by : Owners = record r.by { number = spread r.by.number w.first w.end id } in
       let one : Know r.log r.owed by s.words s.homes id both = record {
         grows = record { others = kn.grows.others; behind = kn.grows.behind; foreign = kn.grows.foreign };
-        beside = λ l. Grows-weaker m w.first w.middle v.middle w.end w.held [] w.seen r.log (λ n a b. (omega arith, omega arith)) (λ k h. absurd h) kw.grows;
+        beside = λ l. Grows-weaker m (length start) w.first w.middle v.middle w.end w.held [] w.seen r.log (λ n a b. (omega arith, omega arith)) (λ k h. absurd h) kw.grows;
         middle = (omega arith, omega arith);
         begun = λ l. kn.begun live;
         bare = λ e. absurd (omega arith);
@@ -679,7 +682,7 @@ module _ {Z P E B T : Type 0} (m : Ghosts Z P E B T) (start : List P) (seats : �
 
       first : Q 0 (unaware about)
       first = record {
-        grows = Grows-nil m 0 about.seats [] [] [] refl;
+        grows = Grows-nil m (length start) 0 about.seats [] [] [] refl;
         beside = λ l. absurd (omega arith);
         middle = (omega arith, omega arith);
         begun = λ l. is;
@@ -695,11 +698,11 @@ module _ {Z P E B T : Type 0} (m : Ghosts Z P E B T) (start : List P) (seats : �
       only (suc id) v at = absurd (some-ne-none v (sym at))
 
   -- a list behind which no seat can have put an event is the whole list
-  none_others : (end : ℕ) (parts : List ℕ) (seen others : List E) → end ≡ seats → All (λ e. m.number e < seats) (seen ++ others) → All (IsForeign m 0 end parts) others → others ≡ []
+  none_others : (end : ℕ) (parts : List ℕ) (seen others : List E) → end ≡ seats → All (λ e. m.number e < seats) (seen ++ others) → All (IsForeign m (length start) 0 end parts) others → others ≡ []
   none_others end parts seen [] all numbered foreign = refl
   none_others end parts seen (e ∷ es) all numbered foreign =
       let low : m.number e < seats = All-contains (λ (x : E). m.number x < seats) (seen ++ e ∷ es) e numbered (Contains-append_right seen (e ∷ es) e (0, omega arith, refl)) in
-      absurd ((All-head (IsForeign m 0 end parts) e es foreign).0 (m.number e) (omega arith) (omega arith) refl)
+      absurd ((All-head (IsForeign m (length start) 0 end parts) e es foreign).0 (m.number e) (omega arith) (omega arith) refl)
 
   pub closes : (words : List ℕ) (slots : List C) (id : ℕ) (v : K) → v.first ≡ 0 → v.end ≡ seats → v.first < v.end → v.middle ≡ v.end → v.held ≡ [] → Final (Seen R id v) words slots → Whole m start seats v.seen slots
   closes words slots id v zeroth all live whole idle f =
@@ -707,7 +710,7 @@ module _ {Z P E B T : Type 0} (m : Ghosts Z P E B T) (start : List P) (seats : �
       let r : R s = f.1.0 in
       let at = f.1.1 in
       let kn = r.each id v at in
-      let grows : Grows m 0 v.end v.held v.seen r.log = subst (λ n. Grows m n v.end v.held v.seen r.log) zeroth (subst (λ n. Grows m v.first n v.held v.seen r.log) whole kn.grows) in
+      let grows : Grows m (length start) 0 v.end v.held v.seen r.log = subst (λ n. Grows m (length start) n v.end v.held v.seen r.log) zeroth (subst (λ n. Grows m (length start) v.first n v.held v.seen r.log) whole kn.grows) in
       let nothing = none_others v.end v.held v.seen grows.others all (subst (All (λ (e : E). m.number e < seats)) grows.behind r.numbered) grows.foreign in
       let same : r.log ≡ v.seen = grows.behind ∙ (ap (λ l. v.seen ++ l) nothing ∙ append-nil v.seen) in
       let free : (k : ℕ) → k ≤ length start → claim_of s.words k ≡ 0 = λ k l. dite (ℕ_discrete (claim_of s.words k) 0) (λ z. z) (λ nz.

@@ -69,6 +69,6 @@ module _ {Z P E B T : Type 0} (m : Ghosts Z P E B T) where
   Rests-book me k r last has = let inside = r.parts k has in omega arith
 
   -- the stop that was told is the one that the list made, also when the list has grown
-  pub still_stopped : ((es : List E) (e : E) (s : T) → m.stop es ≡ Some s → m.stop (es ++ e ∷ []) ≡ Some s) → (first end : ℕ) (parts : List ℕ) (seen es : List E) (told : Option T) → Grows m first end parts seen es
+  pub still_stopped : ((es : List E) (e : E) (s : T) → m.stop es ≡ Some s → m.stop (es ++ e ∷ []) ≡ Some s) → (count first end : ℕ) (parts : List ℕ) (seen es : List E) (told : Option T) → Grows m count first end parts seen es
       → ((s : T) → told ≡ Some s → m.stop seen ≡ Some s) → (s : T) → told ≡ Some s → m.stop es ≡ Some s
-  still_stopped stays first end parts seen es told grows stopped s is = stop-grows m stays first end parts seen es s grows (stopped s is)
+  still_stopped stays count first end parts seen es told grows stopped s is = stop-grows m stays count first end parts seen es s grows (stopped s is)

@@ -1,4 +1,5 @@
 pub use Rattle.atomic_table.specs.Seated
+pub mod Course
 pub mod Machine
 pub mod Seat
 pub mod Later

@@ -1,6 +1,7 @@
 -- Lists of events of a machine, and the states that they leave.
 use Rattle.std.specs.Prelude.{ℕ, ◌+◌, ◌==◌, List, [], ◌∷◌, fold, filter}
 use Rattle.bc_parts.specs.declared.machine.Machine.{Ghosts}
+use Rattle.bc_parts.specs.Course.{IsCourse}
 
 module _ {Z P E B T : Type 0} (m : Ghosts Z P E B T) where
   -- the state that these events leave, in a run that began with these parts
@@ -9,8 +10,7 @@ module _ {Z P E B T : Type 0} (m : Ghosts Z P E B T) where
 
   -- each event is enabled in the state that those before it leave
   abbrev pub IsRun : m.State → List E → Type 0
-  IsRun x [] = Unit {0}
-  IsRun x (e ∷ es) = m.enabled x e × IsRun (m.after x e) es
+  IsRun x es = IsCourse m.enabled m.after x es
 
   -- these values stand for the state, as those of the parts from the number k on
   abbrev pub StandFrom : m.State → ℕ → List P → Type 0

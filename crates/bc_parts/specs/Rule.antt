@@ -58,8 +58,8 @@ module _ {Z P E B T : Type 0} (m : Ghosts Z P E B T) (start : List P) (seats : �
 
   -- what holds of the view of the seat `id`
   pub record Knows (log : List E) (owed : ℕ) (by : Owners) (claim : ℕ → ℕ) (lying : ℕ → Lying P B) (id : ℕ) (v : Knowledge P E) : Type 0 where
-    pub grows : Grows m v.first v.middle v.held v.seen log
-    pub beside : v.middle < v.end → Grows m v.middle v.end [] v.beside log
+    pub grows : Grows m (length start) v.first v.middle v.held v.seen log
+    pub beside : v.middle < v.end → Grows m (length start) v.middle v.end [] v.beside log
     pub middle : (v.first ≤ v.middle) × (v.middle ≤ v.end)
     pub begun : v.first < v.end → v.start ≡ start
     pub bare : v.end ≤ v.first → v.held ≡ []

@@ -1,6 +1,7 @@
 //! What a machine is: a state that is held in parts, and the events that change it.
 ghost use Rattle.std.specs.Prelude.{◌≡◌, ℕ, ◌+◌, ◌^◌, ◌<◌, ◌≤◌, List, [], ◌∷◌, ◌++◌, length};
-ghost use Rattle.std.specs.Prelude.{Bool, false, Option, Some, Result, Err, OnOk};
+ghost use Rattle.std.specs.Prelude.{Bool, false, Option, Some, Result, Err, OnOk, fold};
+ghost use Rattle.bc_parts.specs.Course.{IsCourse};
 
 use std::alloc::AllocError;
 
@@ -29,8 +30,8 @@ pub trait Machine {
     ghost enabled: { State → Self.Event → Type 0 };
     // The part of this number, having this value, stands for its share of the state.
     ghost stands: { ℕ → Self.Part → State → Type 0 };
-    // Whether the event changes the part of this number.
-    ghost changes: { Self.Event → ℕ → Bool };
+    // In a run of so many parts, whether the event changes the part of this number.
+    ghost changes: { ℕ → Self.Event → ℕ → Bool };
     // The number of the seat that commits the event.
     ghost number: { Self.Event → ℕ };
     // The events of the Book, in order.
@@ -64,9 +65,12 @@ pub trait Machine {
     fn stopped(book: &Self::Book) -> Option<Self::Stop>
         ensures { result ≡ stop (events book.now) };
 
-    // An event that may happen leaves alone what a part stands for that it does not change.
-    ghost frame: { (k : ℕ) (p : Self.Part) (x : State) (e : Self.Event)
-        → enabled x e → changes e k ≡ false → stands k p x → stands k p (after x e) };
+    // An event that may happen in a run leaves alone what a part stands for that it does not change.
+    ghost frame: { (start : List Self.Part) (es : List Self.Event) (k : ℕ) (p : Self.Part)
+        (e : Self.Event) → IsCourse enabled after (opening start) es
+        → enabled (fold after (opening start) es) e → changes (length start) e k ≡ false
+        → stands k p (fold after (opening start) es)
+        → stands k p (after (fold after (opening start) es) e) };
     // A Book that has stopped stays so.
     ghost stays: { (es : List Self.Event) (e : Self.Event) (s : Self.Stop)
         → stop es ≡ Some s → stop (es ++ e ∷ []) ≡ Some s };

@@ -231,7 +231,7 @@ impl<M: Machine> Parts<M> {
         requires run { seat.old.run ≡ self.now.run }
         requires promise { 0 < seat.old.promises }
         requires number { M.number event ≡ seat.old.first }
-        requires holds { (k : ℕ) → M.changes event k ≡ true → Holds seat.old.parts k }
+        requires holds { (k : ℕ) → M.changes (length seat.old.run.start) event k ≡ true → Holds seat.old.parts k }
         requires enabled { (es : List M.Event) → AtCommit M.Machine seat.old event es
             → M.enabled (state_after M.Machine seat.old.run.start es) event }
 

@@ -141,7 +141,7 @@ pub fn add<M: Machine>(
     requires promise { (0 < place.old.me.0.promises)
         × (place.old.me.0.promises ≤ place.old.me.0.owed) }
     requires number { M.number event ≡ place.old.me.0.first }
-    requires holds { (k : ℕ) → M.changes event k ≡ true → Holds place.old.me.0.held k }
+    requires holds { (k : ℕ) → M.changes (length place.old.me.0.start) event k ≡ true → Holds place.old.me.0.held k }
     requires enabled { let v = place.old.me.0 in
         M.enabled (state_after M.Machine v.start v.seen) event }
     ensures table { (place.new.table_id ≡ place.old.table_id) × (place.new.id ≡ place.old.id) }

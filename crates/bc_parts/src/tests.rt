@@ -58,7 +58,7 @@ impl Machine for Counters {
 
     ghost stands = { λ k p x. p.value ≡ x k };
 
-    ghost changes = { λ e k. k == e.part && not e.ends };
+    ghost changes = { λ _ e k. k == e.part && not e.ends };
 
     ghost number = { λ e. e.seat };
 
@@ -70,7 +70,9 @@ impl Machine for Counters {
 
     ghost stop = { first_end (λ e. e.ends) (λ e. e.seat) };
 
-    ghost frame = { λ k p x e may other is. raised-other x e.part e.ends k p.value other is };
+    ghost frame = { λ _ es k p e run may other is. raised-other
+        (fold (λ (x : ℕ → ℕ) (y : Tick). raised x y.part y.ends) (λ _. 0) es) e.part e.ends k
+        p.value other is };
 
     ghost stays = { first_end-ended (λ e. e.ends) (λ e. e.seat) };
 

@@ -55,7 +55,7 @@ impl Machine for Logging {
 
     ghost stands = { λ _ _ _. Unit {0} };
 
-    ghost changes = { λ _ _. false };
+    ghost changes = { λ _ _ _. false };
 
     ghost number = { λ e. e.seat };
 
@@ -67,7 +67,7 @@ impl Machine for Logging {
 
     ghost stop = { λ _. None };
 
-    ghost frame = { λ _ _ _ _ _ _ _. tt };
+    ghost frame = { λ _ _ _ _ _ _ _ _ _. tt };
 
     ghost stays = { λ _ _ _ is. is };
 

@@ -1,6 +1,6 @@
 -- A step between waiting for a part and giving it back.
-use Rattle.std.proofs.Common.{◌≡◌, ℕ, ◌+◌, ◌<◌, ◌≤◌, List, [], ◌∷◌, ◌++◌, None, refl, sym, ap, ◌∙◌, subst}
-use Rattle.std.specs.Prelude.{fold, All}
+use Rattle.std.proofs.Common.{◌≡◌, ℕ, ◌+◌, ◌<◌, ◌≤◌, [], ◌∷◌, ◌++◌, sym, ap, ◌∙◌, subst}
+use Rattle.std.specs.Prelude.{false, fold, length}
 use Rattle.std.proofs.lemmas.List.Sums.{fold-append}
 use Rattle.std.proofs.lemmas.List.Elements.{All-append, All-weaker}
 use Rattle.bc_parts.specs.declared.machine.Machine.{Ghosts}
@@ -23,7 +23,8 @@ module _ {Z P E B T : Type 0} (m : Ghosts Z P E B T) where
     foreign = All-append (Foreign m u) a.others b.others a.foreign
         (All-weaker (Foreign m v) (Foreign m u) (λ e f. (
           (λ n low high. f.0 n (subst (λ k. k ≤ n) (sym same.first) low) (subst (λ k. n < k) (sym same.end) high)),
-          (λ k holds. f.1 k (still k holds)),
+          (λ k holds. subst (λ (r : Run P). m.changes (length r.start) e k ≡ false) same.run
+              (f.1 k (still k holds))),
         )) b.others b.foreign);
   }
 

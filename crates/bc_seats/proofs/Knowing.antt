@@ -1,14 +1,14 @@
 -- What a seat knows of a state to which others have led the run.
-use Rattle.std.proofs.Common.{◌≡◌, ℕ, ◌+◌, ◌-◌, ◌<◌, Bool, List, [], ◌∷◌, ◌++◌, Option, None, Ok, refl, sym, ap, ◌∙◌, subst, arith}
-use Rattle.std.specs.Prelude.{fold, All}
+use Rattle.std.proofs.Common.{◌≡◌, ℕ, ◌-◌, ◌<◌, Bool, false, List, [], ◌∷◌, ◌++◌, Option, None, Ok, refl, sym, ap, ◌∙◌, subst, arith}
+use Rattle.std.specs.Prelude.{fold, length, All}
 use Rattle.std.proofs.lemmas.List.{append-nil}
 use Rattle.std.proofs.lemmas.List.Sums.{fold-append}
 use Rattle.std.proofs.lemmas.List.Elements.{All-head, All-tail}
 use Rattle.bc_parts.specs.declared.machine.Machine.{Ghosts}
-use Rattle.bc_parts.specs.Seat.{SeatView, Run, Holds, without}
+use Rattle.bc_parts.specs.Seat.{SeatView, Run}
 use Rattle.bc_parts.specs.Machine.{state_after, IsRun, events_by}
 use Rattle.bc_parts.specs.Later.{Grows, SeesLater, AtCommit, AddsOwn}
-use Rattle.bc_parts.proofs.Interference.{Frame, state_after-push}
+use Rattle.bc_parts.proofs.Interference.{Frame, state_after-push, stands-foreign}
 use Rattle.bc_seats.specs.Seats.{state_seen, own_events, IsSeat, Steady, Lasting, Foreign, Since, Grown, Waited, Committed, Kept, Went}
 use Rattle.bc_seats.specs.Laws.{LawHeld, LawWaited, LawCommitted, LawBoth}
 
@@ -48,12 +48,14 @@ module _ {Z P E B T : Type 0} (m : Ghosts Z P E B T) where
   lasts v x F keeps since h = still v x F (λ y e may other is. keeps y e may is) since h
 
   pub held : Frame m → LawHeld m
-  held frame v x k p since holds h = still v x (λ y. m.stands k p y)
-      (λ y e may other is. frame k p y e may (other.1 k holds) is) since h
+  held frame v x k p seat since holds h = subst (m.stands k p)
+      (fold-append m.after (m.opening v.run.start) v.seen since.others ∙ sym since.is)
+      (stands-foreign m frame v.run.start v.first v.end v.parts v.seen since.others k p
+      (run_on v.seen since.others (m.opening v.run.start) seat.run since.follow) since.foreign holds h)
 
   -- ---- lists that a seat sees later
 
-  since_grows : (v : SeatView P E T) (es : List E) → Grows m v.first v.end v.parts v.seen es
+  since_grows : (v : SeatView P E T) (es : List E) → Grows m (length v.run.start) v.first v.end v.parts v.seen es
       → IsRun m (m.opening v.run.start) es → Since m v (state_after m v.run.start es)
   since_grows v es grows run = record {
     others = grows.others;
@@ -179,24 +181,44 @@ module _ {Z P E B T : Type 0} (m : Ghosts Z P E B T) where
             ∙ ap (λ l. m.stop l) (sym (ap (λ (x : SeatView P E T). x.seen) is));
       }
 
-  pub kept_committed : Frame m → (v w : SeatView P E T) (e : E) → IsSeat m w → w.parts ≡ v.parts
-      → Committed m v e w → Kept m v w (m.changes e)
-  kept_committed frame v w e seat parts done = record {
+  -- what was seen, with what others did then, is a run
+  run_since : (v : SeatView P E T) (x : m.State) → IsSeat m v → (since : Since m v x)
+      → IsRun m (m.opening v.run.start) (v.seen ++ since.others)
+  run_since v x seat since = run_on v.seen since.others (m.opening v.run.start) seat.run since.follow
+
+  state_since : (v : SeatView P E T) (x : m.State) (since : Since m v x)
+      → state_after m v.run.start (v.seen ++ since.others) ≡ x
+  state_since v x since =
+      fold-append m.after (m.opening v.run.start) v.seen since.others ∙ sym since.is
+
+  -- the frame, in a state to which others can have led
+  framed : Frame m → (v : SeatView P E T) (x : m.State) (e : E) (k : ℕ) (p : P) → IsSeat m v
+      → Since m v x → m.enabled x e → m.changes (length v.run.start) e k ≡ false → m.stands k p x
+      → m.stands k p (m.after x e)
+  framed frame v x e k p seat since may off h = let is = state_since v x since in
+      subst (λ y. m.stands k p (m.after y e)) is
+      (frame v.run.start (v.seen ++ since.others) k p e (run_since v x seat since)
+      (subst (λ y. m.enabled y e) (sym is) may) off (subst (m.stands k p) (sym is) h))
+
+  pub kept_committed : Frame m → (v w : SeatView P E T) (e : E) → IsSeat m v → IsSeat m w
+      → w.parts ≡ v.parts → Committed m v e w → Kept m v w (m.changes (length v.run.start) e)
+  kept_committed frame v w e before seat parts done = record {
     seat = seat;
     same = done.same;
     parts = parts;
     rest = λ k p holds un h. subst (λ (x : m.State). m.stands k p x) (sym done.state)
-        (frame k p done.before e done.may un (held frame v done.before k p done.since holds h));
+        (framed frame v done.before e k p before done.since done.may un
+        (held frame v done.before k p before done.since holds h));
   }
 
-  pub kept_since : Frame m → (v w : SeatView P E T) (changed : ℕ → Bool) → IsSeat m w
+  pub kept_since : Frame m → (v w : SeatView P E T) (changed : ℕ → Bool) → IsSeat m v → IsSeat m w
       → w.parts ≡ v.parts → w.run ≡ v.run → w.first ≡ v.first → w.end ≡ v.end
       → Since m v (state_seen m w) → Kept m v w changed
-  kept_since frame v w changed seat parts run first_is end_is since = record {
+  kept_since frame v w changed before seat parts run first_is end_is since = record {
     seat = seat;
     same = record { run = run; first = first_is; end = end_is };
     parts = parts;
-    rest = λ k p holds un h. held frame v (state_seen m w) k p since holds h;
+    rest = λ k p holds un h. held frame v (state_seen m w) k p before since holds h;
   }
 
   -- ---- ways

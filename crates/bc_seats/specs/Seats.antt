@@ -1,5 +1,5 @@
 -- What a seat of any machine knows, and what it has done.
-use Rattle.std.specs.Prelude.{◌≡◌, ℕ, ◌+◌, ◌<◌, Bool, false, List, [], ◌∷◌, ◌++◌, fold, All, None}
+use Rattle.std.specs.Prelude.{◌≡◌, ℕ, ◌+◌, ◌<◌, Bool, false, List, [], ◌∷◌, ◌++◌, length, fold, All, None}
 use Rattle.bc_parts.specs.declared.machine.Machine.{Ghosts}
 use Rattle.bc_parts.specs.Machine.{state_after, IsRun, events_by}
 use Rattle.bc_parts.specs.Seat.{SeatView, Holds}
@@ -30,7 +30,7 @@ module _ {Z P E B T : Type 0} (m : Ghosts Z P E B T) where
 
   -- an event of another seat, which changes no part that this one holds
   abbrev pub Foreign : SeatView P E T → E → Type 0
-  Foreign v e = IsForeign m v.first v.end v.parts e
+  Foreign v e = IsForeign m (length v.run.start) v.first v.end v.parts e
 
   -- others can have led the run to this state since the seat looked last
   pub record Since (v : SeatView P E T) (x : m.State) : Type 0 where

@@ -90,10 +90,11 @@ pub fn commit<M: Machine, R: Wait>(
     requires seat { IsSeat M.Machine seat.old }
     requires promise { 0 < seat.old.promises }
     requires number { M.number event ≡ seat.old.first }
-    requires holds { (k : ℕ) → M.changes event k ≡ true → Holds seat.old.parts k }
+    requires holds { (k : ℕ) → M.changes (length seat.old.run.start) event k ≡ true
+        → Holds seat.old.parts k }
     requires enabled { (x : M.State) (since : Since M.Machine seat.old x)
         → M.verdict (seat.old.seen ++ since.others) event ≡ Ok tt → M.enabled x event }
-    ensures kept { Kept M.Machine seat.old seat.new (M.changes event) }
+    ensures kept { Kept M.Machine seat.old seat.new (M.changes (length seat.old.run.start) event) }
     ensures ok { OnOk result (Committed M.Machine seat.old event seat.new) }
     ensures err { OnErr result (Waited M.Machine seat.old seat.new) }
     ensures stop { IfErr result (λ stop. M.verdict seat.new.seen event ≡ Err stop) }

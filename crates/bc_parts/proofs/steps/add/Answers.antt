@@ -1,4 +1,5 @@
-use Rattle.std.proofs.Common.{rules, ◌+◌, ◌%◌, ◌^◌, ◌++◌, [], ◌∷◌, Some, sym, ap, ◌∙◌, subst}
+use Rattle.std.proofs.Common.{rules, ◌≡◌, ℕ, ◌+◌, ◌%◌, ◌^◌, ◌++◌, true, [], ◌∷◌, Some, sym, ap, ◌∙◌, subst}
+use Rattle.std.specs.Prelude.{length}
 use mathlib.Core.Option.{none}
 use Rattle.atomic_table.specs.Table.{Allows, step}
 use Rattle.bc_parts.specs.declared.table.Cargo.TheVariants.{Book}
@@ -21,5 +22,5 @@ fetch_add-requires g c = let m = g.M.Machine in let key = c.args.table.now.key i
           r.number
           r.promise.0
           (subst (λ ps. m.enabled (state_after m ps v.seen) c.args.event) r.begun r.enabled)
-          r.holds),
+          (subst (λ ps. (k : ℕ) → m.changes (length ps) c.args.event k ≡ true → Has v k) r.begun r.holds)),
     )

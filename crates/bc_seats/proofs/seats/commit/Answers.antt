@@ -1,4 +1,4 @@
-use Rattle.std.proofs.Common.{ap, sym, ◌∙◌}
+use Rattle.std.proofs.Common.{ap}
 use Rattle.bc_parts.specs.Seat.{SeatView}
 use Rattle.bc_seats.proofs.Knowing.{since_commit, admitted_at, committed_at, waited_later, seat_later, since_later, kept_committed, kept_since}
 use Rattle.bc_seats.proofs.seats.commit.Goals as goal
@@ -22,7 +22,7 @@ returns-in-Ok-clause-kept g c = let h = c.in-Ok.ensures.ok in
     let w = c.commit.new.seat in
     let e = c.args.event in
     let is = h.2 in
-    kept_committed g.M.Machine g.met.M.Machine.frame v w e
+    kept_committed g.M.Machine g.met.M.Machine.frame v w e c.requires.seat
     (seat_later g.M.Machine v w c.requires.seat c.in-Ok.ensures.run
     (ap (λ (x : SeatView _ _ _). x.run) is) (ap (λ (x : SeatView _ _ _). x.first) is)
     (ap (λ (x : SeatView _ _ _). x.end) is))
@@ -47,7 +47,7 @@ returns-in-Err-clause-kept g c = let h = c.in-Err.ensures.refused in
     let run = ap (λ (x : SeatView _ _ _). x.run) is in
     let first = ap (λ (x : SeatView _ _ _). x.first) is in
     let end = ap (λ (x : SeatView _ _ _). x.end) is in
-    kept_since g.M.Machine g.met.M.Machine.frame v w _
+    kept_since g.M.Machine g.met.M.Machine.frame v w _ c.requires.seat
     (seat_later g.M.Machine v w c.requires.seat h.0.run run first end)
     (ap (λ (x : SeatView _ _ _). x.parts) is) run first end
     (since_later g.M.Machine v w h.0 run)

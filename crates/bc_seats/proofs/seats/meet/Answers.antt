@@ -16,7 +16,7 @@ returns-clause-kept g c = let is = c.meet.ensures.seat in
     let first = ap (λ (x : SeatView _ _ _). x.first) is in
     let end = ap (λ (x : SeatView _ _ _). x.end) is in
     kept_since g.M.Machine g.met.M.Machine.frame c.args.seat.now c.meet.new.seat _
-    (seat_later g.M.Machine c.args.seat.now c.meet.new.seat c.requires.seat c.meet.ensures.later.run
+    c.requires.seat (seat_later g.M.Machine c.args.seat.now c.meet.new.seat c.requires.seat c.meet.ensures.later.run
     run first end)
     (ap (λ (x : SeatView _ _ _). x.parts) is) run first end
     (since_later g.M.Machine c.args.seat.now c.meet.new.seat c.meet.ensures.later run)

@@ -1,6 +1,6 @@
 use Rattle.std.proofs.Common.{ap}
 use Rattle.bc_parts.specs.Seat.{SeatView}
-use Rattle.bc_seats.proofs.Knowing.{waited_later, seat_later, since_later, kept_since, went_later}
+use Rattle.bc_seats.proofs.Knowing.{seat_later, since_later, kept_since, went_later}
 use Rattle.bc_seats.proofs.seats.promise.Goals as goal
 
 pub returns-in-Ok-clause-kept : goal.returns-in-Ok-clause-kept
@@ -9,7 +9,7 @@ returns-in-Ok-clause-kept g c = let is = c.promise.ensures.seat in
     let first = ap (λ (x : SeatView _ _ _). x.first) is in
     let end = ap (λ (x : SeatView _ _ _). x.end) is in
     kept_since g.M.Machine g.met.M.Machine.frame c.args.seat.now c.promise.new.seat _
-    (seat_later g.M.Machine c.args.seat.now c.promise.new.seat c.requires.seat
+    c.requires.seat (seat_later g.M.Machine c.args.seat.now c.promise.new.seat c.requires.seat
     c.promise.ensures.later.run run first end)
     (ap (λ (x : SeatView _ _ _). x.parts) is) run first end
     (since_later g.M.Machine c.args.seat.now c.promise.new.seat c.promise.ensures.later run)
@@ -20,7 +20,7 @@ returns-in-Err-clause-kept g c = let is = c.promise.ensures.seat in
     let first = ap (λ (x : SeatView _ _ _). x.first) is in
     let end = ap (λ (x : SeatView _ _ _). x.end) is in
     kept_since g.M.Machine g.met.M.Machine.frame c.args.seat.now c.promise.new.seat _
-    (seat_later g.M.Machine c.args.seat.now c.promise.new.seat c.requires.seat
+    c.requires.seat (seat_later g.M.Machine c.args.seat.now c.promise.new.seat c.requires.seat
     c.promise.ensures.later.run run first end)
     (ap (λ (x : SeatView _ _ _). x.parts) is) run first end
     (since_later g.M.Machine c.args.seat.now c.promise.new.seat c.promise.ensures.later run)

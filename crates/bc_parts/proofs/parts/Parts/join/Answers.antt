@@ -1,4 +1,5 @@
 use Rattle.std.proofs.Common.{rules, ◌≡◌, ◌<◌, [], Some, sym, ap, ◌∙◌, subst, arith}
+use Rattle.std.specs.Prelude.{length}
 use Rattle.bc_parts.specs.Later.{Grows}
 use Rattle.bc_parts.specs.Steps.{looking}
 use Rattle.bc_parts.proofs.Keeping.{joins, looks}
@@ -23,12 +24,12 @@ invariant_of-seat g c = let m = g.M.Machine in let me = c.seat.inside.place.me i
     let next : w.first ≡ v.end = ap (λ x. x.first) c.other.view_is ∙ (c.requires.next ∙ ap (λ x. x.end) (sym c.seat.view_is)) in
     let a = c.seat.invariant.0.live in let b = c.other.invariant.0.live in let whole = c.seat.invariant.0.whole in
     let is = looked.is ∙ ap (λ z. (looking z.0 seen, z.1)) joined in
-    let later : Grows m v.first v.middle v.held v.seen seen = subst (λ z. Grows m z.0.first z.0.middle z.0.held z.0.seen seen) joined looked.later.grows in
-    let beside : Grows m v.middle w.end [] w.seen seen = subst (λ z. z.0.middle < z.0.end → Grows m z.0.middle z.0.end [] z.0.beside seen) joined (λ l. (looked.beside l).grows) (omega (arith, a, b, next, whole)) in (
+    let later : Grows m (length v.start) v.first v.middle v.held v.seen seen = subst (λ z. Grows m (length z.0.start) z.0.first z.0.middle z.0.held z.0.seen seen) joined looked.later.grows in
+    let beside : Grows m (length v.start) v.middle w.end [] w.seen seen = subst (λ z. z.0.middle < z.0.end → Grows m (length z.0.start) z.0.middle z.0.end [] z.0.beside seen) joined (λ l. (looked.beside l).grows) (omega (arith, a, b, next, whole)) in (
       Rests-joining m me c.load.new.seat.me w seen c.seat.invariant.0 (omega (arith, a, b, next)) is,
       c.seat.invariant.1 ∙ sym (ap (λ new. new.0.first) is),
       (λ s told. told_either (λ t. m.stop seen ≡ Some t) c.seat.inside.told c.other.inside.told
-          (still_stopped m g.met.M.Machine.stays v.first v.middle v.held v.seen seen c.seat.inside.told later c.seat.invariant.2)
-          (still_stopped m g.met.M.Machine.stays v.middle w.end [] w.seen seen c.other.inside.told beside c.other.invariant.2)
+          (still_stopped m g.met.M.Machine.stays (length v.start) v.first v.middle v.held v.seen seen c.seat.inside.told later c.seat.invariant.2)
+          (still_stopped m g.met.M.Machine.stays (length v.start) v.middle w.end [] w.seen seen c.other.inside.told beside c.other.invariant.2)
           s (sym c.or-seat-inside.ensures ∙ told)),
     )

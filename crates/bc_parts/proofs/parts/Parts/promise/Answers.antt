@@ -21,7 +21,7 @@ invariant_of-seat g c = let m = g.M.Machine in let me = c.seat.inside.place.me i
       Rests-returning m me c.put_back.new.place.me k (promising (taking me.0 k book.seen book.owed) more) rests last rests.live rests.whole refl refl is,
       c.seat.invariant.1 ∙ sym (ap (λ new. new.0.first) is),
       subst (λ es. (s : _) → c.seat.inside.told ≡ Some s → m.stop es ≡ Some s) (sym (ap (λ new. new.0.seen) is))
-          (still_stopped m g.met.M.Machine.stays me.0.first me.0.end me.0.held me.0.seen book.seen c.seat.inside.told c.take_book-book.ensures.later.grows c.seat.invariant.2),
+          (still_stopped m g.met.M.Machine.stays (length me.0.start) me.0.first me.0.end me.0.held me.0.seen book.seen c.seat.inside.told c.take_book-book.ensures.later.grows c.seat.invariant.2),
     )
 
 pub returns-clause-seat : goal.returns-clause-seat
