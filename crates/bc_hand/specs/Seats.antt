@@ -1,11 +1,11 @@
 -- What a seat of the core knows, and what it has done.
-use Rattle.std.specs.Prelude.{◌≡◌, ℕ, ◌<◌, ◌≤◌, Bool, true, false, List, [], ◌∷◌, length, Option, Some, None, is_some, IfSome, Result, Ok, Err}
+use Rattle.std.specs.Prelude.{◌≡◌, ℕ, ◌-◌, ◌<◌, ◌≤◌, Bool, true, false, List, [], ◌∷◌, length, Option, Some, None, is_some, IfSome, Result, Ok, Err}
 use Rattle.bc_disk.specs.Disk.{DiskFacts}
 use Rattle.bc_disk.specs.declared.disk.Device.{Device}
 use Rattle.bc_flight.specs.Flight.{InFlight}
 use Rattle.bc_parts.specs.declared.machine.Machine.{Ghosts}
 use Rattle.bc_parts.specs.Seat.{SeatView, PartsView, Holds}
-use Rattle.bc_seats.specs.Seats.{state_seen, IsSeat, Waited, Committed, Kept, Went}
+use Rattle.bc_seats.specs.Seats.{state_seen, own_events, IsSeat, Since, Waited, Committed, Kept, Went}
 use Rattle.bc_events.specs.Columns.{halt_of, verdict_of, is_late}
 use Rattle.bc_events.specs.declared.event.Line.{Line}
 use Rattle.bc_events.specs.declared.event.Deed.{Deed}
@@ -14,10 +14,11 @@ use Rattle.bc_book.specs.declared.book.Book.{Book}
 use Rattle.bc_machine.specs.declared.machine.Core.{Core}
 use Rattle.bc_machine.specs.declared.part.BackingPart.{BackingPart}
 use Rattle.bc_machine.specs.declared.part.CorePart.{CorePart}
-use Rattle.bc_machine.specs.World.{World, data_of, is_told, opening, after, IsEnabled, changes, IsPart, IsFlight, IsCache, IsBacking}
-use Rattle.bc_machine.specs.Note.{Note, note_of, note_after, IsFirmer}
+use Rattle.bc_machine.specs.World.{World, data_of, is_told, are_plain, opening, after, IsView, InEach, CanFollow, IsEnabled, changes, IsPart, IsSpine, AreLeaves, IsFlight, AreBuckets, IsJournal, IsCache, IsBacking}
+use Rattle.bc_machine.specs.Note.{Note, note_of, note_by, note_after, IsFirmer}
 use Rattle.bc_machine.specs.Bare.{IsBareRun}
 use Rattle.bc_hand.specs.declared.hand.Hand.{Hand}
+use Rattle.bc_hand.specs.declared.hand.LeafHand.{LeafHand}
 use Rattle.bc_hand.specs.declared.error.StepError.{StepError}
 use Rattle.bc_hand.specs.declared.error.StepError.TheVariants as error
 
@@ -32,21 +33,58 @@ abbrev pub with_part : {A : Type 0} → ℕ → Option A → List ℕ → List �
 with_part k None ks = ks
 with_part k (Some p) ks = k ∷ ks
 
+-- a part with leaves has its own number
+abbrev pub with_leaves : Option LeafHand → List ℕ → List ℕ
+with_leaves None ks = ks
+with_leaves (Some l) ks = l.part ∷ ks
+
 abbrev pub numbers : {C B : Type 0} → Hand C B → List ℕ
-numbers h = with_part 5 h.backing (with_part 4 h.cache (with_part 1 h.flight []))
+numbers h = with_part 5 h.backing (with_part 4 h.cache (with_part 3 h.journal
+    (with_part 2 h.buckets (with_part 1 h.flight (with_leaves h.leaves (with_part 0 h.spine []))))))
 
 -- nothing in hand
 abbrev pub empty : {C B : Type 0} → Hand C B
-empty = record { flight = None; cache = None; backing = None }
+empty = record {
+  spine = None;
+  leaves = None;
+  flight = None;
+  buckets = None;
+  journal = None;
+  cache = None;
+  backing = None;
+}
+
+-- none of the parts that are taken after the claims is in hand
+pub record HasNoneBehindFlight {C B : Type 0} (h : Hand C B) : Type 0 where
+  pub buckets : h.buckets ≡ None
+  pub journal : h.journal ≡ None
+  pub cache : h.cache ≡ None
+  pub backing : h.backing ≡ None
 
 -- which parts are in hand
 pub record Kinds : Type 0 where
+  pub spine : Bool
+  pub leaves : Option ℕ
   pub flight : Bool
+  pub buckets : Bool
+  pub journal : Bool
   pub cache : Bool
   pub backing : Bool
 
+abbrev pub part_of : Option LeafHand → Option ℕ
+part_of None = None
+part_of (Some l) = Some l.part
+
 abbrev pub kinds : {C B : Type 0} → Hand C B → Kinds
-kinds h = record { flight = is_some h.flight; cache = is_some h.cache; backing = is_some h.backing }
+kinds h = record {
+  spine = is_some h.spine;
+  leaves = part_of h.leaves;
+  flight = is_some h.flight;
+  buckets = is_some h.buckets;
+  journal = is_some h.journal;
+  cache = is_some h.cache;
+  backing = is_some h.backing;
+}
 
 module _ {C B : Type 0} (cache_facts : C → DiskFacts) (backing_facts : B → DiskFacts) where
   -- the machine of the core, over these devices
@@ -72,31 +110,37 @@ module _ {C B : Type 0} (cache_facts : C → DiskFacts) (backing_facts : B → D
   abbrev pub world : View → World
   world v = state_seen core v
 
+  -- what its own events make it note
   abbrev pub note : View → Note
-  note v = note_of (world v) v.first
+  note v = note_by (are_plain cache_facts backing_facts v.run.start) (own_events core v)
 
   -- a seat of a run; unless it was told of a halt, it may make a device call
   pub record IsCoreSeat (v : View) : Type 0 where
     pub seat : IsSeat core v
     pub numbers : v.end ≤ 320
     pub parts : 5 < length v.run.start
-    pub fresh : v.told ≡ None → (data_of (world v)).late v.first ≡ false
+    pub fresh : v.told ≡ None → InEach (world v) (λ y. (data_of y).late v.first ≡ false)
     pub bare : IsBareRun (world v)
 
-  -- what the seat knows of a state in which its deed may be committed
-  pub record AtDeed (v : View) (d : Deed) (x : World) : Type 0 where
-    pub note : IsFirmer (note v) (note_of x v.first)
-    pub line : x.now.line v.first ≡ (world v).now.line v.first
-    pub late : v.told ≡ None → (data_of x).late v.first ≡ false
-    pub running : is_late d ≡ false → (data_of x).halted ≡ false
-    pub opening : x.opening ≡ (world v).opening
-    pub bare : IsBareRun x
+  -- What the seat knows of a state x in which its deed may be committed, seen as y: as events alone
+  -- make it, or as it is from an opening of the core.
+  pub record AtDeed (v : View) (d : Deed) (x y : World) : Type 0 where
+    pub since : Since core v x
+    pub view : IsView x y
+    pub note : IsFirmer (note v) (note_of y v.first)
+    pub line : y.now.line v.first ≡ (world v).now.line v.first
+    pub late : v.told ≡ None → (data_of y).late v.first ≡ false
+    pub running : is_late d ≡ false → (data_of y).halted ≡ false
+    pub size : y.opening.machine.flow.books.size ≡ (world v).opening.machine.flow.books.size
+    pub worker : y.opening.worker v.first ≡ (world v).opening.worker v.first
+    pub plain : y.opening.machine.flow.plain ≡ are_plain cache_facts backing_facts v.run.start
+    pub bare : IsBareRun y
     pub stand : (k : ℕ) (p : CorePart C B) → Holds v.parts k
         → IsPart cache_facts backing_facts k p (world v) → IsPart cache_facts backing_facts k p x
 
   -- the deed may be done then
   abbrev pub MayDo : View → Deed → Type 0
-  MayDo v d = (x : World) → AtDeed v d x → IsEnabled x (by v.first d)
+  MayDo v d = (x y : World) → AtDeed v d x y → is_told y ≡ true → CanFollow y (by v.first d)
 
   -- what a step did: it committed the deed, or only waited
   abbrev pub did : Option Deed → View → View → Type 0
@@ -127,7 +171,11 @@ module _ {C B : Type 0} (cache_facts : C → DiskFacts) (backing_facts : B → D
 
   -- each part in hand stands for its share of the state
   pub record StandIn (h : Hand C B) (x : World) : Type 0 where
+    pub spine : IfSome h.spine (λ sp. IsSpine sp x)
+    pub leaves : IfSome h.leaves (λ l. (6 ≤ l.part) × AreLeaves (l.part - 6) l.cache x)
     pub flight : IfSome h.flight (λ f. IsFlight f x)
+    pub buckets : IfSome h.buckets (λ p. AreBuckets p x)
+    pub journal : IfSome h.journal (λ j. IsJournal j x)
     pub cache : IfSome h.cache (λ c. IsCache cache_facts backing_facts c x)
     pub backing : IfSome h.backing (λ b. IsBacking cache_facts backing_facts b x)
 

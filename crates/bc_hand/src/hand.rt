@@ -3,19 +3,33 @@
 ghost use Rattle.std.specs.Prelude.{◌≡◌, ◌<◌, ℕ, length, is_none, None, Some, if◌then◌else◌};
 ghost use Rattle.bc_parts.specs.Seat.{Holds};
 ghost use Rattle.bc_seats.specs.Seats.{Waited};
-ghost use Rattle.bc_hand.specs.Seats.{core, Works, empty};
+ghost use Rattle.bc_hand.specs.Seats.{core, Works, HasNoneBehindFlight, empty};
 
+use bc_cache::NodeCache;
 use bc_disk::disk::Disk;
 use bc_flight::flight::Flight;
+use bc_journal::Journal;
 use bc_machine::machine::{Core, CoreParts, CoreSeat};
-use bc_machine::part::{BACKING, BackingPart, CorePart, FLIGHT};
+use bc_machine::part::{BACKING, BackingPart, BucketsPart, CorePart, FLIGHT};
 use bc_seats::seats;
+use bc_tree::Spine;
 use std::sync::Wait;
+
+/// A part with leaves, and its number among all parts.
+#[derive(Drop)]
+pub struct LeafHand {
+    pub part: u32,
+    pub cache: NodeCache,
+}
 
 /// The parts that a seat holds, one of each kind at most. They are taken in this order.
 #[derive(Drop)]
 pub struct Hand<C, B> {
+    pub spine: Option<Spine>,
+    pub leaves: Option<LeafHand>,
     pub flight: Option<Flight>,
+    pub buckets: Option<BucketsPart>,
+    pub journal: Option<Journal>,
     pub cache: Option<C>,
     pub backing: Option<BackingPart<B>>,
 }
@@ -26,7 +40,11 @@ impl<C: Disk + Drop, B: Disk + Drop> Hand<C, B> {
         ensures { result ≡ empty }
     {
         Hand {
+            spine: None,
+            leaves: None,
             flight: None,
+            buckets: None,
+            journal: None,
             cache: None,
             backing: None,
         }
@@ -41,7 +59,7 @@ pub fn borrow_flight<C: Disk + Drop, B: Disk + Drop, R: Wait>(
     hand: &mut Hand<C, B>,
 ) -> (Flight, bool)
     requires works { Works C.facts B.facts parts.now seat.old hand.old }
-    requires order { hand.old.flight ≡ None → (hand.old.cache ≡ None) × (hand.old.backing ≡ None) }
+    requires order { hand.old.flight ≡ None → HasNoneBehindFlight hand.old }
     ensures lent { Works C.facts B.facts parts.now seat.new (record hand.new { flight = Some result.0 }) }
     ensures waited { Waited (core C.facts B.facts) seat.old seat.new }
     ensures told { seat.new.told ≡ seat.old.told }

@@ -1,5 +1,5 @@
 //! Seats of a run.
-ghost use Rattle.std.specs.Prelude.{◌≡◌, ◌<◌, ℕ, true, false, None, Some, IfErr, OnOk, OnErr};
+ghost use Rattle.std.specs.Prelude.{◌≡◌, ◌<◌, ℕ, true, false, length, None, Some, IfErr, OnOk, OnErr};
 ghost use Rattle.bc_parts.specs.Seat.{Holds};
 ghost use Rattle.bc_events.specs.Columns.{is_late, halt_of};
 ghost use Rattle.bc_machine.specs.World.{changes};
@@ -25,9 +25,11 @@ pub fn commit<C: Disk, B: Disk, R: Wait>(
     requires run { seat.old.run ≡ parts.now.run }
     requires seat { IsCoreSeat C.facts B.facts seat.old }
     requires promise { 0 < seat.old.promises }
-    requires holds { (k : ℕ) → changes (by seat.old.first deed) k ≡ true → Holds seat.old.parts k }
+    requires holds { (k : ℕ) → changes (length seat.old.run.start) (by seat.old.first deed) k ≡ true
+        → Holds seat.old.parts k }
     requires may { MayDo C.facts B.facts seat.old deed }
-    ensures kept { Kept (core C.facts B.facts) seat.old seat.new (changes (by seat.old.first deed)) }
+    ensures kept { Kept (core C.facts B.facts) seat.old seat.new
+        (changes (length seat.old.run.start) (by seat.old.first deed)) }
     ensures ok { OnOk result (Did C.facts B.facts (Some deed) seat.old seat.new) }
     ensures err { OnErr result (Did C.facts B.facts None seat.old seat.new) }
     ensures halted { IfErr result (λ device. halt_of seat.new.seen ≡ Some device) }

@@ -19,13 +19,11 @@ use Rattle.bc_events.specs.Acts.{acts_of}
 use Rattle.bc_events.specs.Run as core
 use Rattle.bc_events.specs.Run.{IsSome, CanDo, AreAlone, acts_or_none}
 use Rattle.bc_events.specs.declared.event.Event.{Event}
-use Rattle.bc_disk.specs.declared.disk.Device.{Device}
-use Rattle.bc_disk.specs.declared.disk.Device.TheVariants.{Cache, Backing}
 use Rattle.bc_leaves.specs.Parts as parts
-use Rattle.bc_events.specs.Columns.{Call, call_by}
-use Rattle.bc_machine.specs.World.{Side, called, counted, same_device, World, IsEnabled, data_of, is_told, after}
+use Rattle.bc_machine.specs.World.{World, IsEnabled, after}
 use Rattle.bc_machine.specs.Bare.{IsBare, IsBareRun}
 use Rattle.bc_machine.specs.Frame.{by_test}
+use Rattle.bc_machine.specs.Standing.{told_event}
 
 step_index : (w : book.Setup) (k : book.Books) (x : book.Step) → is_quiet_step x ≡ true
     → (books_step.after w k x).index ≡ k.index
@@ -153,22 +151,10 @@ bare_row w st e None plain h on = absurd on
 bare_row w st e (Some acts) plain h on =
     bare_acts w.machine st.machine e.seat acts h (on.plain plain) on.course
 
-called_told : (device : Device) (o : Option Call) (x : Side) → (called device o x).told ≡ x.told
-called_told device None x = refl
-called_told device (Some call) x = go (same_device call.device device)
-  where
-    go : (b : Bool) → (if b then counted call.failed x else x).told ≡ x.told
-    go true = refl
-    go false = refl
-
-pub told_event : (x : World) (e : Event) → is_told (after x e) ≡ is_told x
-told_event x e = ap (λ b. b && (after x e).backing.told) (called_told Cache (call_by e.deed) x.cache)
-    ∙ ap (λ b. x.cache.told && b) (called_told Backing (call_by e.deed) x.backing)
-
 pub bare_event : (x : World) (e : Event) → IsEnabled x e → IsBareRun x → IsBareRun (after x e)
 bare_event x e may h told plain = let before = sym (told_event x e) ∙ told in
     bare_row x.opening x.now e (acts_of x.opening.machine x.now.machine e.seat e.deed) plain
-    (h before plain) (may.allowed before)
+    (h before plain) (may.allowed before plain).enabled
 
 -- as a run opens
 pub bare_opened : (w : core.Opening) (parts : parts.State) (n : ℕ)

@@ -1,6 +1,6 @@
 -- What an event makes of the note of its seat, and of those of other seats.
 use Rattle.std.proofs.Common.{◌≡◌, ◌≢◌, ◌⊎◌, inl, inr, ℕ, Bool, true, false, List, [], ◌∷◌, Option, Some, None, refl, sym, ap, ◌∙◌, subst}
-use Rattle.std.specs.Prelude.{◌==◌, ◌||◌, if◌then◌else◌, is_some, fold, reverse}
+use Rattle.std.specs.Prelude.{◌==◌, ◌||◌, if◌then◌else◌, is_some, filter, fold, reverse}
 use Rattle.bc_model.specs.Sector.{Value, at_run}
 use Rattle.bc_books.specs.Books.{Books}
 use Rattle.bc_data.specs.Seats.{Claim, Seat, put_seat, nothing, noted}
@@ -29,7 +29,7 @@ use Rattle.bc_events.specs.declared.event.Failure.TheVariants as failure
 use Rattle.bc_events.specs.declared.event.Deed.{Deed}
 use Rattle.bc_events.specs.declared.event.Deed.TheVariants as deed
 use Rattle.bc_events.specs.declared.event.Event.{Event}
-use Rattle.bc_machine.specs.World.{World, after, data_of}
+use Rattle.bc_machine.specs.World.{World, is_plain, after, data_of}
 use Rattle.bc_machine.specs.Frame.{Column, Notes, Halts, touches, is_noted, by_test, Keeps, AllData, AllOf, in_acts, rows, stays_event}
 use Rattle.bc_machine.specs.Note.{Note, note_in, note_of, note_after, after_failure, with_range, no_range, with_try, with_write, with_barrier, IsFirmer}
 
@@ -312,6 +312,113 @@ pub other_event : (x : World) (e : Event) (j : ℕ) → e.seat ≢ j → Others 
 other_event x e j ne = in_acts (λ act. Unit {0}) e.seat (Others j) (others_keep e.seat j ne)
     x.opening.machine x.now.machine (core.acts x.opening x.now e)
     (any_acts e.seat (core.acts x.opening x.now e))
+
+-- what is firmer before an event is so behind it
+firmer_failed : (a b : Note) (x : Failure) → IsFirmer a b → IsFirmer (after_failure a x) (after_failure b x)
+firmer_failed a b (failure.BackingWrite first (Some of) values) h = record {
+  range = h.range;
+  wrote = refl;
+  looked = refl;
+  read = λ s. refl;
+  last = h.last;
+  flush = h.flush;
+}
+firmer_failed a b (failure.BackingWrite first None values) h = h
+firmer_failed a b x h = h
+
+firmer_written : (a b : Note) (line first : ℕ) (values : List Value) (firm : Bool) → IsFirmer a b
+    → IsFirmer (with_write line first values firm a) (with_write line first values firm b)
+firmer_written a b line first values firm h = record {
+  range = h.range;
+  wrote = refl;
+  looked = refl;
+  read = λ s. refl;
+  last = (refl, refl, refl, λ is. is);
+  flush = h.flush;
+}
+
+pub firmer_after : (plain : Bool) (a b : Note) (d : Deed) → IsFirmer a b
+    → IsFirmer (note_after plain a d) (note_after plain b d)
+firmer_after plain a b (deed.Claim first count how) h = record {
+  range = refl;
+  wrote = refl;
+  looked = refl;
+  read = λ s. refl;
+  last = h.last;
+  flush = h.flush;
+}
+firmer_after plain a b deed.Release h = record {
+  range = refl;
+  wrote = refl;
+  looked = refl;
+  read = λ s. refl;
+  last = h.last;
+  flush = h.flush;
+}
+firmer_after plain a b (deed.Look leaf) h = record {
+  range = h.range;
+  wrote = h.wrote;
+  looked = refl;
+  read = λ s. refl;
+  last = h.last;
+  flush = h.flush;
+}
+firmer_after plain a b (deed.BackingRead first values) h = record {
+  range = h.range;
+  wrote = h.wrote;
+  looked = h.looked;
+  read = λ s. ap (noted (at_run first values s)) (h.read s);
+  last = h.last;
+  flush = h.flush;
+}
+firmer_after plain a b (deed.BackingWrite first (Some of) values) h =
+    firmer_written a b of.line first values false h
+firmer_after plain a b (deed.BackingWrite first None values) h = h
+firmer_after plain a b deed.BackingBarrier h = record {
+  range = h.range;
+  wrote = h.wrote;
+  looked = h.looked;
+  read = h.read;
+  last = (h.last.0, h.last.1, h.last.2, λ is. refl);
+  flush = (h.flush.0, h.flush.1, λ is. refl);
+}
+firmer_after plain a b (deed.InsertWrite leaf keys of first values) h =
+    firmer_written a b of.line first values true h
+firmer_after plain a b (deed.FlushFrom of) h = record {
+  range = h.range;
+  wrote = h.wrote;
+  looked = h.looked;
+  read = h.read;
+  last = h.last;
+  flush = (refl, refl, λ is. is);
+}
+firmer_after plain a b (deed.FlushDone of) h = record {
+  range = h.range;
+  wrote = h.wrote;
+  looked = h.looked;
+  read = h.read;
+  last = h.last;
+  flush = (refl, h.flush.1, h.flush.2);
+}
+firmer_after plain a b (deed.DeviceFault x) h = firmer_failed a b x h
+firmer_after plain a b d h = h
+
+-- ---- runs
+
+-- a seat's own events make the note that it has in the state, but for what others made firm
+pub own_note : (i : ℕ) (a : Note) (x : World) (es : List Event) → IsFirmer a (note_of x i)
+    → IsFirmer (fold (λ o e. note_after (is_plain x) o e.deed) a (filter (λ e. e.seat == i) es))
+    (note_of (fold after x es) i)
+own_note i a x [] h = h
+own_note i a x (e ∷ es) h = by_test e.seat i
+    (λ b. IsFirmer (fold (λ o e. note_after (is_plain x) o e.deed) a
+    (if b then e ∷ filter (λ e. e.seat == i) es else filter (λ e. e.seat == i) es))
+    (note_of (fold after (after x e) es) i))
+    (λ is. own_note i (note_after (is_plain x) a e.deed) (after x e) es
+    (firmer_both _ _ _ (firmer_after (is_plain x) a (note_of x i) e.deed h)
+    (firmer_is (note_after (is_plain x) (note_of x i) e.deed) (note_of (after x e) i)
+    (subst (λ n. note_of (after x e) n ≡ note_after (is_plain x) (note_of x n) e.deed) is (note_event x e)))))
+    (λ ne. own_note i a (after x e) es (firmer_both _ _ _ h (other_event x e i ne).0))
 
 -- ---- halts
 

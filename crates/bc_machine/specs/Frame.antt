@@ -1,4 +1,4 @@
--- What events leave alone: a part that none of their columns names, and what another seat knows.
+-- What events leave alone of the state: what none of their columns names.
 use Rattle.std.specs.Prelude.{◌≡◌, ◌≢◌, ◌⊎◌, ℕ, ◌+◌, ◌≤◌, Bool, true, false, ◌==◌, ◌&&◌, ◌||◌, List, [], ◌∷◌, ◌++◌, reverse, Option, Some, None, is_some, Err, if◌then◌else◌, refl}
 use Rattle.std.proofs.Common.{inl, inr, sym, ap, ◌∙◌, subst}
 use Rattle.std.proofs.lemmas.Bool.Decides.{eqb_tells}
@@ -20,10 +20,8 @@ use Rattle.bc_known.specs.Acts.{Alone, Keyed, WriteCache, FailCache, Seal, MakeD
 use Rattle.bc_known.specs.Run as machine
 use Rattle.bc_alloc.specs.declared.purpose.Purpose.{Purpose}
 use Rattle.bc_alloc.specs.declared.purpose.Purpose.TheVariants as list
-use Rattle.bc_disk.specs.Disk.{DiskFacts, StandsFor}
 use Rattle.bc_disk.specs.declared.disk.Device.{Device}
 use Rattle.bc_disk.specs.declared.disk.Device.TheVariants.{Cache, Backing}
-use Rattle.bc_flight.specs.Flight.{InFlight, claim_at}
 use Rattle.bc_events.specs.Acts.{acts_of, is_exclusive, route_of, shelve, claimed, pinned, let_go, taken, listed, read_for, put_keys, begun, root_beginning, installed, marked, failed}
 use Rattle.bc_key.specs.declared.key.Key.{Key}
 use Rattle.bc_events.specs.Keys.{book_keys}
@@ -48,10 +46,7 @@ use Rattle.bc_events.specs.declared.event.Deed.{Deed}
 use Rattle.bc_events.specs.declared.event.Deed.TheVariants as deed
 use Rattle.bc_events.specs.declared.event.Event.{Event}
 use Rattle.bc_whole.specs.Together.{shelved}
-use Rattle.bc_machine.specs.declared.part.BackingPart.{BackingPart}
-use Rattle.bc_machine.specs.declared.part.CorePart.{CorePart}
-use Rattle.bc_machine.specs.declared.part.CorePart.TheVariants as part
-use Rattle.bc_machine.specs.World.{Side, model, behind, called, counted, World, after, data_of, is_call_of, touches_flight, changes, claim_in, share_of, IsFlight, IsCache, IsBacking, IsPart}
+use Rattle.bc_machine.specs.World.{World, after, data_of, is_call_of, touches_flight}
 
 -- ---- what acts of the data touch
 
@@ -539,67 +534,6 @@ pub stays_event : (c : Column) (x : World) (e : Event) → changed e.deed c ≡ 
     → Stays c (data_of x) (data_of (after x e))
 stays_event c x e off = in_acts (Off c e.seat) e.seat (Stays c) (stays c e.seat) x.opening.machine
     x.now.machine _ (rows c e.seat x.opening.machine x.now.machine e.deed off)
-
--- ---- parts
-
-not_or : (a b : Bool) → (a || b) ≡ false → (a ≡ false) × (b ≡ false)
-not_or false b is = (refl, is)
-not_or true b is = absurd (cc)
-
-true_and : (b : Bool) → (true && b) ≡ false → b ≡ false
-true_and b is = is
-
-by_claims : (n : ℕ) (a b : Claim) → range_of a ≡ range_of b → claim_in n a ≡ claim_in n b
-by_claims n a b is = ap (λ (r : Range). if r.count == 0 then None
-    else Some (claim_at n r.first r.count (share_of r.exclusive))) is
-
-flight_stays : (f : InFlight) (x : World) (e : Event) → changes e 1 ≡ false → IsFlight f x
-    → IsFlight f (after x e)
-flight_stays f x e same h = let off = not_or (touches_flight e.deed) false same in record {
-  seats = h.seats;
-  claims = λ n. h.claims n ∙ by_claims n ((data_of x).seats n).claim ((data_of (after x e)).seats n).claim
-      (sym (stays_event Claims x e off.0 n));
-}
-
-called_none : (device : Device) (o : Option Call) (x : Side) → is_call_of device o ≡ false
-    → called device o x ≡ x
-called_none device None x off = refl
-called_none device (Some call) x off = ap (λ b. if b then counted call.failed x else x) off
-
-module _ {C B : Type 0} (cache_facts : C → DiskFacts) (backing_facts : B → DiskFacts) where
-  cache_stays : (c : C) (x : World) (e : Event) → changes e 4 ≡ false
-      → IsCache {C = C} {B = B} cache_facts backing_facts c x → IsCache {C = C} {B = B} cache_facts backing_facts c (after x e)
-  cache_stays c x e same h =
-      let off = (not_or (is_call_of Cache (call_by e.deed)) false same).0 in record {
-        stands = subst (λ m. StandsFor (cache_facts c) m)
-            (ap (λ d. model d (data_of x).cache) (sym (called_none Cache (call_by e.deed) x.cache off))
-            ∙ ap (λ d. model (after x e).cache d) (sym (stays_event OnCache x e off)))
-            h.stands;
-      }
-
-  backing_stays : (b : BackingPart B) (x : World) (e : Event) → changes e 5 ≡ false
-      → IsBacking cache_facts backing_facts b x → IsBacking cache_facts backing_facts b (after x e)
-  backing_stays b x e off h = record {
-    stands = subst (λ m. StandsFor (backing_facts b.disk) m)
-        (ap (λ d. model d (behind x.offset x.ahead (data_of x).backing))
-        (sym (called_none Backing (call_by e.deed) x.backing off))
-        ∙ ap (λ d. model (after x e).backing (behind x.offset x.ahead d)) (sym (stays_event OnBacking x e off)))
-        h.stands;
-    offset = h.offset;
-    size = h.size;
-    inside = subst (λ (d : Side). b.offset + b.size ≤ d.sectors)
-        (sym (called_none Backing (call_by e.deed) x.backing off)) h.inside;
-  }
-
-  pub frames : (k : ℕ) (p : CorePart C B) (x : World) (e : Event) → changes e k ≡ false
-      → IsPart cache_facts backing_facts k p x → IsPart cache_facts backing_facts k p (after x e)
-  frames k part.Absent x e same h = h
-  frames k (part.Flight f) x e same h =
-      (h.0, flight_stays f x e (ap (changes e) (sym h.0) ∙ same) h.1)
-  frames k (part.Cache c) x e same h =
-      (h.0, cache_stays c x e (ap (changes e) (sym h.0) ∙ same) h.1)
-  frames k (part.Backing b) x e same h =
-      (h.0, backing_stays b x e (ap (changes e) (sym h.0) ∙ same) h.1)
 
 -- ---- a halt
 

@@ -1,9 +1,10 @@
 -- What a seat notes of its own events: its claim, what it read under it, its last write and its open
--- flush. Other seats change nothing of it, but that a barrier of theirs makes durable what it wrote.
-use Rattle.std.specs.Prelude.{◌≡◌, ℕ, Bool, true, false, List, length, Option, Some, None}
+-- flush. Other seats change nothing of it, but that a barrier of theirs makes durable what it wrote;
+-- of that a seat knows nothing.
+use Rattle.std.specs.Prelude.{◌≡◌, ℕ, Bool, true, false, List, length, fold, Option, Some, None}
 use Rattle.bc_model.specs.Sector.{Value, at_run}
 use Rattle.bc_flight.specs.declared.claim.Share.{Share}
-use Rattle.bc_data.specs.Seats.{Seat, nothing, noted}
+use Rattle.bc_data.specs.Seats.{Seat, no_seat, nothing, noted}
 use Rattle.bc_data.specs.Data as flow
 use Rattle.bc_events.specs.Acts.{is_exclusive}
 use Rattle.bc_events.specs.declared.event.Line.{Line}
@@ -11,6 +12,7 @@ use Rattle.bc_events.specs.declared.event.Failure.{Failure}
 use Rattle.bc_events.specs.declared.event.Failure.TheVariants as failure
 use Rattle.bc_events.specs.declared.event.Deed.{Deed}
 use Rattle.bc_events.specs.declared.event.Deed.TheVariants as deed
+use Rattle.bc_events.specs.declared.event.Event.{Event}
 use Rattle.bc_machine.specs.Frame.{Range, range_of}
 use Rattle.bc_machine.specs.World.{World, data_of}
 
@@ -100,6 +102,14 @@ note_after plain o (deed.FlushFrom of) =
 note_after plain o (deed.FlushDone of) = record o { flush = record o.flush { going = false } }
 note_after plain o (deed.DeviceFault x) = after_failure o x
 note_after plain o d = o
+
+-- ---- what a seat's own events make of it
+
+abbrev pub no_note : Note
+no_note = note_in no_seat
+
+abbrev pub note_by : Bool → List Event → Note
+note_by plain es = fold (λ o e. note_after plain o e.deed) no_note es
 
 -- ---- what others make of it
 

@@ -1,6 +1,6 @@
 -- The opening of a run over the backing device alone: nothing is cached, no bucket is anybody's, and
 -- no record of a cache device is found anywhere.
-use Rattle.std.specs.Prelude.{◌≡◌, ℕ, ◌+◌, ◌/◌, ◌%◌, true, false, [], Option, None, Some, if◌then◌else◌, ◌==◌, refl}
+use Rattle.std.specs.Prelude.{◌≡◌, ℕ, ◌+◌, ◌/◌, ◌%◌, Bool, true, false, [], Option, None, Some, if◌then◌else◌, ◌==◌, refl}
 use Rattle.std.proofs.Common.{arith}
 use Rattle.bc_model.specs.Sector.{Image}
 use Rattle.bc_books.specs.Marks.{Unmarked}
@@ -165,27 +165,34 @@ no_books size = record {
   chain = λ b. false;
 }
 
--- the backing device shows its data, of so many sectors
-abbrev pub plain_data : ℕ → Image → Image → flow.Opening
-plain_data size cache held = record {
+-- The backing device shows its data, of so many sectors. Where the run isn't plain, nothing is said
+-- of what is cached.
+abbrev pub bare_data : Bool → ℕ → Image → Image → flow.Opening
+bare_data plain size cache held = record {
   books = no_books size;
-  plain = true;
+  plain = plain;
   cache = cache;
   backing = held;
   image = held;
 }
 
+abbrev pub plain_data : ℕ → Image → Image → flow.Opening
+plain_data size cache held = bare_data true size cache held
+
 -- The first seat of each sixteen is that of a worker; those behind it help it, and serve no line.
 abbrev pub worker_of : ℕ → ℕ
 worker_of i = if i % 16 == 0 then i / 16 else 320 + i
 
-abbrev pub plain_opening : ℕ → Image → Image → Opening
-plain_opening size cache held = record {
+abbrev pub bare_opening : Bool → ℕ → Image → Image → Opening
+bare_opening plain size cache held = record {
   machine = record {
-    flow = plain_data size cache held;
+    flow = bare_data plain size cache held;
     layout = no_layout;
     before = 0;
     store = no_store cache;
   };
   worker = worker_of;
 }
+
+abbrev pub plain_opening : ℕ → Image → Image → Opening
+plain_opening size cache held = bare_opening true size cache held

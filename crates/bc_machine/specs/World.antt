@@ -1,9 +1,14 @@
 -- What the parts of a run stand for: the core's state, with what it rests on and what a device is
 -- beside it. And which parts an event changes.
-use Rattle.std.specs.Prelude.{◌≡◌, ◌≢◌, ℕ, ◌+◌, ◌-◌, ◌≤◌, Bool, true, false, ◌==◌, ◌&&◌, ◌||◌, nat_lt, List, [], ◌∷◌, Option, Some, None, if◌then◌else◌}
+--
+-- What a cache device means at the opening, its own records say, and a run can't tell from its parts
+-- alone whether they are sound. So the state here says only what the events make: claims, notes,
+-- what devices hold. What the parts in memory stand for is said of each opening of the core that
+-- they stand for as the run begins (`Origin`): where the pair was sound there is one.
+use Rattle.std.specs.Prelude.{◌≡◌, ◌≢◌, ◌⊎◌, ℕ, suc, ◌+◌, ◌-◌, ◌%◌, ◌≤◌, Bool, true, false, ◌==◌, ◌&&◌, ◌||◌, nat_lt, List, [], ◌∷◌, length, Option, Some, None, IfSome, if◌then◌else◌}
 use Rattle.bc_model.specs.Sector.{Image}
 use Rattle.bc_model.specs.Pattern.{zeros}
-use Rattle.bc_disk.specs.Device.{Content, DeviceModel, next_count}
+use Rattle.bc_disk.specs.Device.{Content, DeviceModel, next_count, quiet, written, failed, settled}
 use Rattle.bc_disk.specs.Disk.{DiskFacts, StandsFor}
 use Rattle.bc_disk.specs.declared.disk.Device.{Device}
 use Rattle.bc_disk.specs.declared.disk.Device.TheVariants.{Cache, Backing}
@@ -11,17 +16,33 @@ use Rattle.bc_flight.specs.Flight.{InFlight, claim_of, claim_at}
 use Rattle.bc_flight.specs.declared.claim.Claim.{Claim}
 use Rattle.bc_flight.specs.declared.claim.Share.{Share}
 use Rattle.bc_flight.specs.declared.claim.Share.TheVariants.{Shared, Exclusive}
+use Rattle.bc_books.specs.Books as book
 use Rattle.bc_data.specs.Seats as seats
 use Rattle.bc_data.specs.Data as flow
+use Rattle.bc_leaves.specs.Parts as parts
+use Rattle.bc_known.specs.Laws.{IsSound}
+use Rattle.bc_tree.specs.Spine.{Spine}
+use Rattle.bc_journal.specs.Journal.{Journal}
+use Rattle.bc_cache.specs.Slots.{NodeCache}
 use Rattle.bc_events.specs.Run as core
 use Rattle.bc_events.specs.Run.{Opening, State, seat_count, start}
 use Rattle.bc_events.specs.Columns.{Call, call_by}
+use Rattle.bc_events.specs.declared.event.Change.{Change}
+use Rattle.bc_events.specs.declared.event.NewRoot.{NewRoot}
+use Rattle.bc_events.specs.declared.event.Written.{Written}
+use Rattle.bc_events.specs.declared.event.Written.TheVariants as written
+use Rattle.bc_events.specs.declared.event.Failure.{Failure}
+use Rattle.bc_events.specs.declared.event.Failure.TheVariants as failure
 use Rattle.bc_events.specs.declared.event.UnpinKind.TheVariants as unpin
 use Rattle.bc_events.specs.declared.event.Deed.{Deed}
 use Rattle.bc_events.specs.declared.event.Deed.TheVariants as deed
 use Rattle.bc_events.specs.declared.event.Event.{Event}
-use Rattle.bc_machine.specs.Plain.{plain_opening, no_parts}
+use Rattle.bc_shares.specs.Shares.{books_of, journal_share}
+use Rattle.bc_shares.specs.Touched.{touches_journal, touches_buckets, touches_spine, NamesItsChange}
+use Rattle.bc_machine.specs.Plain.{bare_opening, no_parts}
+use Rattle.bc_machine.specs.Containers.{IsSpineOf, AreBucketsOf, IsJournalOf, AreLeavesOf}
 use Rattle.bc_machine.specs.declared.part.BackingPart.{BackingPart}
+use Rattle.bc_machine.specs.declared.part.BucketsPart.{BucketsPart}
 use Rattle.bc_machine.specs.declared.part.CorePart.{CorePart}
 use Rattle.bc_machine.specs.declared.part.CorePart.TheVariants as part
 
@@ -65,7 +86,27 @@ abbrev pub called : Device → Option Call → Side → Side
 called device None x = x
 called device (Some call) x = if same_device call.device device then counted call.failed x else x
 
+-- what a call leaves of what a cache device held
+abbrev pub held_after_failure : Content → Failure → Content
+held_after_failure c (failure.CacheWrite at what values) = failed at values c
+held_after_failure c x = c
+
+abbrev pub held_after : Content → Deed → Content
+held_after c (deed.CacheWrite at what values) = written at values c
+held_after c deed.CacheBarrier = settled c
+held_after c (deed.DeviceFault x) = held_after_failure c x
+held_after c d = c
+
 -- ---- the state
+
+-- the parts in memory of a run with a cache, of which one over the backing device alone has none
+pub record Begun : Type 0 where
+  pub spine : Option Spine
+  pub buckets : Option BucketsPart
+  pub journal : Option Journal
+  pub leaves : List NodeCache
+  -- how many parts have leaves
+  pub leaf_parts : ℕ
 
 pub record World : Type 0 where
   pub opening : Opening
@@ -75,6 +116,11 @@ pub record World : Type 0 where
   pub ahead : Image
   pub cache : Side
   pub backing : Side
+  -- what the cache device holds, by the calls that were made
+  pub held : Content
+  -- the parts in memory with which the run began, and its events, the last one first
+  pub begun : Begun
+  pub log : List Event
 
 -- both devices tell what they hold
 abbrev pub is_told : World → Bool
@@ -88,16 +134,94 @@ after x e = record {
   ahead = x.ahead;
   cache = called Cache (call_by e.deed) x.cache;
   backing = called Backing (call_by e.deed) x.backing;
+  held = held_after x.held e.deed;
+  begun = x.begun;
+  log = e ∷ x.log;
 }
-
--- The event may happen. Of what a device that tells nothing holds, the core says nothing.
-pub record IsEnabled (x : World) (e : Event) : Type 0 where
-  pub seat : core.IsSeat e.seat
-  pub allowed : is_told x ≡ true → core.IsEnabled x.opening x.now e
 
 -- what seats do with data
 abbrev pub data_of : World → flow.State
 data_of x = x.now.machine.whole.flow
+
+-- the run uses the backing device alone
+abbrev pub is_plain : World → Bool
+is_plain x = x.opening.machine.flow.plain
+
+-- ---- openings of the core
+
+-- An opening of the core: what it stands on, the parts that it gives, and the seq of the next node.
+pub record Origin : Type 0 where
+  pub opening : Opening
+  pub parts : parts.State
+  pub next_seq : ℕ
+
+-- the state that these events leave from there, the last of which comes first
+abbrev pub replay : Origin → List Event → State
+replay o [] = start o.opening o.parts o.next_seq
+replay o (e ∷ es) = core.after o.opening (replay o es) e
+
+-- each of them is enabled behind those before it
+abbrev pub IsCourseOf : Origin → List Event → Type 0
+IsCourseOf o [] = Unit {0}
+IsCourseOf o (e ∷ es) = core.IsEnabled o.opening (replay o es) e × IsCourseOf o es
+
+-- the state of a run as it is from that opening
+abbrev pub seen_from : Origin → World → World
+seen_from o x = record x { opening = o.opening; now = replay o x.log }
+
+-- leaf parts, from the one of this number on, of so many
+abbrev pub AreLeafParts : Opening → parts.State → (count part : ℕ) → List NodeCache → Type 0
+AreLeafParts w st count part [] = Unit {0}
+AreLeafParts w st count part (c ∷ cs) =
+    AreLeavesOf w.machine st count part c × AreLeafParts w st count (suc part) cs
+
+-- the parts in memory stand for the opening's
+pub record HasBegun (b : Begun) (o : Origin) : Type 0 where
+  pub spine : IfSome b.spine (IsSpineOf o.opening.machine o.parts)
+  pub buckets : IfSome b.buckets
+      (AreBucketsOf o.opening.machine (book.opened o.opening.machine.flow.books))
+  pub journal : IfSome b.journal
+      (IsJournalOf (journal_share (start o.opening o.parts o.next_seq).machine))
+  pub leaves : AreLeafParts o.opening o.parts b.leaf_parts 0 b.leaves
+
+-- A sound opening of both devices as they were when the run began, with these parts in memory.
+pub record IsOrigin (x : World) (o : Origin) : Type 0 where
+  pub with_cache : is_plain x ≡ false
+  pub told : is_told x ≡ true
+  pub cached : o.opening.machine.flow.plain ≡ false
+  pub size : o.opening.machine.flow.books.size ≡ x.opening.machine.flow.books.size
+  pub worker : (i : ℕ) → o.opening.worker i ≡ x.opening.worker i
+  pub cache : (s : ℕ) → o.opening.machine.flow.cache s ≡ x.opening.machine.flow.cache s
+  pub backing : (s : ℕ) → o.opening.machine.flow.backing s ≡ x.opening.machine.flow.backing s
+  pub sound : IsSound o.opening.machine o.parts
+  pub begun : HasBegun x.begun o
+
+-- The state of a run is seen as its events alone make it, and as it is from each such opening from
+-- which the run so far is one.
+pub record IsSeenFrom (o : Origin) (x y : World) : Type 0 where
+  pub is : y ≡ seen_from o x
+  pub origin : IsOrigin x o
+  pub course : IsCourseOf o x.log
+
+abbrev pub IsView : World → World → Type 0
+IsView x y = (y ≡ x) ⊎ ((o : Origin) × IsSeenFrom o x y)
+
+abbrev pub InEach : World → (World → Type 0) → Type 0
+InEach x P = (y : World) → IsView x y → P y
+
+-- An event follows in the core; and one that ends a change of the tree names the leaves that leave
+-- and come.
+pub record CanFollow (x : World) (e : Event) : Type 0 where
+  pub enabled : core.IsEnabled x.opening x.now e
+  pub names : NamesItsChange x.now.machine.whole.parts e.deed
+
+-- The event may happen: in a run over the backing device alone as its state is, and else from each
+-- opening of the core from which the run so far is one. Of what a device that tells nothing holds,
+-- the core says nothing.
+pub record IsEnabled (x : World) (e : Event) : Type 0 where
+  pub seat : core.IsSeat e.seat
+  pub allowed : is_told x ≡ true → is_plain x ≡ true → CanFollow x e
+  pub follows : (o : Origin) → IsOrigin x o → IsCourseOf o x.log → CanFollow (seen_from o x) e
 
 -- ---- which parts an event changes
 
@@ -113,10 +237,53 @@ touches_flight (deed.Settle leaf candidate keys) = true
 touches_flight (deed.Unpin (unpin.Dead candidate)) = true
 touches_flight d = false
 
--- 1 is the part with claims and candidates, 4 the cache device, 5 the backing device
-abbrev pub changes : Event → ℕ → Bool
-changes e k = ((k == 1) && touches_flight e.deed) || (((k == 4) && is_call_of Cache (call_by e.deed))
-    || ((k == 5) && is_call_of Backing (call_by e.deed)))
+-- one of these leaves lies in the part of this number, of so many
+abbrev pub lies_in : (count part leaf : ℕ) → Bool
+lies_in count part leaf = leaf % count == part
+
+abbrev pub any_in : (count part : ℕ) → List ℕ → Bool
+any_in count part [] = false
+any_in count part (k ∷ ks) = lies_in count part k || any_in count part ks
+
+abbrev pub change_in : (count part : ℕ) → Change → Bool
+change_in count part c = any_in count part c.gone.items || any_in count part c.come.items
+
+abbrev pub write_in : (count part : ℕ) → Written → Bool
+write_in count part (written.Set leaf) = lies_in count part leaf
+write_in count part (written.Parent inner change) = change_in count part change
+write_in count part (written.Leaf node) = lies_in count part node.slot
+write_in count part what = false
+
+abbrev pub root_in : (count part : ℕ) → Option NewRoot → Bool
+root_in count part None = false
+root_in count part (Some x) = change_in count part x.change
+
+abbrev pub fault_in : (count part : ℕ) → Failure → Bool
+fault_in count part (failure.CacheWrite at what values) = write_in count part what
+fault_in count part x = false
+
+-- the deed touches a leaf of that part
+abbrev pub touches_leaves : (count part : ℕ) → Deed → Bool
+touches_leaves count part (deed.InsertWrite leaf keys of first values) = lies_in count part leaf
+touches_leaves count part (deed.Insert leaf keys form) = lies_in count part leaf
+touches_leaves count part (deed.Settle leaf candidate keys) = lies_in count part leaf
+touches_leaves count part (deed.CacheWrite at what values) = write_in count part what
+touches_leaves count part (deed.Seal last_seq bucket rest new_root chain) =
+    root_in count part new_root
+touches_leaves count part (deed.Install change come gone) = change_in count part change
+touches_leaves count part (deed.DeviceFault x) = fault_in count part x
+touches_leaves count part d = false
+
+-- Of so many parts, 0 is the spine, 1 the claims and candidates, 2 the buckets, 3 the journal, 4 the
+-- cache device and 5 the backing device; then come the leaves.
+abbrev pub changes : ℕ → Event → ℕ → Bool
+changes n e k = if k == 0 then touches_spine e.deed
+    else (if k == 1 then touches_flight e.deed
+    else (if k == 2 then touches_buckets e.deed
+    else (if k == 3 then touches_journal e.deed
+    else (if k == 4 then is_call_of Cache (call_by e.deed)
+    else (if k == 5 then is_call_of Backing (call_by e.deed)
+    else touches_leaves (n - 6) (k - 6) e.deed)))))
 
 -- ---- how a run begins
 
@@ -153,8 +320,8 @@ pub record Data : Type 1 where
   pub offset : ℕ
   pub size : ℕ
 
-abbrev pub opened : DiskFacts → Data → World
-opened cache d = let w = plain_opening d.size (image_of cache.holds)
+abbrev pub opened : Bool → DiskFacts → Data → Begun → World
+opened plain cache d begun = let w = bare_opening plain d.size (image_of cache.holds)
     (λ s. image_of d.device.holds (d.offset + s)) in record {
       opening = w;
       now = start w no_parts 0;
@@ -162,6 +329,9 @@ opened cache d = let w = plain_opening d.size (image_of cache.holds)
       ahead = image_of d.device.holds;
       cache = side_of cache;
       backing = side_of d.device;
+      held = quiet (image_of cache.holds);
+      begun = begun;
+      log = [];
     }
 
 -- ---- parts
@@ -174,32 +344,74 @@ share_of false = Shared
 abbrev pub claim_in : ℕ → seats.Claim → Option Claim
 claim_in n c = if c.count == 0 then None else Some (claim_at n c.first c.count (share_of c.exclusive))
 
-pub record IsFlight (f : InFlight) (x : World) : Type 0 where
+pub record IsFlightOf (f : InFlight) (x : World) : Type 0 where
   pub seats : f.seats ≡ seat_count
   pub claims : (n : ℕ) → claim_of n f.claims ≡ claim_in n ((data_of x).seats n).claim
 
+abbrev pub IsFlight : InFlight → World → Type 0
+IsFlight f x = InEach x (IsFlightOf f)
+
+-- ---- parts in memory
+
+-- A part in memory stands for its share of the core's state, whatever sound opening the run goes on
+-- from.
+abbrev pub FromEach : World → (Origin → State → Type 0) → Type 0
+FromEach x P = (o : Origin) → IsOrigin x o → P o (replay o x.log)
+
+abbrev pub IsSpine : Spine → World → Type 0
+IsSpine sp x = FromEach x (λ o st. IsSpineOf o.opening.machine st.machine.whole.parts sp)
+
+abbrev pub AreBuckets : BucketsPart → World → Type 0
+AreBuckets p x = FromEach x (λ o st. AreBucketsOf o.opening.machine (books_of st.machine) p)
+
+abbrev pub IsJournal : Journal → World → Type 0
+IsJournal j x = FromEach x (λ o st. IsJournalOf (journal_share st.machine) j)
+
+abbrev pub AreLeaves : ℕ → NodeCache → World → Type 0
+AreLeaves part c x = FromEach x
+    (λ o st. AreLeavesOf o.opening.machine st.machine.whole.parts x.begun.leaf_parts part c)
+
 module _ {C B : Type 0} (cache_facts : C → DiskFacts) (backing_facts : B → DiskFacts) where
   pub record IsCache (c : C) (x : World) : Type 0 where
-    pub stands : StandsFor (cache_facts c) (model x.cache (data_of x).cache)
+    pub stands : StandsFor (cache_facts c) (model x.cache x.held)
 
   -- the backing device, of whose sectors the data are a part
-  pub record IsBacking (b : BackingPart B) (x : World) : Type 0 where
+  pub record IsBackingOf (b : BackingPart B) (x : World) : Type 0 where
     pub stands : StandsFor (backing_facts b.disk)
         (model x.backing (behind x.offset x.ahead (data_of x).backing))
     pub offset : b.offset ≡ x.offset
     pub size : b.size ≡ x.opening.machine.flow.books.size
     pub inside : b.offset + b.size ≤ x.backing.sectors
 
+  abbrev pub IsBacking : BackingPart B → World → Type 0
+  IsBacking b x = InEach x (IsBackingOf b)
+
+  -- a run over the backing device alone has claims and that device
+  pub record IsAbsent (k : ℕ) (x : World) : Type 0 where
+    pub not_flight : k ≢ 1
+    pub not_backing : k ≢ 5
+    pub plain : is_plain x ≡ true
+
   abbrev pub IsPart : ℕ → CorePart C B → World → Type 0
-  IsPart k part.Absent x = (k ≢ 1) × (k ≢ 5) × (k ≡ 4 → x.opening.machine.flow.plain ≡ true)
+  IsPart k part.Absent x = IsAbsent k x
+  IsPart k (part.Spine sp) x = (k ≡ 0) × IsSpine sp x
   IsPart k (part.Flight f) x = (k ≡ 1) × IsFlight f x
+  IsPart k (part.Buckets p) x = (k ≡ 2) × AreBuckets p x
+  IsPart k (part.Journal j) x = (k ≡ 3) × IsJournal j x
   IsPart k (part.Cache c) x = (k ≡ 4) × IsCache c x
   IsPart k (part.Backing b) x = (k ≡ 5) × IsBacking b x
+  IsPart k (part.Leaves c) x = (6 ≤ k) × AreLeaves (k - 6) c x
 
   abbrev pub cache_among : List (CorePart C B) → DiskFacts
   cache_among [] = no_device
   cache_among (part.Cache c ∷ ps) = cache_facts c
   cache_among (p ∷ ps) = cache_among ps
+
+  -- there is no cache device among them
+  abbrev pub are_plain : List (CorePart C B) → Bool
+  are_plain [] = true
+  are_plain (part.Cache c ∷ ps) = false
+  are_plain (p ∷ ps) = are_plain ps
 
   abbrev pub data_among : List (CorePart C B) → Data
   data_among [] = record { device = no_device; offset = 0; size = 0 }
@@ -207,5 +419,34 @@ module _ {C B : Type 0} (cache_facts : C → DiskFacts) (backing_facts : B → D
       record { device = backing_facts b.disk; offset = b.offset; size = b.size }
   data_among (p ∷ ps) = data_among ps
 
+  abbrev pub spine_among : List (CorePart C B) → Option Spine
+  spine_among [] = None
+  spine_among (part.Spine sp ∷ ps) = Some sp
+  spine_among (p ∷ ps) = spine_among ps
+
+  abbrev pub buckets_among : List (CorePart C B) → Option BucketsPart
+  buckets_among [] = None
+  buckets_among (part.Buckets b ∷ ps) = Some b
+  buckets_among (p ∷ ps) = buckets_among ps
+
+  abbrev pub journal_among : List (CorePart C B) → Option Journal
+  journal_among [] = None
+  journal_among (part.Journal j ∷ ps) = Some j
+  journal_among (p ∷ ps) = journal_among ps
+
+  abbrev pub leaves_among : List (CorePart C B) → List NodeCache
+  leaves_among [] = []
+  leaves_among (part.Leaves c ∷ ps) = c ∷ leaves_among ps
+  leaves_among (p ∷ ps) = leaves_among ps
+
+  abbrev pub begun_with : List (CorePart C B) → Begun
+  begun_with ps = record {
+    spine = spine_among ps;
+    buckets = buckets_among ps;
+    journal = journal_among ps;
+    leaves = leaves_among ps;
+    leaf_parts = length ps - 6;
+  }
+
   abbrev pub opening : List (CorePart C B) → World
-  opening ps = opened (cache_among ps) (data_among ps)
+  opening ps = opened (are_plain ps) (cache_among ps) (data_among ps) (begun_with ps)

@@ -2,7 +2,8 @@
 ghost use Rattle.std.specs.Prelude.{◌≡◌, ◌+◌, ℕ};
 ghost use Rattle.bc_events.specs.Columns.{verdict_of, halt_of};
 ghost use Rattle.bc_machine.specs.World.{World, opening, after, IsEnabled, changes, IsPart};
-ghost use Rattle.bc_machine.specs.Frame.{frames, stays_halted, names_halt};
+ghost use Rattle.bc_machine.specs.Frame.{stays_halted, names_halt};
+ghost use Rattle.bc_machine.specs.Standing.{frames};
 
 use crate::part::CorePart;
 use bc_book::book::Book;
@@ -52,7 +53,8 @@ impl<C: Disk, B: Disk> Machine for Core<C, B> {
 
     ghost stop = { halt_of };
 
-    ghost frame = { λ k p x e able same is. frames C.facts B.facts k p x e same is };
+    ghost frame = { λ start es k p e run may same is.
+        frames C.facts B.facts start es k p e run may same is };
 
     ghost stays = { λ es e d is. stays_halted es e d is };
 

@@ -1,16 +1,38 @@
 //! The parts in which the running state is held.
 ghost use Rattle.std.specs.Prelude.{◌+◌, ◌<◌, ◌^◌};
+ghost use Rattle.bc_alloc.specs.Buckets.{AreFor};
+ghost use Rattle.bc_alloc.specs.Reserves.{IsInOrder};
+ghost use Rattle.bc_fill.specs.Fill.{AreOpen};
 
+use bc_alloc::Reserves;
+use bc_bucket::Buckets;
+use bc_cache::NodeCache;
+use bc_fill::Fill;
 use bc_flight::flight::Flight;
+use bc_journal::Journal;
+use bc_tree::Spine;
+
+/// The number of the part with the inner nodes and the ranges of leaves.
+pub const SPINE: u32 = 0;
 
 /// The number of the part with claims and candidates.
 pub const FLIGHT: u32 = 1;
+
+/// The number of the part with the buckets.
+pub const BUCKETS: u32 = 2;
+
+/// The number of the part with the journal.
+pub const JOURNAL: u32 = 3;
 
 /// The number of the part with the cache device.
 pub const CACHE: u32 = 4;
 
 /// The number of the part with the backing device.
 pub const BACKING: u32 = 5;
+
+/// The number of the first part with leaves. Of n such parts, the leaf of number i lies in the part
+/// i modulo n behind it.
+pub const LEAVES: u32 = 6;
 
 /// The backing device, with its data: `size` sectors from the sector `offset` on.
 #[derive(Drop)]
@@ -21,12 +43,29 @@ pub struct BackingPart<B> {
     pub ghost fits: { offset + size < 2 ^ 64 },
 }
 
+/// What is known of each bucket, the buckets that are ready to be taken, and those that are open for
+/// data.
+#[derive(Drop)]
+pub struct BucketsPart {
+    pub buckets: Buckets,
+    pub reserves: Reserves,
+    pub fill: Fill,
+    pub ghost order: { IsInOrder reserves },
+    pub ghost fit: { AreFor reserves buckets },
+    pub ghost open: { ∥ AreOpen fill reserves buckets ∥₁ },
+    pub ghost sized: { 0 < buckets.size },
+}
+
 /// One part of the running state. A run has them in the order of their numbers.
 #[derive(Drop)]
 pub enum CorePart<C, B> {
-    /// A part that the run hasn't: one over the backing device alone has no cache device.
+    /// A part that the run hasn't: one over the backing device alone has no cache.
     Absent,
+    Spine(Spine),
     Flight(Flight),
+    Buckets(BucketsPart),
+    Journal(Journal),
     Cache(C),
     Backing(BackingPart<B>),
+    Leaves(NodeCache),
 }

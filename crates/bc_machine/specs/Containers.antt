@@ -1,0 +1,131 @@
+-- What the parts of a running cache that are in memory stand for, in the core's state.
+use Rattle.std.specs.Prelude.{◌≡◌, ℕ, suc, ◌+◌, ◌%◌, ◌<◌, ◌≤◌, List, [], ◌∷◌, ◌++◌, length, reverse, Contains, Option, Some, None, slice_get}
+use Rattle.bc_key.specs.Words.{ptr_word}
+use Rattle.bc_key.specs.declared.ptr.Ptr.{Ptr}
+use Rattle.bc_meta.specs.Entries.{Entry}
+use Rattle.bc_meta.specs.Tree.{set_keys}
+use Rattle.bc_leaves.specs.Keys.{last_said, ref_said}
+use Rattle.bc_leaves.specs.Parts.{Role, NoNode, Draft, Free, Leaving, Coming, Pending, AllFrom, AllUpTo, keys_of}
+use Rattle.bc_leaves.specs.Parts as parts
+use Rattle.bc_books.specs.Books.{Books}
+use Rattle.bc_books.specs.Marks as books
+use Rattle.bc_whole.specs.State.{Opening}
+use Rattle.bc_inner.specs.Inner.{Inner}
+use Rattle.bc_spine.specs.Numbers.{HasNumber}
+use Rattle.bc_spine.specs.declared.leaf.LeafRange.{LeafRange}
+use Rattle.bc_tree.specs.Spine.{Spine}
+use Rattle.bc_node.specs.declared.pending.Entries.{Entries}
+use Rattle.bc_node.specs.Leaf.{Leaf}
+use Rattle.bc_cache.specs.declared.slots.Cached.{Cached}
+use Rattle.bc_cache.specs.Slots.{NodeCache, Misses}
+use Rattle.bc_bucket.specs.Buckets.{bucket_of}
+use Rattle.bc_bucket.specs.declared.bucket.Bucket.{Bucket}
+use Rattle.bc_bucket.specs.declared.bucket.Mark.{Mark}
+use Rattle.bc_bucket.specs.declared.bucket.Mark.TheVariants as marks
+use Rattle.bc_journal.specs.declared.place.Numbers.{Numbers}
+use Rattle.bc_journal.specs.Journal.{Journal}
+use Rattle.bc_places.specs.Stands.{StandFor}
+use Rattle.bc_shares.specs.Shares.{Shape, shape_of, JournalShare, BucketsShare, buckets_in, LeafShare, leaf_share}
+use Rattle.bc_machine.specs.declared.part.BucketsPart.{BucketsPart}
+
+-- ---- the spine
+
+-- of a node that the tree has until its change is over
+abbrev pub IsInTree : Role → Type 0
+IsInTree NoNode = ⊥
+IsInTree Draft = ⊥
+IsInTree Free = Unit {0}
+IsInTree Leaving = Unit {0}
+IsInTree Coming = ⊥
+
+-- a slot has a leaf of these sectors, to which this pointer points
+pub record IsTreeLeaf (w : Opening) (from end : ℕ) (ptr : Ptr) (x : Shape) : Type 0 where
+  pub role : IsInTree x.role
+  pub first : x.first ≡ from
+  pub end_is : x.end ≡ end
+  pub bucket : x.bucket ≡ w.flow.books.bucket ptr.offset
+  pub word : x.word ≡ ptr_word ptr
+
+pub record IsTreeInner (w : Opening) (n : Inner) (x : parts.InnerNode) : Type 0 where
+  pub role : IsInTree x.role
+  pub first : x.first ≡ n.from
+  pub end : x.end ≡ n.end
+  pub bucket : x.bucket ≡ w.flow.books.bucket n.ptr.offset
+  pub word : x.word ≡ ptr_word n.ptr
+  pub level : suc x.height ≡ n.level
+
+-- Each leaf of the tree is in the slot of its number, and each inner node in some slot; and no
+-- other slot has a node of the tree.
+pub record IsSpineOf (w : Opening) (st : parts.State) (sp : Spine) : Type 0 where
+  pub leaves : (l : LeafRange) → Contains sp.leaves l
+      → IsTreeLeaf w l.from l.end l.ptr (shape_of (st.leaves l.number))
+  pub all_leaves : (k : ℕ) → IsInTree (st.leaves k).role → HasNumber sp.leaves k
+  pub nodes : (n : Inner) → Contains (sp.root ∷ sp.below) n
+      → (x : ℕ) × IsTreeInner w n (st.inner_nodes x)
+  pub all_nodes : (x : ℕ) → IsInTree (st.inner_nodes x).role
+      → (n : Inner) × Contains (sp.root ∷ sp.below) n × IsTreeInner w n (st.inner_nodes x)
+  pub end : st.end ≡ sp.root.end
+
+-- ---- leaves
+
+-- the entries that hold what is pending
+abbrev pub AreEntriesOf : Option Entries → List Pending → Type 0
+AreEntriesOf None xs = xs ≡ []
+AreEntriesOf (Some e) xs = AllFrom e.first xs × AllUpTo e.last xs
+
+-- A leaf in memory is the one in a slot: its keys say what the node's sets say, and what is pending
+-- over them.
+pub record IsLeafFor (w : Opening) (x : LeafShare) (leaf : Leaf) : Type 0 where
+  pub at : IsTreeLeaf w leaf.from leaf.end leaf.ptr (shape_of x.leaf)
+  pub loaded : leaf.loaded ≡ x.leaf.loaded
+  pub keys : (s : ℕ) → leaf.from ≤ s → s < leaf.end → ref_said (last_said leaf.keys s)
+      ≡ ref_said (last_said (keys_of x.leaf.pending ++ set_keys x.node.sets) s)
+  pub pending : (s : ℕ) → last_said leaf.pending s ≡ last_said (keys_of x.leaf.pending) s
+  pub entries : AreEntriesOf leaf.entries x.leaf.pending
+
+-- Of so many parts, the one of this number has the leaves whose numbers leave it as a rest. A leaf
+-- of its that is in no slot of the cache has nothing pending.
+pub record AreLeavesOf (w : Opening) (st : parts.State) (count part : ℕ) (cache : NodeCache) :
+    Type 0 where
+  pub rest : (i : ℕ) (c : Cached) → slice_get cache.slots i ≡ Some (Some c) → c.number % count ≡ part
+  pub leaves : (i : ℕ) (c : Cached) → slice_get cache.slots i ≡ Some (Some c)
+      → IsLeafFor w (leaf_share st c.number) c.leaf
+  pub others : (k : ℕ) → k % count ≡ part → IsInTree (st.leaves k).role → Misses cache.slots k
+      → (st.leaves k).pending ≡ []
+
+-- ---- the journal
+
+abbrev pub numbers_in : Entry → Numbers
+numbers_in e = record { seq = e.number; last_seq = e.last_seq }
+
+abbrev pub sealed_numbers : Option Entry → Option Numbers
+sealed_numbers None = None
+sealed_numbers (Some e) = Some (numbers_in e)
+
+-- The keys that wait, oldest first, and the numbers of the durable and of the sealed entry.
+pub record IsJournalOf (x : JournalShare) (j : Journal) : Type 0 where
+  pub waiting : j.waiting ≡ reverse x.entries.waiting
+  pub durable : j.durable ≡ numbers_in x.entries.newest
+  pub sealed : j.sealed ≡ sealed_numbers x.entries.sealed
+
+-- ---- buckets
+
+abbrev pub mark_of : Mark → books.Mark
+mark_of marks.None = books.Unmarked
+mark_of marks.Reclaimable = books.Reclaimable
+mark_of marks.Dirty = books.Dirtied
+mark_of marks.Metadata = books.Metadata
+
+-- A bucket's generation is its version, of which the device has a byte; it was used anew as often as
+-- that has risen since the opening.
+pub record IsBucketFor (opened : ℕ) (q : ℕ) (x : BucketsShare) (b : Bucket) : Type 0 where
+  pub generation : b.generation ≡ x.version q % 256
+  pub uses : x.version q ≡ opened + b.uses
+  pub last_gc : b.last_gc ≡ x.last_gc q % 256
+  pub mark : mark_of b.mark ≡ x.mark q
+
+-- the records of all buckets, the lists, and the places in open buckets
+pub record AreBucketsOf (w : Opening) (k : Books) (p : BucketsPart) : Type 0 where
+  pub records : (q : ℕ) → w.before + q < length p.buckets.records
+      → IsBucketFor (w.flow.books.version q) q (buckets_in k) (bucket_of p.buckets (w.before + q))
+  pub places : StandFor w.before p.buckets.size p.fill p.reserves k

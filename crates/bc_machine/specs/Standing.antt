@@ -1,0 +1,430 @@
+-- A part goes on to stand for its share of the state whatever events happen that don't change it.
+use Rattle.std.specs.Prelude.{◌≡◌, ◌≢◌, ℕ, ◌+◌, ◌-◌, ◌%◌, ◌<◌, ◌≤◌, Bool, true, false, ◌==◌, ◌&&◌, ◌||◌, List, [], ◌∷◌, ◌++◌, length, fold, Option, Some, None, if◌then◌else◌, refl}
+use Rattle.std.proofs.Common.{inl, inr, sym, ap, ◌∙◌, subst, arith}
+use Rattle.bc_disk.specs.Device.{Content}
+use Rattle.bc_disk.specs.Disk.{DiskFacts, StandsFor}
+use Rattle.bc_disk.specs.declared.disk.Device.{Device}
+use Rattle.bc_disk.specs.declared.disk.Device.TheVariants.{Cache, Backing}
+use Rattle.bc_flight.specs.Flight.{InFlight, claim_at}
+use Rattle.bc_data.specs.Seats.{Claim}
+use Rattle.bc_leaves.specs.Parts.{Role, NoNode, Draft, Free, Leaving, Coming}
+use Rattle.bc_leaves.specs.Parts as parts
+use Rattle.bc_leaves.specs.After.{has}
+use Rattle.bc_whole.specs.State as whole
+use Rattle.bc_known.specs.Acts as known
+use Rattle.bc_parts.specs.Course.{IsCourse}
+use Rattle.bc_tree.specs.Spine.{Spine}
+use Rattle.bc_journal.specs.Journal.{Journal}
+use Rattle.bc_bucket.specs.Buckets.{bucket_of}
+use Rattle.bc_cache.specs.Slots.{NodeCache}
+use Rattle.bc_events.specs.Run as core
+use Rattle.bc_events.specs.Columns.{Call, call_by, device_of_failure}
+use Rattle.bc_events.specs.declared.event.Change.{Change}
+use Rattle.bc_events.specs.declared.event.NewRoot.{NewRoot}
+use Rattle.bc_events.specs.declared.event.Written.{Written}
+use Rattle.bc_events.specs.declared.event.Written.TheVariants as written
+use Rattle.bc_events.specs.declared.event.Failure.{Failure}
+use Rattle.bc_events.specs.declared.event.Failure.TheVariants as failure
+use Rattle.bc_events.specs.declared.event.Deed.{Deed}
+use Rattle.bc_events.specs.declared.event.Deed.TheVariants as deed
+use Rattle.bc_events.specs.declared.event.Event.{Event}
+use Rattle.bc_shares.specs.Shares.{Shape, JournalShare, journal_share, BucketsShare, books_of, LeafShare, leaf_share, SameSpine}
+use Rattle.bc_shares.specs.Touched.{touches_journal, touches_buckets, among_leaves, write_touches_leaf, root_touches_leaf, fault_touches_leaf, touches_leaf, NamesItsChange, touches_spine}
+use Rattle.bc_shares.specs.Laws.{Happens}
+use Rattle.bc_shares.proofs.Law.{law_journal, law_buckets, law_spine, law_slot, law_leaf}
+use Rattle.bc_places.proofs.Others.{law_kept}
+use Rattle.bc_machine.specs.declared.part.BackingPart.{BackingPart}
+use Rattle.bc_machine.specs.declared.part.BucketsPart.{BucketsPart}
+use Rattle.bc_machine.specs.declared.part.CorePart.{CorePart}
+use Rattle.bc_machine.specs.declared.part.CorePart.TheVariants as part
+use Rattle.bc_machine.specs.Containers.{IsInTree, IsTreeLeaf, IsTreeInner, IsSpineOf, IsLeafFor, AreLeavesOf, IsJournalOf, IsBucketFor, AreBucketsOf}
+use Rattle.bc_machine.specs.World.{Side, model, behind, same_device, called, counted, held_after, held_after_failure, Begun, World, is_told, after, data_of, Origin, replay, IsCourseOf, IsOrigin, CanFollow, IsEnabled, is_call_of, touches_flight, lies_in, any_in, change_in, write_in, root_in, fault_in, touches_leaves, changes, claim_in, share_of, seen_from, IsView, InEach, IsFlightOf, FromEach, IsSpine, AreBuckets, IsJournal, AreLeaves, IsCache, IsBackingOf, IsPart, opening}
+use Rattle.bc_machine.specs.Frame.{Range, range_of, by_test, Claims, OnBacking, stays_event}
+
+-- ---- claims and devices
+
+not_or : (a b : Bool) → (a || b) ≡ false → (a ≡ false) × (b ≡ false)
+not_or false b is = (refl, is)
+not_or true b is = absurd (cc)
+
+true_and : (b : Bool) → (true && b) ≡ false → b ≡ false
+true_and b is = is
+
+by_claims : (n : ℕ) (a b : Claim) → range_of a ≡ range_of b → claim_in n a ≡ claim_in n b
+by_claims n a b is = ap (λ (r : Range). if r.count == 0 then None
+    else Some (claim_at n r.first r.count (share_of r.exclusive))) is
+
+flight_stays : (f : InFlight) (x : World) (e : Event) → touches_flight e.deed ≡ false
+    → IsFlightOf f x → IsFlightOf f (after x e)
+flight_stays f x e off h = record {
+  seats = h.seats;
+  claims = λ n. h.claims n ∙ by_claims n ((data_of x).seats n).claim ((data_of (after x e)).seats n).claim
+      (sym (stays_event Claims x e off n));
+}
+
+called_none : (device : Device) (o : Option Call) (x : Side) → is_call_of device o ≡ false
+    → called device o x ≡ x
+called_none device None x off = refl
+called_none device (Some call) x off = ap (λ b. if b then counted call.failed x else x) off
+
+-- a deed that is no call of the cache device leaves what that holds
+failure_stays : (c : Content) (x : Failure) → same_device (device_of_failure x) Cache ≡ false
+    → held_after_failure c x ≡ c
+failure_stays c (failure.CacheWrite at what values) off = absurd (cc)
+failure_stays c x off = refl
+
+held_stays : (c : Content) (d : Deed) → is_call_of Cache (call_by d) ≡ false → held_after c d ≡ c
+held_stays c (deed.CacheWrite at what values) off = absurd (cc)
+held_stays c deed.CacheBarrier off = absurd (cc)
+held_stays c (deed.DeviceFault x) off = failure_stays c x off
+held_stays c d off = refl
+
+-- ---- an opening of the core, and the run from it
+
+called_told : (device : Device) (o : Option Call) (x : Side) → (called device o x).told ≡ x.told
+called_told device None x = refl
+called_told device (Some call) x = go (same_device call.device device)
+  where
+    go : (b : Bool) → (if b then counted call.failed x else x).told ≡ x.told
+    go true = refl
+    go false = refl
+
+pub told_event : (x : World) (e : Event) → is_told (after x e) ≡ is_told x
+told_event x e = ap (λ b. b && (after x e).backing.told) (called_told Cache (call_by e.deed) x.cache)
+    ∙ ap (λ b. x.cache.told && b) (called_told Backing (call_by e.deed) x.backing)
+
+-- an event makes no other opening one that the run goes on from
+pub origin_before : (x : World) (e : Event) (o : Origin) → IsOrigin (after x e) o → IsOrigin x o
+origin_before x e o h = record {
+  with_cache = h.with_cache;
+  told = sym (told_event x e) ∙ h.told;
+  cached = h.cached;
+  size = h.size;
+  worker = h.worker;
+  cache = h.cache;
+  backing = h.backing;
+  sound = h.sound;
+  begun = h.begun;
+}
+
+-- each view behind an event is that of one before it
+pub view_before : (x : World) (e : Event) (y : World) → IsView (after x e) y
+    → (z : World) × IsView x z × (y ≡ after z e)
+view_before x e y (inl is) = (x, inl refl, is)
+view_before x e y (inr (o, seen)) = (
+  seen_from o x,
+  inr (
+    o,
+    record {
+      is = refl;
+      origin = origin_before x e o seen.origin;
+      course = seen.course.1;
+    },
+  ),
+  seen.is,
+)
+
+-- what an event makes of each view
+pub leads_each : (x : World) (e : Event) (P Q : World → Type 0)
+    → ((y : World) → IsView x y → P y → Q (after y e)) → InEach x P → InEach (after x e) Q
+leads_each x e P Q leads h = λ y view. let one = view_before x e y view in
+    subst Q (sym one.2) (leads one.0 one.1 (h one.0 one.1))
+
+-- what it keeps in each
+pub in_each : (x : World) (e : Event) (P : World → Type 0)
+    → ((y : World) → IsView x y → P y → P (after y e)) → InEach x P → InEach (after x e) P
+in_each x e P keeps h = leads_each x e P P keeps h
+
+-- from each of them the run so far is a run of the core
+abbrev pub HasCourses : World → Type 0
+HasCourses x = (o : Origin) → IsOrigin x o → IsCourseOf o x.log
+
+course_event : (x : World) (e : Event) → IsEnabled x e → HasCourses x → HasCourses (after x e)
+course_event x e on h = λ o is. let before = origin_before x e o is in
+    ((on.follows o before (h o before)).enabled, h o before)
+
+pub courses : (x : World) (es : List Event) → HasCourses x → IsCourse IsEnabled after x es
+    → HasCourses (fold after x es)
+courses x [] h run = h
+courses x (e ∷ es) h run = courses (after x e) es (course_event x e run.0 h) run.1
+
+pub begun_stays : (x : World) (es : List Event) → (fold after x es).begun ≡ x.begun
+begun_stays x [] = refl
+begun_stays x (e ∷ es) = begun_stays (after x e) es
+
+-- ---- the run, its first event first
+
+abbrev pub oldest_first : List Event → List Event
+oldest_first [] = []
+oldest_first (e ∷ es) = oldest_first es ++ (e ∷ [])
+
+run_behind : (w : core.Opening) (st : core.State) (es fs : List Event)
+    → core.run w st (es ++ fs) ≡ core.run w (core.run w st es) fs
+run_behind w st [] fs = refl
+run_behind w st (e ∷ es) fs = run_behind w (core.after w st e) es fs
+
+runs_behind : (w : core.Opening) (st : core.State) (es fs : List Event) → core.IsRun w st es
+    → core.IsRun w (core.run w st es) fs → core.IsRun w st (es ++ fs)
+runs_behind w st [] fs a b = b
+runs_behind w st (e ∷ es) fs a b = (a.0, runs_behind w (core.after w st e) es fs a.1 b)
+
+pub replay_is : (o : Origin) (es : List Event) → replay o es
+    ≡ core.run o.opening (core.start o.opening o.parts o.next_seq) (oldest_first es)
+replay_is o [] = refl
+replay_is o (e ∷ es) = ap (λ st. core.after o.opening st e) (replay_is o es)
+    ∙ sym (run_behind o.opening (core.start o.opening o.parts o.next_seq) (oldest_first es) (e ∷ []))
+
+pub replay_runs : (o : Origin) (es : List Event) → IsCourseOf o es
+    → core.IsRun o.opening (core.start o.opening o.parts o.next_seq) (oldest_first es)
+replay_runs o [] on = tt
+replay_runs o (e ∷ es) on = runs_behind o.opening (core.start o.opening o.parts o.next_seq)
+    (oldest_first es) (e ∷ []) (replay_runs o es on.1)
+    (subst (λ st. core.IsEnabled o.opening st e) (replay_is o es) on.0, tt)
+
+happens : (x : World) (o : Origin) (e : Event) → IsOrigin x o → IsCourseOf o x.log
+    → core.IsEnabled o.opening (replay o x.log) e
+    → Happens o.opening o.parts o.next_seq (oldest_first x.log) e
+happens x o e is course on = record {
+  sound = is.sound;
+  course = replay_runs o x.log course;
+  enabled = subst (λ st. core.IsEnabled o.opening st e) (replay_is o x.log) on;
+}
+
+-- ---- parts in memory
+
+-- what holds of the parts in memory, from each opening, holds behind an event that keeps it there
+from_each : (x : World) (e : Event) (P : Origin → core.State → Type 0) → IsEnabled x e → HasCourses x
+    → ((o : Origin) → IsOrigin x o → IsCourseOf o x.log → CanFollow (seen_from o x) e
+    → P o (replay o x.log) → P o (core.after o.opening (replay o x.log) e))
+    → FromEach x P → FromEach (after x e) P
+from_each x e P on courses keeps h = λ o is. let before = origin_before x e o is in
+    keeps o before (courses o before) (on.follows o before (courses o before)) (h o before)
+
+same_spine : (w : whole.Opening) (a b : known.State) (sp : Spine) → SameSpine a b
+    → IsSpineOf w a.whole.parts sp → IsSpineOf w b.whole.parts sp
+same_spine w a b sp same h = record {
+  leaves = λ l in'. subst (IsTreeLeaf w l.from l.end l.ptr) (sym (same.leaves l.number)) (h.leaves l in');
+  all_leaves = λ k live. h.all_leaves k (subst IsInTree (ap (λ (x : Shape). x.role) (same.leaves k)) live);
+  nodes = λ n in'. let one = h.nodes n in' in
+      (one.0, subst (λ (f : ℕ → parts.InnerNode). IsTreeInner w n (f one.0)) (sym same.slots) one.1);
+  all_nodes = λ x live. let one = h.all_nodes x (subst (λ (f : ℕ → parts.InnerNode). IsInTree (f x).role) same.slots live) in
+      (one.0, one.1, subst (λ (f : ℕ → parts.InnerNode). IsTreeInner w one.0 (f x)) (sym same.slots) one.2);
+  end = same.end ∙ h.end;
+}
+
+spine_stays : (sp : Spine) (x : World) (e : Event) → IsEnabled x e → HasCourses x
+    → touches_spine e.deed ≡ false → IsSpine sp x → IsSpine sp (after x e)
+spine_stays sp x e on courses off = from_each x e
+    (λ o st. IsSpineOf o.opening.machine st.machine.whole.parts sp) on courses
+    (λ o is course follows h. same_spine o.opening.machine (replay o x.log).machine
+    (core.after o.opening (replay o x.log) e).machine sp
+    (subst (λ (st : core.State). SameSpine st.machine (core.after o.opening st e).machine)
+    (sym (replay_is o x.log))
+    (law_spine o.opening o.parts o.next_seq (oldest_first x.log) e
+    (happens x o e is course follows.enabled) off)) h)
+
+journal_stays : (j : Journal) (x : World) (e : Event) → IsEnabled x e → HasCourses x
+    → touches_journal e.deed ≡ false → IsJournal j x → IsJournal j (after x e)
+journal_stays j x e on courses off = from_each x e
+    (λ o st. IsJournalOf (journal_share st.machine) j) on courses
+    (λ o is course follows h. subst (λ (s : JournalShare). IsJournalOf s j)
+    (sym (law_journal o.opening (replay o x.log) e follows.enabled off)) h)
+
+buckets_stay : (p : BucketsPart) (x : World) (e : Event) → IsEnabled x e → HasCourses x
+    → touches_buckets e.deed ≡ false → AreBuckets p x → AreBuckets p (after x e)
+buckets_stay p x e on courses off = from_each x e
+    (λ o st. AreBucketsOf o.opening.machine (books_of st.machine) p) on courses
+    (λ o is course follows h. record {
+      records = λ q low. subst (λ (s : BucketsShare). IsBucketFor
+          (o.opening.machine.flow.books.version q) q s (bucket_of p.buckets (o.opening.machine.before + q)))
+          (sym (law_buckets o.opening (replay o x.log) e follows.enabled off).share) (h.records q low);
+      places = law_kept o.opening (replay o x.log) e p.buckets.size p.fill p.reserves
+          follows.enabled off h.places;
+    })
+
+-- ---- leaves
+
+-- a deed that touches no leaf of a part touches none of its leaves
+lies_off : (count part k leaf : ℕ) → k % count ≡ part → lies_in count part leaf ≡ false
+    → (k == leaf) ≡ false
+lies_off count part k leaf is off = by_test k leaf (λ b. b ≡ false)
+    (λ same. absurd (by_test (leaf % count) part (λ b. b ≡ false → ⊥) (λ _ f. cc)
+    (λ ne _. ne (ap (λ n. n % count) (sym same) ∙ is)) off))
+    (λ ne. refl)
+
+any_off : (count part k : ℕ) (xs : List ℕ) → k % count ≡ part → any_in count part xs ≡ false
+    → has xs k ≡ false
+any_off count part k [] is off = refl
+any_off count part k (y ∷ ys) is off = let both = not_or (lies_in count part y) (any_in count part ys) off in
+    ap (λ b. if b then true else has ys k) (lies_off count part k y is both.0)
+    ∙ any_off count part k ys is both.1
+
+change_off : (count part k : ℕ) (c : Change) → k % count ≡ part → change_in count part c ≡ false
+    → among_leaves k c ≡ false
+change_off count part k c is off =
+    let both = not_or (any_in count part c.gone.items) (any_in count part c.come.items) off in
+    ap (λ b. b || has c.come.items k) (any_off count part k c.gone.items is both.0)
+    ∙ any_off count part k c.come.items is both.1
+
+write_leaf_off : (count part k : ℕ) (what : Written) → k % count ≡ part
+    → write_in count part what ≡ false → write_touches_leaf k what ≡ false
+write_leaf_off count part k (written.Set leaf) is off = lies_off count part k leaf is off
+write_leaf_off count part k (written.Parent inner change) is off = change_off count part k change is off
+write_leaf_off count part k (written.Leaf node) is off = lies_off count part k node.slot is off
+write_leaf_off count part k what is off = refl
+
+fault_leaf_off : (count part k : ℕ) (x : Failure) → k % count ≡ part → fault_in count part x ≡ false
+    → fault_touches_leaf k x ≡ false
+fault_leaf_off count part k (failure.CacheWrite at what values) is off = write_leaf_off count part k what is off
+fault_leaf_off count part k x is off = refl
+
+root_off : (count part k : ℕ) (o : Option NewRoot) → k % count ≡ part → root_in count part o ≡ false
+    → root_touches_leaf k o ≡ false
+root_off count part k None is off = refl
+root_off count part k (Some x) is off = change_off count part k x.change is off
+
+leaf_off : (count part k : ℕ) (d : Deed) → k % count ≡ part → touches_leaves count part d ≡ false
+    → touches_leaf k d ≡ false
+leaf_off count part k (deed.InsertWrite leaf keys of first values) is off = lies_off count part k leaf is off
+leaf_off count part k (deed.Insert leaf keys form) is off = lies_off count part k leaf is off
+leaf_off count part k (deed.Settle leaf candidate keys) is off = lies_off count part k leaf is off
+leaf_off count part k (deed.CacheWrite at what values) is off = write_leaf_off count part k what is off
+leaf_off count part k (deed.Seal last_seq bucket rest new_root chain) is off = root_off count part k new_root is off
+leaf_off count part k (deed.Install change come gone) is off = change_off count part k change is off
+leaf_off count part k (deed.DeviceFault x) is off = fault_leaf_off count part k x is off
+leaf_off count part k d is off = refl
+
+in_tree_some : (r : Role) → IsInTree r → r ≢ NoNode
+in_tree_some NoNode live none = live
+in_tree_some Draft live none = live
+in_tree_some Free live none = cc
+in_tree_some Leaving live none = cc
+in_tree_some Coming live none = live
+
+leaf_same : (x : World) (o : Origin) (e : Event) (k : ℕ) → IsOrigin x o → IsCourseOf o x.log
+    → CanFollow (seen_from o x) e → touches_leaf k e.deed ≡ false
+    → ((replay o x.log).machine.whole.parts.leaves k).role ≢ NoNode
+    → leaf_share (core.after o.opening (replay o x.log) e).machine.whole.parts k
+    ≡ leaf_share (replay o x.log).machine.whole.parts k
+leaf_same x o e k is course follows off some = subst (λ (st : core.State). NamesItsChange st.machine.whole.parts e.deed
+    → (st.machine.whole.parts.leaves k).role ≢ NoNode
+    → leaf_share (core.after o.opening st e).machine.whole.parts k ≡ leaf_share st.machine.whole.parts k)
+    (sym (replay_is o x.log))
+    (λ names there. law_leaf o.opening o.parts o.next_seq (oldest_first x.log) e
+    (happens x o e is course follows.enabled) k off names there) follows.names some
+
+leaves_stay : (part : ℕ) (c : NodeCache) (x : World) (e : Event) → IsEnabled x e → HasCourses x
+    → touches_leaves x.begun.leaf_parts part e.deed ≡ false → AreLeaves part c x
+    → AreLeaves part c (after x e)
+leaves_stay part c x e on courses off = from_each x e
+    (λ o st. AreLeavesOf o.opening.machine st.machine.whole.parts x.begun.leaf_parts part c) on courses
+    (λ o is course follows h. record {
+      rest = h.rest;
+      leaves = λ i cached at. let one = h.leaves i cached at in
+          subst (λ (s : LeafShare). IsLeafFor o.opening.machine s cached.leaf)
+          (sym (leaf_same x o e cached.number is course follows
+          (leaf_off x.begun.leaf_parts part cached.number e.deed (h.rest i cached at) off)
+          (in_tree_some _ one.at.role))) one;
+      others = λ k its live misses.
+          let same = law_slot o.opening (replay o x.log) e follows.enabled k
+          (leaf_off x.begun.leaf_parts part k e.deed its off) follows.names in
+          ap (λ (l : parts.Leaf). l.pending) same
+          ∙ h.others k its (subst (λ (l : parts.Leaf). IsInTree l.role) same live) misses;
+    })
+
+-- ---- all parts
+
+number_off : (n k j : ℕ) (e : Event) → k ≡ j → changes n e k ≡ false → changes n e j ≡ false
+number_off n k j e is off = ap (λ i. changes n e i) (sym is) ∙ off
+
+not_number : (k j : ℕ) → k ≢ j → (k == j) ≡ false
+not_number k j ne = by_test k j (λ b. b ≡ false) (λ is. absurd (ne is)) (λ no. refl)
+
+-- a number from 6 on is of leaves
+at_leaves : (n k : ℕ) (e : Event) → 6 ≤ k → changes n e k ≡ touches_leaves (n - 6) (k - 6) e.deed
+at_leaves n k e low = let d = e.deed in let rest = touches_leaves (n - 6) (k - 6) d in
+    ap (λ b. if b then touches_spine d else (if k == 1 then touches_flight d
+    else (if k == 2 then touches_buckets d else (if k == 3 then touches_journal d
+    else (if k == 4 then is_call_of Cache (call_by d)
+    else (if k == 5 then is_call_of Backing (call_by d) else rest)))))) (not_number k 0 (omega arith))
+    ∙ ap (λ b. if b then touches_flight d
+    else (if k == 2 then touches_buckets d else (if k == 3 then touches_journal d
+    else (if k == 4 then is_call_of Cache (call_by d)
+    else (if k == 5 then is_call_of Backing (call_by d) else rest))))) (not_number k 1 (omega arith))
+    ∙ ap (λ b. if b then touches_buckets d else (if k == 3 then touches_journal d
+    else (if k == 4 then is_call_of Cache (call_by d)
+    else (if k == 5 then is_call_of Backing (call_by d) else rest)))) (not_number k 2 (omega arith))
+    ∙ ap (λ b. if b then touches_journal d
+    else (if k == 4 then is_call_of Cache (call_by d)
+    else (if k == 5 then is_call_of Backing (call_by d) else rest))) (not_number k 3 (omega arith))
+    ∙ ap (λ b. if b then is_call_of Cache (call_by d)
+    else (if k == 5 then is_call_of Backing (call_by d) else rest)) (not_number k 4 (omega arith))
+    ∙ ap (λ b. if b then is_call_of Backing (call_by d) else rest) (not_number k 5 (omega arith))
+
+leaves_off : (n k : ℕ) (e : Event) → 6 ≤ k → changes n e k ≡ false
+    → touches_leaves (n - 6) (k - 6) e.deed ≡ false
+leaves_off n k e low off = sym (at_leaves n k e low) ∙ off
+
+module _ {C B : Type 0} (cache_facts : C → DiskFacts) (backing_facts : B → DiskFacts) where
+  cache_stays : (c : C) (x : World) (e : Event) → is_call_of Cache (call_by e.deed) ≡ false
+      → IsCache {C = C} {B = B} cache_facts backing_facts c x → IsCache {C = C} {B = B} cache_facts backing_facts c (after x e)
+  cache_stays c x e off h = record {
+    stands = subst (λ m. StandsFor (cache_facts c) m)
+        (ap (λ d. model d x.held) (sym (called_none Cache (call_by e.deed) x.cache off))
+        ∙ ap (λ d. model (after x e).cache d) (sym (held_stays x.held e.deed off)))
+        h.stands;
+  }
+
+  backing_stays : (b : BackingPart B) (x : World) (e : Event) → is_call_of Backing (call_by e.deed) ≡ false
+      → IsBackingOf cache_facts backing_facts b x → IsBackingOf cache_facts backing_facts b (after x e)
+  backing_stays b x e off h = record {
+    stands = subst (λ m. StandsFor (backing_facts b.disk) m)
+        (ap (λ d. model d (behind x.offset x.ahead (data_of x).backing))
+        (sym (called_none Backing (call_by e.deed) x.backing off))
+        ∙ ap (λ d. model (after x e).backing (behind x.offset x.ahead d)) (sym (stays_event OnBacking x e off)))
+        h.stands;
+    offset = h.offset;
+    size = h.size;
+    inside = subst (λ (d : Side). b.offset + b.size ≤ d.sectors)
+        (sym (called_none Backing (call_by e.deed) x.backing off)) h.inside;
+  }
+
+  part_stays : (n k : ℕ) (p : CorePart C B) (x : World) (e : Event) → IsEnabled x e → HasCourses x
+      → x.begun.leaf_parts ≡ n - 6 → changes n e k ≡ false
+      → IsPart cache_facts backing_facts k p x → IsPart cache_facts backing_facts k p (after x e)
+  part_stays n k part.Absent x e on courses count off h = record {
+    not_flight = h.not_flight;
+    not_backing = h.not_backing;
+    plain = h.plain;
+  }
+  part_stays n k (part.Spine sp) x e on courses count off h =
+      (h.0, spine_stays sp x e on courses (number_off n k 0 e h.0 off) h.1)
+  part_stays n k (part.Flight f) x e on courses count off h =
+      (h.0, in_each x e (IsFlightOf f) (λ y view on. flight_stays f y e (number_off n k 1 e h.0 off) on) h.1)
+  part_stays n k (part.Buckets p) x e on courses count off h =
+      (h.0, buckets_stay p x e on courses (number_off n k 2 e h.0 off) h.1)
+  part_stays n k (part.Journal j) x e on courses count off h =
+      (h.0, journal_stays j x e on courses (number_off n k 3 e h.0 off) h.1)
+  part_stays n k (part.Cache c) x e on courses count off h =
+      (h.0, cache_stays c x e (number_off n k 4 e h.0 off) h.1)
+  part_stays n k (part.Backing b) x e on courses count off h = (
+    h.0,
+    in_each x e (IsBackingOf cache_facts backing_facts b)
+        (λ y view on. backing_stays b y e (number_off n k 5 e h.0 off) on) h.1,
+  )
+  part_stays n k (part.Leaves c) x e on courses count off h = (
+    h.0,
+    leaves_stay (k - 6) c x e on courses
+        (subst (λ m. touches_leaves m (k - 6) e.deed ≡ false) (sym count) (leaves_off n k e h.0 off)) h.1,
+  )
+
+  pub frames : (start : List (CorePart C B)) (es : List Event) (k : ℕ) (p : CorePart C B) (e : Event)
+      → IsCourse IsEnabled after (opening cache_facts backing_facts start) es
+      → IsEnabled (fold after (opening cache_facts backing_facts start) es) e
+      → changes (length start) e k ≡ false
+      → IsPart cache_facts backing_facts k p (fold after (opening cache_facts backing_facts start) es)
+      → IsPart cache_facts backing_facts k p
+      (after (fold after (opening cache_facts backing_facts start) es) e)
+  frames start es k p e run on off h = let x = opening cache_facts backing_facts start in
+      part_stays (length start) k p (fold after x es) e on
+      (courses x es (λ o is. tt) run) (ap (λ (b : Begun). b.leaf_parts) (begun_stays x es)) off h
