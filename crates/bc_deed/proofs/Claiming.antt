@@ -4,7 +4,7 @@ use Rattle.std.specs.Prelude.{◌==◌, ◌&&◌, ◌||◌, nat_lt, if◌then◌
 use Rattle.std.proofs.lemmas.Bool.{lt-ltb}
 use Rattle.bc_disk.specs.Disk.{DiskFacts}
 use Rattle.bc_flight.specs.Claims.{is_exclusive as alone, conflicts, conflicts_any}
-use Rattle.bc_flight.specs.Flight.{InFlight, claim_at, claim_of, without}
+use Rattle.bc_flight.specs.Flight.{InFlight, claim_at, claim_of, without, IsTaken as TakenBy}
 use Rattle.bc_flight.specs.declared.claim.Claim.{Claim as FlightClaim}
 use Rattle.bc_flight.specs.declared.claim.Share.{Share}
 use Rattle.bc_flight.specs.declared.claim.Share.TheVariants.{Shared, Exclusive}
@@ -17,19 +17,23 @@ use Rattle.bc_events.specs.Run.{Opening, CanDo}
 use Rattle.bc_events.specs.declared.event.Deed.{Deed}
 use Rattle.bc_events.specs.declared.event.Deed.TheVariants as deed
 use Rattle.bc_machine.specs.declared.part.CorePart.TheVariants as part
-use Rattle.bc_machine.specs.World.{World, after, data_of, claim_in, share_of, IsFlight}
-use Rattle.bc_machine.specs.Frame.{Range, by_test, frames}
+use Rattle.bc_machine.specs.World.{World, after, data_of, is_told, claim_in, share_of, IsFlightOf, IsFlight}
+use Rattle.bc_machine.specs.Standing.{leads_each}
+use Rattle.bc_machine.specs.Bare.{IsBare}
+use Rattle.bc_machine.proofs.Viewing.{plain_view}
+use Rattle.bc_data.specs.Enabled as flow_ask
+use Rattle.bc_machine.specs.Frame.{Range, by_test}
 use Rattle.bc_machine.specs.Note.{note_of, note_after, IsFirmer}
 use Rattle.bc_machine.proofs.Noting.{note_event, other_event}
 use Rattle.bc_seats.proofs.Knowing.{held}
 use Rattle.bc_hand.specs.Seats.{by, world, note, IsCoreSeat, AtDeed, MayDo, Did}
-use Rattle.bc_hand.proofs.Knowing.{View, m, knew}
+use Rattle.bc_hand.proofs.Knowing.{View, m, framed, note_since, note_seen, opening_seen, is_plain_at}
 use Rattle.bc_seats.specs.Seats.{Waited}
 use Rattle.bc_seats.proofs.Between.{seen_alike}
 use Rattle.bc_hand.specs.declared.error.StepError.{StepError}
 use Rattle.bc_hand.proofs.Between.{did_between}
-use Rattle.bc_deed.specs.Asked.{HasClaimed, IsHalted, IsTaken, size_of}
-use Rattle.bc_deed.proofs.May.{low, opening_at, plain_at, can_alone}
+use Rattle.bc_deed.specs.Asked.{HasClaimed, IsClaim, IsHalted, IsTaken, size_of}
+use Rattle.bc_deed.proofs.May.{low, size_at, can_alone}
 
 -- ---- lists of claims
 
@@ -116,7 +120,7 @@ apart_by i first count k how c off = go (nat_lt first (c.first + c.count)) (nat_
     go true false ps qs is = inr (λ s a b. let a1 = a.1 in let b0 = b.0 in
         let yes_ = lt-ltb c.first (first + count) (omega arith) in absurd (cc (qs, yes_)))
 
-apart_of : (f : InFlight) (x : World) (i first count k : ℕ) (how : Share) → IsFlight f x
+apart_of : (f : InFlight) (x : World) (i first count k : ℕ) (how : Share) → IsFlightOf f x
     → conflicts_any (claim_at i first count how) f.claims ≡ false
     → Apart (new_claim first count (is_exclusive how)) ((data_of x).seats k).claim
 apart_of f x i first count k how on off = let c = ((data_of x).seats k).claim in
@@ -129,10 +133,19 @@ apart_of f x i first count k how on off = let c = ((data_of x).seats k).claim in
     (on.claims k)
 
 module _ {C B : Type 0} (cache_facts : C → DiskFacts) (backing_facts : B → DiskFacts) where
-  held_flight : (v : View cache_facts backing_facts) (f : InFlight) (x : World) (d : Deed)
+  held_flight : (v : View cache_facts backing_facts) (f : InFlight) (x y : World) (d : Deed)
       → Holds v.parts 1 → IsFlight f (world cache_facts backing_facts v)
-      → AtDeed cache_facts backing_facts v d x → IsFlight f x
-  held_flight v f x d holds on at = (at.stand 1 (part.Flight f) holds (refl, on)).1
+      → AtDeed cache_facts backing_facts v d x y → IsFlightOf f y
+  held_flight v f x y d holds on at = (at.stand 1 (part.Flight f) holds (refl, on)).1 y at.view
+
+  -- in a plain run all sectors lie in one leaf
+  same_leaf : (x y : World) (first s : ℕ) → IsBare y.opening.machine.flow (data_of y) → y ≡ x
+      → ((t : ℕ) → x.opening.machine.flow.books.leaf t ≡ 0)
+      → (data_of y).books.index.leaf s ≡ (data_of y).books.index.leaf first
+  same_leaf x y first s bare is all = ap (λ (i : Index). i.leaf s) bare.index
+      ∙ ap (λ (z : World). z.opening.machine.flow.books.leaf s) is ∙ all s ∙ sym (all first)
+      ∙ sym (ap (λ (z : World). z.opening.machine.flow.books.leaf first) is)
+      ∙ sym (ap (λ (i : Index). i.leaf first) bare.index)
 
   pub may_claim : (v : View cache_facts backing_facts) (f : InFlight) (first count : ℕ) (how : Share)
       → IsCoreSeat cache_facts backing_facts v → Holds v.parts 1
@@ -140,61 +153,71 @@ module _ {C B : Type 0} (cache_facts : C → DiskFacts) (backing_facts : B → D
       → 1 ≤ count → first + count ≤ size_of cache_facts backing_facts v.run.start
       → conflicts_any (claim_at v.first first count how) f.claims ≡ false
       → MayDo cache_facts backing_facts v (deed.Claim first count how)
-  may_claim v f first count how seat holds on none some inside off = λ x at.
-      let d : Deed = deed.Claim first count how in
-      let is = opening_at cache_facts backing_facts v d x at in
-      let plain = plain_at cache_facts backing_facts v d x at in
-      let ex = is_exclusive how in
-      let w = x.opening.machine in record {
-        seat = lt-ltb v.first 320 (low cache_facts backing_facts v seat);
-        allowed = λ told. subst (λ b. CanDo x.opening x.now (by v.first d)
-            (claimed b ((data_of x).books.index.leaf first) first count ex)) (sym plain) (record {
-              seat = lt-ltb v.first 320 (low cache_facts backing_facts v seat);
-              course = (
+  may_claim v f first count how seat holds on none some inside off = λ x y at told. record {
+    enabled = go x y at told y.opening.machine.flow.plain refl;
+    names = tt;
+  }
+    where
+      claims : (x y : World) → AtDeed cache_facts backing_facts v (deed.Claim first count how) x y
+          → flow_ask.IsEnabled y.opening.machine.flow (data_of y) v.first
+          (flow.MakeClaim first count (is_exclusive how))
+      claims x y at = record {
+        heard = at.running refl;
+        steps = tt;
+        can = record {
+          none = ap (λ r. r.count) at.note.range ∙ none;
+          inside = subst (λ n. first + count ≤ n)
+              (sym (size_at cache_facts backing_facts v (deed.Claim first count how) x y at)) inside;
+          apart = λ k ne. apart_of f y v.first first count k how
+              (held_flight v f x y (deed.Claim first count how) holds on at) off;
+        };
+      }
+
+      go : (x y : World) → AtDeed cache_facts backing_facts v (deed.Claim first count how) x y
+          → is_told y ≡ true → (plain : Bool) → y.opening.machine.flow.plain ≡ plain
+          → CanDo y.opening y.now (by v.first (deed.Claim first count how))
+          (claimed y.opening.machine.flow.plain ((data_of y).books.index.leaf first) first count (is_exclusive how))
+      go x y at told false is = subst (λ b. CanDo y.opening y.now (by v.first (deed.Claim first count how))
+          (claimed b ((data_of y).books.index.leaf first) first count (is_exclusive how))) (sym is) (record {
+            seat = lt-ltb v.first 320 (low cache_facts backing_facts v seat);
+            course = (record { data_allows = (claims x y at, tt); asks = refl }, tt);
+            fit = some;
+            its_line = tt;
+            plain = λ _. (tt, tt);
+          })
+      go x y at told true is = subst (λ b. CanDo y.opening y.now (by v.first (deed.Claim first count how))
+          (claimed b ((data_of y).books.index.leaf first) first count (is_exclusive how))) (sym is) (record {
+            seat = lt-ltb v.first 320 (low cache_facts backing_facts v seat);
+            course = (
+              record { data_allows = (claims x y at, tt); asks = refl },
+              (
                 record {
                   data_allows = (
                     record {
                       heard = at.running refl;
                       steps = tt;
-                      can = record {
-                        none = ap (λ r. r.count) at.note.range ∙ none;
-                        inside = subst (λ (o : Opening). first + count ≤ o.machine.flow.books.size) (sym is) inside;
-                        apart = λ k ne. apart_of f x v.first first count k how (held_flight v f x d holds on at) off;
-                      };
+                      can = λ s covers. same_leaf x y first s (at.bare told is)
+                          (plain_view x y (is_plain_at cache_facts backing_facts v x at.since
+                          ∙ sym at.plain ∙ is) at.view)
+                          (λ t. ap (λ (o : Opening). o.machine.flow.books.leaf t)
+                          (opening_seen cache_facts backing_facts v x at.since));
                     },
                     tt,
                   );
                   asks = refl;
                 },
-                (
-                  record {
-                    data_allows = (
-                      record {
-                        heard = at.running refl;
-                        steps = tt;
-                        can = λ s covers. let bare = (at.bare told plain).index in
-                            ap (λ (i : Index). i.leaf s) bare
-                            ∙ ap (λ (o : Opening). o.machine.flow.books.leaf s) is
-                            ∙ sym (ap (λ (o : Opening). o.machine.flow.books.leaf first) is)
-                            ∙ sym (ap (λ (i : Index). i.leaf first) bare);
-                      },
-                      tt,
-                    );
-                    asks = refl;
-                  },
-                  tt,
-                ),
-              );
-              fit = some;
-              its_line = tt;
-              plain = λ _. (tt, (tt, tt));
-            });
-      }
+                tt,
+              ),
+            );
+            fit = some;
+            its_line = tt;
+            plain = λ _. (tt, (tt, tt));
+          })
 
   pub may_release : (v : View cache_facts backing_facts) → IsCoreSeat cache_facts backing_facts v
       → MayDo cache_facts backing_facts v deed.Release
-  may_release v seat = λ x at. can_alone x v.first deed.Release flow.Release (low cache_facts backing_facts v seat)
-      refl refl (λ told. record { heard = tt; steps = tt; can = tt }) (λ told. tt) tt
+  may_release v seat = λ x y at told. can_alone y v.first deed.Release flow.Release
+      (low cache_facts backing_facts v seat) refl refl (record { heard = tt; steps = tt; can = tt }) tt tt tt
 
 -- ---- behind a claim, and its release
 
@@ -221,10 +244,10 @@ own_is : (x : World) (d : Deed) (i : ℕ) → claim_in i ((data_of (after x (by 
     ≡ in_range i (note_after x.opening.machine.flow.plain (note_of x i) d).range
 own_is x d i = ap (λ o. in_range i o.range) (note_event x (by i d))
 
-pub flight_claimed : (f g : InFlight) (x : World) (i first count : ℕ) (how : Share) → IsFlight f x
+pub flight_claimed : (f g : InFlight) (x : World) (i first count : ℕ) (how : Share) → IsFlightOf f x
     → g.seats ≡ f.seats → g.claims ≡ f.claims ++ claim_at i first count how ∷ []
     → (note_of x i).range.count ≡ 0 → 1 ≤ count
-    → IsFlight g (after x (by i (deed.Claim first count how)))
+    → IsFlightOf g (after x (by i (deed.Claim first count how)))
 flight_claimed f g x i first count how on seats claims none some = record {
   seats = seats ∙ on.seats;
   claims = λ n. ap (claim_of n) claims ∙ by_test i n
@@ -239,8 +262,8 @@ flight_claimed f g x i first count how on seats claims none some = record {
       ∙ sym (others_stay x (deed.Claim first count how) i n ne));
 }
 
-pub flight_released : (f g : InFlight) (x : World) (i : ℕ) → IsFlight f x → g.seats ≡ f.seats
-    → g.claims ≡ without i f.claims → IsFlight g (after x (by i deed.Release))
+pub flight_released : (f g : InFlight) (x : World) (i : ℕ) → IsFlightOf f x → g.seats ≡ f.seats
+    → g.claims ≡ without i f.claims → IsFlightOf g (after x (by i deed.Release))
 flight_released f g x i on seats claims = record {
   seats = seats ∙ on.seats;
   claims = λ n. ap (claim_of n) claims ∙ by_test i n
@@ -256,21 +279,21 @@ module _ {C B : Type 0} (cache_facts : C → DiskFacts) (backing_facts : B → D
   pub committed_flight : (v w : View cache_facts backing_facts) (f g : InFlight) (d : Deed)
       → Holds v.parts 1 → IsFlight f (world cache_facts backing_facts v)
       → Did cache_facts backing_facts (Some d) v w
-      → ((x : World) → IsFlight f x → IsFirmer (note cache_facts backing_facts v) (note_of x v.first)
-      → IsFlight g (after x (by v.first d)))
+      → ((x : World) → IsFlightOf f x → IsFirmer (note cache_facts backing_facts v) (note_of x v.first)
+      → IsFlightOf g (after x (by v.first d)))
       → IsCoreSeat cache_facts backing_facts v
       → IsFlight g (world cache_facts backing_facts w)
   committed_flight v w f g d holds on did step seat = subst (IsFlight g) (sym did.is.state)
-      (step did.is.before (held (m cache_facts backing_facts)
-      (λ n p y e may same stands. frames cache_facts backing_facts n p y e same stands) v did.is.before 1
-      (part.Flight f) did.is.since holds (refl, on)).1
-      (knew cache_facts backing_facts v did.is.before seat.seat.live did.is.since).note)
+      (leads_each did.is.before (by v.first d) (IsFlightOf f) (IsFlightOf g)
+      (λ y view on. step y on (note_since cache_facts backing_facts v did.is.before y seat.seat.live did.is.since view))
+      (held (m cache_facts backing_facts) (framed cache_facts backing_facts) v did.is.before 1
+      (part.Flight f) seat.seat did.is.since holds (refl, on)).1)
 
   -- a claim that was noted in the part and is let go again
-  pub flight_back : (f g : InFlight) (x : World) (i first count : ℕ) (how : Share) → IsFlight f x
+  back_in : (f g : InFlight) (x : World) (i first count : ℕ) (how : Share) → IsFlightOf f x
       → g.seats ≡ f.seats → g.claims ≡ without i (f.claims ++ claim_at i first count how ∷ [])
-      → claim_of i f.claims ≡ None → IsFlight g x
-  flight_back f g x i first count how on seats claims none = record {
+      → claim_of i f.claims ≡ None → IsFlightOf g x
+  back_in f g x i first count how on seats claims none = record {
     seats = seats ∙ on.seats;
     claims = λ n. ap (claim_of n) claims ∙ by_test i n
         (λ b. claim_of n (without i (f.claims ++ claim_at i first count how ∷ []))
@@ -282,12 +305,52 @@ module _ {C B : Type 0} (cache_facts : C → DiskFacts) (backing_facts : B → D
         ∙ push_old n f.claims (claim_at i first count how) ne ∙ on.claims n);
   }
 
+  pub flight_back : (f g : InFlight) (x : World) (i first count : ℕ) (how : Share) → IsFlight f x
+      → g.seats ≡ f.seats → g.claims ≡ without i (f.claims ++ claim_at i first count how ∷ [])
+      → claim_of i f.claims ≡ None → IsFlight g x
+  flight_back f g x i first count how on seats claims none = λ y view.
+      back_in f g y i first count how (on y view) seats claims none
+
   -- a seat that noted no claim has none in the part
   pub no_claim : (v : View cache_facts backing_facts) (f : InFlight) (i : ℕ) → i ≡ v.first
-      → IsFlight f (world cache_facts backing_facts v)
+      → IsCoreSeat cache_facts backing_facts v → IsFlight f (world cache_facts backing_facts v)
       → (note cache_facts backing_facts v).range.count ≡ 0 → claim_of i f.claims ≡ None
-  no_claim v f i is on none = ap (λ n. claim_of n f.claims) is ∙ on.claims v.first
-      ∙ none_in v.first (note cache_facts backing_facts v).range none
+  no_claim v f i is seat on none = ap (λ n. claim_of n f.claims) is
+      ∙ (on (world cache_facts backing_facts v) (inl refl)).claims v.first
+      ∙ none_in v.first (note_of (world cache_facts backing_facts v) v.first).range
+      (ap (λ r. r.count) (note_seen cache_facts backing_facts v seat).range ∙ none)
+
+  -- a claim that the seat noted stands in the part
+  pub its_claim : (v : View cache_facts backing_facts) (f : InFlight) (c : FlightClaim)
+      → IsCoreSeat cache_facts backing_facts v → IsFlight f (world cache_facts backing_facts v)
+      → IsClaim c v.first (note cache_facts backing_facts v).range → claim_of c.seat f.claims ≡ Some c
+  its_claim v f c seat on its = ap (λ n. claim_of n f.claims) its.its_seat
+      ∙ (on (world cache_facts backing_facts v) (inl refl)).claims v.first
+      ∙ ap (in_range v.first) ((note_seen cache_facts backing_facts v seat).range ∙ its.range)
+      ∙ ap (λ b. in_range v.first (record { first = c.first; count = c.count; exclusive = b })) (same_alone c.share)
+      ∙ some_in v.first c.first c.count c.share its.some
+      ∙ ap (λ n. Some (claim_at n c.first c.count c.share)) (sym its.its_seat)
+
+  -- one that conflicts with what was asked for is another seat's
+  pub claim_taken : (v : View cache_facts backing_facts) (f : InFlight) (i first count : ℕ) (how : Share)
+      → i ≡ v.first → IsFlight f (world cache_facts backing_facts v)
+      → TakenBy (claim_at i first count how) f.claims
+      → IsTaken (claim_at v.first first count how) (world cache_facts backing_facts v)
+  claim_taken v f i first count how is on taken = subst (λ n. IsTaken (claim_at n first count how)
+      (world cache_facts backing_facts v)) is (
+        taken.0.seat,
+        taken.0,
+        sym ((on (world cache_facts backing_facts v) (inl refl)).claims taken.0.seat) ∙ taken.1,
+        taken.2,
+      )
+
+  -- nothing has changed in the part
+  pub same_flight : (f g : InFlight) (x : World) → g.seats ≡ f.seats → g.claims ≡ f.claims
+      → IsFlight f x → IsFlight g x
+  same_flight f g x seats claims on = λ y view. record {
+    seats = seats ∙ (on y view).seats;
+    claims = λ n. ap (claim_of n) claims ∙ (on y view).claims n;
+  }
 
   pub claim_stands : (f g : InFlight) (i first count : ℕ) (how : Share) (c : FlightClaim)
       → c ≡ claim_at i first count how → g.claims ≡ f.claims ++ claim_at i first count how ∷ []
@@ -296,12 +359,12 @@ module _ {C B : Type 0} (cache_facts : C → DiskFacts) (backing_facts : B → D
       subst (λ (y : FlightClaim). claim_of y.seat g.claims ≡ Some y) (sym is)
       (ap (claim_of i) claims ∙ push_new i f.claims (claim_at i first count how) refl none)
 
-  pub waited_flight : (v w : View cache_facts backing_facts) (f : InFlight) → Holds v.parts 1
+  pub waited_flight : (v w : View cache_facts backing_facts) (f : InFlight)
+      → IsCoreSeat cache_facts backing_facts v → Holds v.parts 1
       → IsFlight f (world cache_facts backing_facts v) → Did cache_facts backing_facts None v w
       → IsFlight f (world cache_facts backing_facts w)
-  waited_flight v w f holds on did = (held (m cache_facts backing_facts)
-      (λ n p y e may same stands. frames cache_facts backing_facts n p y e same stands) v
-      (world cache_facts backing_facts w) 1 (part.Flight f) did.is.since holds (refl, on)).1
+  waited_flight v w f seat holds on did = (held (m cache_facts backing_facts) (framed cache_facts backing_facts) v
+      (world cache_facts backing_facts w) 1 (part.Flight f) seat.seat did.is.since holds (refl, on)).1
 
   pub not_taken : (b : Bool) → (b ≡ true → ⊥) → b ≡ false
   not_taken false h = refl

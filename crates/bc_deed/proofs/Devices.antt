@@ -1,11 +1,11 @@
 -- The backing device behind each of its calls, of whose sectors the data are a part.
 use Rattle.std.proofs.Common.{◌≡◌, inl, inr, ◌⊎◌, ℕ, suc, ◌+◌, ◌-◌, ◌<◌, ◌≤◌, Bool, true, false, List, [], ◌∷◌, Option, Some, None, refl, sym, ap, ◌∙◌, subst, arith}
-use Rattle.std.specs.Prelude.{◌==◌, ◌&&◌, nat_lt, if◌then◌else◌}
+use Rattle.std.specs.Prelude.{◌==◌, ◌&&◌, nat_lt, option_map, if◌then◌else◌}
 use Rattle.std.proofs.lemmas.Bool.{cases_lt, lt-ltb, le-ltb}
 use Rattle.bc_model.specs.Sector.{Value, Image, Gives, at_run}
-use Rattle.bc_disk.specs.Device.{Content, Among, instead, besides, written, failed, settled, after_write, after_barrier, after_failed_write}
+use Rattle.bc_disk.specs.Device.{Content, quiet, Among, instead, besides, written, failed, settled, after_write, after_barrier, after_failed_write}
 use Rattle.bc_disk.specs.Disk.{DiskFacts, IsRead, IsKept, IsSettled, IsWritten, IsFailedWrite, Allows, StandsFor}
-use Rattle.bc_disk.specs.Stands.{MayRead}
+use Rattle.bc_disk.specs.Stands.{MayRead, settled_model}
 use Rattle.bc_disk.specs.declared.disk.Device.TheVariants as device
 use Rattle.bc_disk.proofs.Sectors.{at_run-below}
 use Rattle.bc_disk.proofs.Stands.{CountsGood, CountsFault, read_stands, fault_stands, write_stands, failed_write_stands, barrier_stands, read_may}
@@ -15,7 +15,7 @@ use Rattle.bc_events.specs.declared.event.Deed.TheVariants as deed
 use Rattle.bc_model.specs.declared.values.Values.{Values}
 use Rattle.bc_machine.specs.declared.part.BackingPart.{BackingPart}
 use Rattle.bc_machine.specs.Frame.{by_test}
-use Rattle.bc_machine.specs.World.{Side, model, behind, counted, World, after, data_of, is_told, IsBacking}
+use Rattle.bc_machine.specs.World.{Side, side_of, is_some_image, image_of, model, behind, counted, World, after, data_of, is_told, IsBackingOf}
 use Rattle.bc_events.specs.Run.{Opening}
 use Rattle.bc_hand.specs.Seats.{by}
 
@@ -70,6 +70,34 @@ alike_stands d x a b alike h = record {
   calls = h.calls;
   faults = h.faults;
 }
+
+-- ---- as a run begins
+
+begins_alike : (offset : ℕ) (image : Image)
+    → Alike (quiet image) (behind offset image (quiet (λ s. image (offset + s))))
+begins_alike offset image = record { reads = each; leaves = each }
+  where
+    each : (t : ℕ) → (if nat_lt t offset then image t ∷ [] else image (offset + (t - offset)) ∷ [])
+        ≡ image t ∷ []
+    each t = ahead_of offset t
+        (λ b. (if b then image t ∷ [] else image (offset + (t - offset)) ∷ []) ≡ image t ∷ [])
+        (λ lt. refl) (λ s is. ap (λ n. image n ∷ []) (omega arith))
+
+pub begins_stands : (d : DiskFacts) (offset : ℕ) → StandsFor d (settled_model d)
+    → StandsFor d (model (side_of d)
+    (behind offset (image_of d.holds) (quiet (λ s. image_of d.holds (offset + s)))))
+begins_stands d offset h = alike_stands d (side_of d) (quiet (image_of d.holds)) _
+    (begins_alike offset (image_of d.holds)) (record {
+      sectors = refl;
+      content = told d.holds h.content;
+      calls = refl;
+      faults = refl;
+    })
+  where
+    told : (o : Option Image) → Allows (option_map quiet o) o d.may_leave
+        → Allows (if is_some_image o then Some (quiet (image_of o)) else None) o d.may_leave
+    told None on = on
+    told (Some image) on = on
 
 put_values : (f : Option Value → List Value → List Value) → ((old : List Value) → f None old ≡ old)
     → (offset first : ℕ) (values : List Value) (ahead : Image) (old : ℕ → List Value) (t : ℕ)
@@ -129,7 +157,7 @@ failed_model x at values c = go x.told
 -- ---- the part
 
 module _ {C B : Type 0} (cache_facts : C → DiskFacts) (backing_facts : B → DiskFacts) (b new : BackingPart B)
-    (x : World) (i : ℕ) (on : IsBacking {C = C} cache_facts backing_facts b x)
+    (x : World) (i : ℕ) (on : IsBackingOf {C = C} cache_facts backing_facts b x)
     (offset_is : new.offset ≡ b.offset) (size_is : new.size ≡ b.size) where
   abbrev old_facts : DiskFacts
   old_facts = backing_facts b.disk
@@ -143,7 +171,7 @@ module _ {C B : Type 0} (cache_facts : C → DiskFacts) (backing_facts : B → D
   -- the rest of the part
   part_is : (y : World) → y.offset ≡ x.offset → y.opening ≡ x.opening → y.backing.sectors ≡ x.backing.sectors
       → StandsFor new_facts (model y.backing (behind y.offset y.ahead (data_of y).backing))
-      → IsBacking {C = C} cache_facts backing_facts new y
+      → IsBackingOf {C = C} cache_facts backing_facts new y
   part_is y same_offset same_opening sectors stands = record {
     stands = stands;
     offset = offset_is ∙ on.offset ∙ sym same_offset;
@@ -154,25 +182,25 @@ module _ {C B : Type 0} (cache_facts : C → DiskFacts) (backing_facts : B → D
   }
 
   pub behind_barrier : IsSettled old_facts new_facts → CountsGood old_facts new_facts
-      → IsBacking {C = C} cache_facts backing_facts new (after x (by i deed.BackingBarrier))
+      → IsBackingOf {C = C} cache_facts backing_facts new (after x (by i deed.BackingBarrier))
   behind_barrier is counts = part_is (after x (by i deed.BackingBarrier)) refl refl refl
       (subst (StandsFor new_facts) (barrier_model x.backing content)
       (barrier_stands old_facts new_facts (model x.backing content) on.stands is counts))
 
   pub behind_failed_barrier : IsKept old_facts new_facts → CountsFault old_facts new_facts
-      → IsBacking {C = C} cache_facts backing_facts new
+      → IsBackingOf {C = C} cache_facts backing_facts new
       (after x (by i (deed.DeviceFault (failure.Barrier device.Backing))))
   behind_failed_barrier is counts =
       part_is (after x (by i (deed.DeviceFault (failure.Barrier device.Backing)))) refl refl refl
       (fault_stands old_facts new_facts (model x.backing content) on.stands is counts)
 
   pub behind_read : (first : ℕ) (values : Values) → IsKept old_facts new_facts → CountsGood old_facts new_facts
-      → IsBacking {C = C} cache_facts backing_facts new (after x (by i (deed.BackingRead first values)))
+      → IsBackingOf {C = C} cache_facts backing_facts new (after x (by i (deed.BackingRead first values)))
   behind_read first values is counts = part_is (after x (by i (deed.BackingRead first values))) refl refl refl
       (read_stands old_facts new_facts (model x.backing content) on.stands is counts)
 
   pub behind_failed_read : IsKept old_facts new_facts → CountsFault old_facts new_facts
-      → IsBacking {C = C} cache_facts backing_facts new
+      → IsBackingOf {C = C} cache_facts backing_facts new
       (after x (by i (deed.DeviceFault (failure.Read device.Backing))))
   behind_failed_read is counts =
       part_is (after x (by i (deed.DeviceFault (failure.Read device.Backing)))) refl refl refl
@@ -180,7 +208,7 @@ module _ {C B : Type 0} (cache_facts : C → DiskFacts) (backing_facts : B → D
 
   pub behind_write : (first : ℕ) (of : Option Line) (values : Values)
       → IsWritten (b.offset + first) values old_facts new_facts → CountsGood old_facts new_facts
-      → IsBacking {C = C} cache_facts backing_facts new (after x (by i (deed.BackingWrite first of values)))
+      → IsBackingOf {C = C} cache_facts backing_facts new (after x (by i (deed.BackingWrite first of values)))
   behind_write first of values is counts = part_is (after x (by i (deed.BackingWrite first of values))) refl refl refl
       (alike_stands new_facts (counted false x.backing) _ _
       (behind_written x.offset first values x.ahead (data_of x).backing)
@@ -190,7 +218,7 @@ module _ {C B : Type 0} (cache_facts : C → DiskFacts) (backing_facts : B → D
 
   pub behind_failed_write : (first : ℕ) (of : Option Line) (values : Values)
       → IsFailedWrite (b.offset + first) values old_facts new_facts → CountsFault old_facts new_facts
-      → IsBacking {C = C} cache_facts backing_facts new
+      → IsBackingOf {C = C} cache_facts backing_facts new
       (after x (by i (deed.DeviceFault (failure.BackingWrite first of values))))
   behind_failed_write first of values is counts =
       part_is (after x (by i (deed.DeviceFault (failure.BackingWrite first of values)))) refl refl refl

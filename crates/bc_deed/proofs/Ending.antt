@@ -1,10 +1,18 @@
 -- The parts of a run as it begins and ends.
-use Rattle.std.proofs.Common.{◌≡◌, List, [], ◌∷◌, ◌++◌, length, ap, ◌∙◌, subst, refl, arith}
+use Rattle.std.proofs.Common.{◌≡◌, ◌+◌, ◌≤◌, List, [], ◌∷◌, ◌++◌, length, ap, sym, ◌∙◌, subst, refl, arith}
+use Rattle.bc_disk.specs.Disk.{StandsFor}
+use Rattle.bc_disk.specs.Stands.{settled_model}
+use Rattle.bc_flight.specs.Flight.{InFlight, claim_of}
+use Rattle.bc_parts.specs.Machine.{StandFrom}
 use Rattle.bc_disk.specs.Disk.{DiskFacts}
 use Rattle.bc_machine.specs.declared.part.BackingPart.{BackingPart}
 use Rattle.bc_machine.specs.declared.part.CorePart.{CorePart}
 use Rattle.bc_machine.specs.declared.part.CorePart.TheVariants as part
-use Rattle.bc_machine.specs.World.{World, IsPart, IsBacking}
+use Rattle.bc_machine.specs.World.{World, opening, IsPart, IsFlightOf, IsBackingOf, IsBacking}
+use Rattle.bc_machine.proofs.Viewing.{plain_view}
+use Rattle.bc_hand.specs.Seats.{core}
+use Rattle.bc_deed.specs.Begun.{opening_parts}
+use Rattle.bc_deed.proofs.Devices.{begins_stands}
 
 -- six parts
 pub six : {P : Type 0} (ps : List P) → length ps ≡ 6
@@ -31,7 +39,11 @@ module _ {C B : Type 0} (cache_facts : C → DiskFacts) (backing_facts : B → D
   -- the last part is the backing device
   pub is_backing : (p : CorePart C B) (x : World) → IsPart cache_facts backing_facts 5 p x
       → (backing : BackingPart B) × (p ≡ part.Backing backing)
-  is_backing part.Absent x h = absurd (h.1 refl)
+  is_backing part.Absent x h = absurd (h.not_backing refl)
+  is_backing (part.Spine sp) x h = absurd (let not : 5 ≡ 0 = h.0 in omega arith)
+  is_backing (part.Buckets p) x h = absurd (let not : 5 ≡ 2 = h.0 in omega arith)
+  is_backing (part.Journal j) x h = absurd (let not : 5 ≡ 3 = h.0 in omega arith)
+  is_backing (part.Leaves c) x h = absurd (let not : 6 ≤ 5 = h.0 in omega arith)
   is_backing (part.Flight f) x h = absurd (let not : 5 ≡ 1 = h.0 in omega arith)
   is_backing (part.Cache c) x h = absurd (let not : 5 ≡ 4 = h.0 in omega arith)
   is_backing (part.Backing b) x h = (b, refl)
@@ -40,3 +52,45 @@ module _ {C B : Type 0} (cache_facts : C → DiskFacts) (backing_facts : B → D
       → IsPart cache_facts backing_facts 5 p x → p ≡ part.Backing b
       → IsBacking {C = C} cache_facts backing_facts b x
   stands_backing p b x h is = (subst (λ (q : CorePart C B). IsPart cache_facts backing_facts 5 q x) is h).1
+
+  -- as a run over the backing device alone begins
+  pub begins : (f : InFlight) (b : BackingPart B) → f.seats ≡ 320 → f.claims ≡ []
+      → StandsFor (backing_facts b.disk) (settled_model (backing_facts b.disk))
+      → b.offset + b.size ≤ (backing_facts b.disk).sectors
+      → StandFrom (core cache_facts backing_facts)
+      (opening cache_facts backing_facts (opening_parts f b)) 0 (opening_parts f b)
+  begins f b seats claims stands inside =
+      let x = opening cache_facts backing_facts (opening_parts f b) in (
+        record { not_flight = λ is. cc; not_backing = λ is. cc; plain = refl },
+        (
+          (
+            refl,
+            λ y view. subst (IsFlightOf f) (sym (plain_view x y refl view)) (record {
+              seats = seats;
+              claims = λ n. ap (claim_of n) claims;
+            }),
+          ),
+          (
+            record { not_flight = λ is. cc; not_backing = λ is. cc; plain = refl },
+            (
+              record { not_flight = λ is. cc; not_backing = λ is. cc; plain = refl },
+              (
+                record { not_flight = λ is. cc; not_backing = λ is. cc; plain = refl },
+                (
+                  (
+                    refl,
+                    λ y view. subst (IsBackingOf {C = C} cache_facts backing_facts b)
+                        (sym (plain_view x y refl view)) (record {
+                          stands = begins_stands (backing_facts b.disk) b.offset stands;
+                          offset = refl;
+                          size = refl;
+                          inside = inside;
+                        }),
+                  ),
+                  tt,
+                ),
+              ),
+            ),
+          ),
+        ),
+      )

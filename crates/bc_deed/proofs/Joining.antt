@@ -1,6 +1,6 @@
 -- Seats cut in two, and joined again.
-use Rattle.std.proofs.Common.{◌≡◌, ℕ, ◌<◌, ◌≤◌, [], List, Option, Some, None, refl, sym, ap, ◌∙◌, subst, arith}
-use Rattle.std.specs.Prelude.{length}
+use Rattle.std.proofs.Common.{◌≡◌, ℕ, ◌<◌, ◌≤◌, [], Option, Some, None, refl, sym, ◌∙◌, subst, arith}
+use Rattle.std.specs.Prelude.{false, length}
 use Rattle.std.specs.Option.{option_or}
 use Rattle.bc_disk.specs.Disk.{DiskFacts}
 use Rattle.bc_parts.specs.Later.{SeesLater}
@@ -8,9 +8,10 @@ use Rattle.bc_parts.specs.Seat.{PartsView, Run}
 use Rattle.bc_seats.specs.Seats.{state_seen}
 use Rattle.bc_seats.proofs.Knowing.{since_later}
 use Rattle.bc_machine.specs.declared.part.CorePart.{CorePart}
-use Rattle.bc_machine.specs.World.{data_of, opening}
+use Rattle.bc_machine.specs.World.{data_of, IsView, InEach, opening}
+use Rattle.bc_machine.proofs.Viewing.{new_view}
 use Rattle.bc_hand.specs.Seats.{world, Works, empty}
-use Rattle.bc_hand.proofs.Knowing.{View, m, knew, bare_since}
+use Rattle.bc_hand.proofs.Knowing.{View, m, fresh_since, bare_since}
 use Rattle.bc_deed.specs.Begun.{HasJoined}
 
 none_left : {A : Type 0} (a b : Option A) → option_or a b ≡ None → a ≡ None
@@ -19,10 +20,6 @@ none_left (Some x) b is = absurd (cc)
 
 module _ {C B : Type 0} (cache_facts : C → DiskFacts) (backing_facts : B → DiskFacts) where
   -- ---- before anything has happened
-
-  begins_fresh : (start : List (CorePart C B)) (n : ℕ)
-      → (data_of (opening cache_facts backing_facts start)).late n ≡ Rattle.std.specs.Prelude.false
-  begins_fresh start n = refl
 
   pub works_kept_half : (p : PartsView (CorePart C B)) (v : View cache_facts backing_facts) (at : ℕ)
       → Works cache_facts backing_facts p v empty → v.first < at → at < v.end
@@ -49,9 +46,8 @@ module _ {C B : Type 0} (cache_facts : C → DiskFacts) (backing_facts : B → D
       seat = record { live = high; run = works.seat.seat.run };
       numbers = works.seat.numbers;
       parts = works.seat.parts;
-      fresh = λ untold. subst (λ es. (data_of (state_seen (m cache_facts backing_facts)
-          (record v { seen = es }))).late at ≡ Rattle.std.specs.Prelude.false) (sym none)
-          (begins_fresh v.run.start at);
+      fresh = λ untold y view. (new_view cache_facts backing_facts v.run.start y
+          (subst (λ es. IsView (state_seen (m cache_facts backing_facts) (record v { seen = es })) y) none view)).late at;
       bare = works.seat.bare;
     };
     parts = refl;
@@ -69,7 +65,7 @@ module _ {C B : Type 0} (cache_facts : C → DiskFacts) (backing_facts : B → D
       let since = since_later (m cache_facts backing_facts) v w sees run in
       let live = a.seat.seat.live in
       let more = b.seat.seat.live in
-      let k = knew cache_facts backing_facts v (world cache_facts backing_facts w) live since in record {
+      let fresh = fresh_since cache_facts backing_facts v (world cache_facts backing_facts w) live since in record {
         run = run ∙ a.run;
         seat = record {
           seat = record {
@@ -79,12 +75,20 @@ module _ {C B : Type 0} (cache_facts : C → DiskFacts) (backing_facts : B → D
           };
           numbers = subst (λ n. n ≤ 320) (sym end_is) b.seat.numbers;
           parts = subst (λ (r : Run (CorePart C B)). 5 < length r.start) (sym run) a.seat.parts;
-          fresh = λ none. ap (λ n. (data_of (world cache_facts backing_facts w)).late n) first_is
-              ∙ k.late ∙ a.seat.fresh (none_left v.told o.told (sym told ∙ none));
+          fresh = λ none. subst (λ n. InEach (world cache_facts backing_facts w) (λ y. (data_of y).late n ≡ false))
+              (sym first_is) (fresh (a.seat.fresh (none_left v.told o.told (sym told ∙ none))));
           bare = bare_since cache_facts backing_facts v (world cache_facts backing_facts w) a.seat.bare since;
         };
         parts = parts ∙ a.parts;
-        stand = record { flight = tt; cache = tt; backing = tt };
+        stand = record {
+          spine = tt;
+          leaves = tt;
+          flight = tt;
+          buckets = tt;
+          journal = tt;
+          cache = tt;
+          backing = tt;
+        };
       }
 
   pub has_joined : (v o w : View cache_facts backing_facts) → w.run ≡ v.run → w.first ≡ v.first

@@ -4,7 +4,7 @@ ghost use Rattle.bc_model.specs.Sector.{values_of};
 ghost use Rattle.bc_parts.specs.Seat.{Holds};
 ghost use Rattle.bc_seats.specs.Seats.{Kept};
 ghost use Rattle.bc_events.specs.Columns.{is_late};
-ghost use Rattle.bc_machine.specs.World.{IsBacking, changes};
+ghost use Rattle.bc_machine.specs.World.{IsBacking, are_plain, changes};
 ghost use Rattle.bc_events.specs.declared.event.Deed.{Deed};
 ghost use Rattle.bc_events.specs.declared.event.Failure.{Failure};
 ghost use Rattle.bc_disk.specs.declared.disk.Device.{Device};
@@ -35,7 +35,8 @@ fn called<C: Disk, B: Disk, R: Wait>(
     requires seat { IsCoreSeat C.facts B.facts seat.old }
     requires promise { 0 < seat.old.promises }
     requires holds { Holds seat.old.parts 5 }
-    requires alone { (k : ℕ) → (k == 5) ≡ false → changes (by seat.old.first deed) k ≡ false }
+    requires alone { (k : ℕ) → changes (length seat.old.run.start) (by seat.old.first deed) k
+        ≡ (k == 5) }
     requires may { MayDo C.facts B.facts seat.old deed }
     requires late { is_late deed ≡ true }
     ensures kept { Kept (core C.facts B.facts) seat.old seat.new (λ k. k == 5) }
@@ -204,6 +205,7 @@ pub fn backing_write<C: Disk + Drop, B: Disk + Drop, R: Wait>(
     of: Line,
 ) -> Result<(), StepError>
     requires works { Works C.facts B.facts parts.now seat.old hand.old }
+    requires plain { are_plain C.facts B.facts parts.now.run.start ≡ true }
     requires promise { 0 < seat.old.promises }
     requires line { worker_of seat.old.first ≡ of.worker }
     requires some { 0 < length values.now }
@@ -256,6 +258,7 @@ fn write_in<C: Disk, B: Disk, R: Wait>(
     requires run { seat.old.run ≡ parts.now.run }
     requires seat { IsCoreSeat C.facts B.facts seat.old }
     requires untold { seat.old.told ≡ None }
+    requires plain { are_plain C.facts B.facts parts.now.run.start ≡ true }
     requires promise { 0 < seat.old.promises }
     requires holds { Holds seat.old.parts 5 }
     requires backing { IsBacking C.facts B.facts backing.old (world C.facts B.facts seat.old) }

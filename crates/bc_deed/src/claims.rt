@@ -4,7 +4,7 @@ ghost use Rattle.bc_parts.specs.Seat.{Holds};
 ghost use Rattle.bc_seats.specs.Seats.{Kept};
 ghost use Rattle.bc_machine.specs.World.{IsFlight};
 ghost use Rattle.bc_events.specs.declared.event.Deed.{Deed};
-ghost use Rattle.bc_hand.specs.Seats.{core, IsCoreSeat, Works, Did, kinds, note, world};
+ghost use Rattle.bc_hand.specs.Seats.{core, IsCoreSeat, Works, HasNoneBehindFlight, Did, kinds, note, world};
 ghost use Rattle.bc_deed.specs.Asked.{HasClaimed, IsClaim, IsHalted, size_of};
 
 use bc_disk::disk::Disk;
@@ -29,7 +29,7 @@ pub fn claim<C: Disk + Drop, B: Disk + Drop, R: Wait>(
     share: Share,
 ) -> Result<bool, StepError>
     requires works { Works C.facts B.facts parts.now seat.old hand.old }
-    requires order { hand.old.flight ≡ None → (hand.old.cache ≡ None) × (hand.old.backing ≡ None) }
+    requires order { hand.old.flight ≡ None → HasNoneBehindFlight hand.old }
     requires promise { 0 < seat.old.promises }
     requires none { (note C.facts B.facts seat.old).range.count ≡ 0 }
     requires range { (1 ≤ count) × (first + count < 2 ^ 64) }
@@ -104,7 +104,7 @@ pub fn release<C: Disk + Drop, B: Disk + Drop, R: Wait>(
     claim: Claim,
 )
     requires works { Works C.facts B.facts parts.now seat.old hand.old }
-    requires order { hand.old.flight ≡ None → (hand.old.cache ≡ None) × (hand.old.backing ≡ None) }
+    requires order { hand.old.flight ≡ None → HasNoneBehindFlight hand.old }
     requires promise { 0 < seat.old.promises }
     requires its { IsClaim claim seat.old.first (note C.facts B.facts seat.old).range }
     ensures works { Works C.facts B.facts parts.now seat.new hand.new }

@@ -1,6 +1,7 @@
 //! The flush of a line, as the steps that it takes.
-ghost use Rattle.std.specs.Prelude.{◌≡◌, ◌≤◌, OnOk, IfErr};
+ghost use Rattle.std.specs.Prelude.{◌≡◌, ◌≤◌, true, OnOk, IfErr};
 ghost use Rattle.bc_machine.specs.Plain.{worker_of};
+ghost use Rattle.bc_machine.specs.World.{are_plain};
 ghost use Rattle.bc_hand.specs.Seats.{Works, kinds, note};
 ghost use Rattle.bc_deed.specs.Flushed.{HasFlushed, HasStopped};
 
@@ -23,6 +24,7 @@ pub fn flush<C: Disk + Drop, B: Disk + Drop, R: Wait>(
     of: Line,
 ) -> Result<(), StepError>
     requires works { Works C.facts B.facts parts.now seat.old hand.old }
+    requires plain { are_plain C.facts B.facts parts.now.run.start ≡ true }
     requires promise { 3 ≤ seat.old.promises }
     requires line { worker_of seat.old.first ≡ of.worker }
     ensures works { Works C.facts B.facts parts.now seat.new hand.new }

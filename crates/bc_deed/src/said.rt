@@ -2,6 +2,7 @@
 ghost use Rattle.std.specs.Prelude.{◌≡◌, ◌<◌, true, None, Some, length, OnOk, OnErr, IfErr};
 ghost use Rattle.bc_model.specs.Sector.{Gives};
 ghost use Rattle.bc_machine.specs.Plain.{worker_of};
+ghost use Rattle.bc_machine.specs.World.{are_plain};
 ghost use Rattle.bc_events.specs.declared.event.Deed.{Deed};
 ghost use Rattle.bc_hand.specs.Seats.{Works, Did, note, world};
 ghost use Rattle.bc_deed.specs.Asked.{IsHalted, IsHaltedOr, IsLast, IsWithin};
@@ -43,7 +44,7 @@ pub fn flush_from<C: Disk, B: Disk, R: Wait>(
 }
 
 /// Acknowledges the flush of a line, since the beginning of which a barrier of the backing device was
-/// made.
+/// made. The run is one over that device alone.
 pub fn flush_done<C: Disk, B: Disk, R: Wait>(
     rt: &R,
     parts: &CoreParts<C, B>,
@@ -52,6 +53,7 @@ pub fn flush_done<C: Disk, B: Disk, R: Wait>(
     of: Line,
 ) -> Result<(), StepError>
     requires works { Works C.facts B.facts parts.now seat.old hand.old }
+    requires plain { are_plain C.facts B.facts parts.now.run.start ≡ true }
     requires promise { 0 < seat.old.promises }
     requires line { worker_of seat.old.first ≡ of.worker }
     requires going { (note C.facts B.facts seat.old).flush.going ≡ true }
@@ -74,7 +76,7 @@ pub fn flush_done<C: Disk, B: Disk, R: Wait>(
 }
 
 /// Acknowledges a forced write: the sectors from `first` on of the seat's last write, since which a
-/// barrier of the backing device was made.
+/// barrier of the backing device was made. The run is one over that device alone.
 pub fn durable<C: Disk, B: Disk, R: Wait>(
     rt: &R,
     parts: &CoreParts<C, B>,
@@ -85,6 +87,7 @@ pub fn durable<C: Disk, B: Disk, R: Wait>(
     count: u32,
 ) -> Result<(), StepError>
     requires works { Works C.facts B.facts parts.now seat.old hand.old }
+    requires plain { are_plain C.facts B.facts parts.now.run.start ≡ true }
     requires promise { 0 < seat.old.promises }
     requires line { worker_of seat.old.first ≡ of.worker }
     requires exclusive { (note C.facts B.facts seat.old).range.exclusive ≡ true }
@@ -162,7 +165,7 @@ pub fn line_done<C: Disk, B: Disk, R: Wait>(
 }
 
 /// Answers a line's read with these values, which the seat has read from the backing device under
-/// its claim.
+/// its claim. The run is one over that device alone.
 pub fn answer<C: Disk, B: Disk, R: Wait>(
     rt: &R,
     parts: &CoreParts<C, B>,
@@ -173,6 +176,7 @@ pub fn answer<C: Disk, B: Disk, R: Wait>(
     values: &Values,
 ) -> Result<(), StepError>
     requires works { Works C.facts B.facts parts.now seat.old hand.old }
+    requires plain { are_plain C.facts B.facts parts.now.run.start ≡ true }
     requires promise { 0 < seat.old.promises }
     requires line { worker_of seat.old.first ≡ of.worker }
     requires looked { (note C.facts B.facts seat.old).looked ≡ true }

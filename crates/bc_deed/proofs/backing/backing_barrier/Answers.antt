@@ -5,7 +5,7 @@ use Rattle.bc_disk.specs.declared.disk.Device.TheVariants as device
 use Rattle.bc_hand.proofs.Knowing.{map_ok}
 use Rattle.bc_hand.proofs.Lending.{works_backing}
 use Rattle.bc_hand.proofs.Between.{did_between}
-use Rattle.bc_deed.proofs.May.{did_nothing, map_if_err, failed_between}
+use Rattle.bc_deed.proofs.May.{did_nothing, other_number, map_if_err, failed_between}
 use Rattle.bc_deed.proofs.backing.backing_barrier.Goals as goal
 
 pub returns-in-Some-clause-err : goal.returns-in-Some-clause-err
@@ -18,7 +18,7 @@ pub return_backing-requires : goal.return_backing-requires
 return_backing-requires g c = works_backing g.C.Disk.facts g.B.Disk.facts c.args.parts.now
     c.borrow_backing-backing.new.seat c.barrier_in-done.new.seat c.borrow_backing-backing.new.hand c.borrow_backing-backing.result.0
     c.barrier_in-done.new.backing _ c.borrow_backing-backing.ensures.lent c.barrier_in-done.ensures.seat
-    c.barrier_in-done.ensures.kept refl refl c.barrier_in-done.ensures.backing
+    c.barrier_in-done.ensures.kept (other_number 5) c.barrier_in-done.ensures.backing
 
 pub returns-clause-ok : goal.returns-clause-ok
 returns-clause-ok g c = map_ok c.barrier_in-done.result (λ did.

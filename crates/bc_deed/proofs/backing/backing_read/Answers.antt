@@ -7,7 +7,7 @@ use Rattle.bc_hand.proofs.Knowing.{map_ok, note_waited}
 use Rattle.bc_hand.proofs.Lending.{works_backing}
 use Rattle.bc_hand.proofs.Between.{did_between}
 use Rattle.bc_deed.specs.Asked.{IsWithin}
-use Rattle.bc_deed.proofs.May.{did_nothing, map_if_err, failed_or_between, size_waited}
+use Rattle.bc_deed.proofs.May.{did_nothing, other_number, map_if_err, failed_or_between, size_waited}
 use Rattle.bc_deed.proofs.backing.backing_read.Goals as goal
 
 pub returns-in-Some-clause-err : goal.returns-in-Some-clause-err
@@ -41,7 +41,7 @@ pub return_backing-requires : goal.return_backing-requires
 return_backing-requires g c = works_backing g.C.Disk.facts g.B.Disk.facts c.args.parts.now
     c.borrow_backing-backing.new.seat c.read_in-done.new.seat c.borrow_backing-backing.new.hand
     c.borrow_backing-backing.result.0 c.read_in-done.new.backing _ c.borrow_backing-backing.ensures.lent
-    c.read_in-done.ensures.seat c.read_in-done.ensures.kept refl refl c.read_in-done.ensures.backing
+    c.read_in-done.ensures.seat c.read_in-done.ensures.kept (other_number 5) c.read_in-done.ensures.backing
 
 pub returns-clause-ok : goal.returns-clause-ok
 returns-clause-ok g c = map_ok c.read_in-done.result (λ did.
@@ -61,3 +61,7 @@ returns-clause-err g c = map_if_err c.read_in-done.result (λ e h.
     c.return_backing.ensures.waited c.return_backing.ensures.seen c.return_backing.ensures.told
     c.return_backing.ensures.works.seat)
     c.read_in-done.ensures.err
+
+pub returns-in_default-with_capacity-clause-err : goal.returns-in_default-with_capacity-clause-err
+returns-in_default-with_capacity-clause-err g c = did_nothing g.C.Disk.facts g.B.Disk.facts
+    c.args.seat.now c.requires.works.seat

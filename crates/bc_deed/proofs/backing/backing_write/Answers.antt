@@ -8,7 +8,7 @@ use Rattle.bc_hand.proofs.Knowing.{map_ok}
 use Rattle.bc_hand.proofs.Lending.{works_backing}
 use Rattle.bc_hand.proofs.Between.{did_between}
 use Rattle.bc_deed.specs.Asked.{HasFailedOr, MayWrite, size_of}
-use Rattle.bc_deed.proofs.May.{did_nothing, map_if_err, failed_or_between, size_waited, may_write_waited}
+use Rattle.bc_deed.proofs.May.{did_nothing, other_number, map_if_err, failed_or_between, size_waited, may_write_waited}
 use Rattle.bc_deed.proofs.backing.backing_write.Goals as goal
 
 pub returns-in-Some-clause-err : goal.returns-in-Some-clause-err
@@ -45,7 +45,7 @@ pub return_backing-requires : goal.return_backing-requires
 return_backing-requires g c = works_backing g.C.Disk.facts g.B.Disk.facts c.args.parts.now
     c.borrow_backing-backing.new.seat c.write_in-done.new.seat c.borrow_backing-backing.new.hand
     c.borrow_backing-backing.result.0 c.write_in-done.new.backing _ c.borrow_backing-backing.ensures.lent
-    c.write_in-done.ensures.seat c.write_in-done.ensures.kept refl refl c.write_in-done.ensures.backing
+    c.write_in-done.ensures.seat c.write_in-done.ensures.kept (other_number 5) c.write_in-done.ensures.backing
 
 pub returns-clause-ok : goal.returns-clause-ok
 returns-clause-ok g c = map_ok c.write_in-done.result (λ did.

@@ -1,4 +1,4 @@
-use Rattle.std.proofs.Common.{◌≡◌, ℕ, ◌+◌, ◌/◌, List, ◌++◌, length, refl, sym, ap, ◌∙◌, subst}
+use Rattle.std.proofs.Common.{◌≡◌, ℕ, ◌+◌, ◌/◌, List, ◌++◌, length, refl, sym, ap, ◌∙◌, subst, arith}
 use Rattle.bc_model.specs.Sector.{Value, values_of}
 use Rattle.bc_model.proofs.Sectors.{length_values_of}
 use Rattle.bc_disk.specs.Disk.{IsRead}
@@ -7,7 +7,7 @@ use Rattle.bc_events.specs.declared.event.Deed.TheVariants as deed
 use Rattle.bc_events.specs.declared.event.Failure.TheVariants as failure
 use Rattle.bc_hand.specs.Seats.{note}
 use Rattle.bc_deed.specs.Asked.{IsWithin}
-use Rattle.bc_deed.proofs.May.{committed_backing, may_read}
+use Rattle.bc_deed.proofs.May.{committed_backing, on_disk, may_read, backing_changed}
 use Rattle.bc_deed.proofs.Devices.{behind_read, behind_failed_read}
 use Rattle.bc_deed.proofs.backing.read_in.Goals as goal
 
@@ -30,7 +30,7 @@ called-requires-clause-may g c =
 pub returns-in-Ok-extend_from_slice-clause-backing : goal.returns-in-Ok-extend_from_slice-clause-backing
 returns-in-Ok-extend_from_slice-clause-backing g c = let v = c.args.seat.now in
     committed_backing g.C.Disk.facts g.B.Disk.facts v c.called.new.seat c.args.backing.now _
-    (deed.BackingRead c.args.first c.from_sectors-values.result) c.requires.holds c.requires.backing
+    (deed.BackingRead c.args.first c.from_sectors-values.result) c.requires.seat c.requires.holds c.requires.backing
     c.called.ensures.did
     (λ x on. behind_read g.C.Disk.facts g.B.Disk.facts c.args.backing.now _ x v.first on refl refl
     c.args.first c.from_sectors-values.result c.in-Ok.ensures.kept c.in-Ok.ensures.counted)
@@ -38,7 +38,18 @@ returns-in-Ok-extend_from_slice-clause-backing g c = let v = c.args.seat.now in
 pub returns-in-Err-clause-backing : goal.returns-in-Err-clause-backing
 returns-in-Err-clause-backing g c = let v = c.args.seat.now in
     committed_backing g.C.Disk.facts g.B.Disk.facts v c.called-in-Err.new.seat c.args.backing.now _
-    (deed.DeviceFault (failure.Read device.Backing)) c.requires.holds c.requires.backing
+    (deed.DeviceFault (failure.Read device.Backing)) c.requires.seat c.requires.holds c.requires.backing
     c.called-in-Err.ensures.did
     (λ x on. behind_failed_read g.C.Disk.facts g.B.Disk.facts c.args.backing.now _ x v.first on refl refl
     c.in-Err.ensures.kept c.in-Err.ensures.counted)
+
+pub called-requires-clause-alone : goal.called-requires-clause-alone
+called-requires-clause-alone g c = backing_changed
+
+pub called-requires-in-Err-clause-alone : goal.called-requires-in-Err-clause-alone
+called-requires-in-Err-clause-alone g c = backing_changed
+
+pub read-requires : goal.read-requires
+read-requires g c = let s = c.requires.sectors in let inside = s.3 in
+    let all = on_disk g.C.Disk.facts g.B.Disk.facts c.args.seat.now c.args.backing.now c.requires.backing in
+    record { on_disk = (length c.args.into.now / 512, s.1, s.0, omega arith) }

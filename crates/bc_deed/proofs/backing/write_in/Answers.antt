@@ -1,27 +1,30 @@
-use Rattle.std.proofs.Common.{◌≡◌, ℕ, ◌+◌, List, Some, refl, ap, ◌∙◌, subst}
+use Rattle.std.proofs.Common.{◌≡◌, ℕ, ◌+◌, List, length, Some, refl, ap, ◌∙◌, subst, arith}
 use Rattle.bc_model.specs.Sector.{Value, values_of}
 use Rattle.bc_disk.specs.Disk.{IsWritten, IsFailedWrite}
 use Rattle.bc_events.specs.declared.event.Deed.TheVariants as deed
 use Rattle.bc_events.specs.declared.event.Failure.TheVariants as failure
-use Rattle.bc_deed.proofs.May.{committed_backing, may_write, may_fail_write}
+use Rattle.bc_deed.proofs.May.{committed_backing, plain_by, on_disk, may_write, may_fail_write, backing_changed}
 use Rattle.bc_deed.proofs.Devices.{behind_write, behind_failed_write}
 use Rattle.bc_deed.proofs.backing.write_in.Goals as goal
 
 pub called-requires-clause-may : goal.called-requires-clause-may
 called-requires-clause-may g c = may_write g.C.Disk.facts g.B.Disk.facts c.args.seat.now c.args.first
-    c.args.of c.args.values c.requires.seat c.requires.untold c.requires.line c.requires.some c.requires.may
+    c.args.of c.args.values c.requires.seat c.requires.untold c.requires.line
+    (plain_by g.C.Disk.facts g.B.Disk.facts c.args.parts.now c.args.seat.now c.requires.run c.requires.plain)
+    c.requires.some c.requires.may
 
 pub called-requires-in-Err-clause-may : goal.called-requires-in-Err-clause-may
 called-requires-in-Err-clause-may g c = may_fail_write g.C.Disk.facts g.B.Disk.facts c.args.seat.now
-    c.args.first c.args.of c.args.values c.requires.seat c.requires.untold c.requires.line c.requires.some
-    c.requires.may
+    c.args.first c.args.of c.args.values c.requires.seat c.requires.untold c.requires.line
+    (plain_by g.C.Disk.facts g.B.Disk.facts c.args.parts.now c.args.seat.now c.requires.run c.requires.plain)
+    c.requires.some c.requires.may
 
 pub returns-in-Ok-clause-backing : goal.returns-in-Ok-clause-backing
 returns-in-Ok-clause-backing g c = let v = c.args.seat.now in
     let values : values_of c.deref.result.now ≡ c.args.values =
     ap (λ (bs : List ℕ). values_of bs) c.deref.ensures.value ∙ c.requires.bytes.0 in
     committed_backing g.C.Disk.facts g.B.Disk.facts v c.called.new.seat c.args.backing.now _
-    (deed.BackingWrite c.args.first (Some c.args.of) c.args.values) c.requires.holds c.requires.backing
+    (deed.BackingWrite c.args.first (Some c.args.of) c.args.values) c.requires.seat c.requires.holds c.requires.backing
     c.called.ensures.did
     (λ x on. behind_write g.C.Disk.facts g.B.Disk.facts c.args.backing.now _ x v.first on refl refl
     c.args.first (Some c.args.of) c.args.values
@@ -34,10 +37,28 @@ returns-clause-backing g c = let v = c.args.seat.now in
     let values : values_of c.deref.result.now ≡ c.args.values =
     ap (λ (bs : List ℕ). values_of bs) c.deref.ensures.value ∙ c.requires.bytes.0 in
     committed_backing g.C.Disk.facts g.B.Disk.facts v c.called-in-Err.new.seat c.args.backing.now _
-    (deed.DeviceFault (failure.BackingWrite c.args.first (Some c.args.of) c.args.values)) c.requires.holds
+    (deed.DeviceFault (failure.BackingWrite c.args.first (Some c.args.of) c.args.values)) c.requires.seat c.requires.holds
     c.requires.backing c.called-in-Err.ensures.did
     (λ x on. behind_failed_write g.C.Disk.facts g.B.Disk.facts c.args.backing.now _ x v.first on refl refl
     c.args.first (Some c.args.of) c.args.values
     (subst (λ (vs : List Value). IsFailedWrite (c.args.backing.now.offset + c.args.first) vs
     (g.B.Disk.facts c.args.backing.now.disk) (g.B.Disk.facts c.write.new.self)) values c.in-Err.ensures.failed)
     c.in-Err.ensures.counted)
+
+pub called-requires-clause-alone : goal.called-requires-clause-alone
+called-requires-clause-alone g c = backing_changed
+
+pub called-requires-in-Err-clause-alone : goal.called-requires-in-Err-clause-alone
+called-requires-in-Err-clause-alone g c = backing_changed
+
+pub write-requires : goal.write-requires
+write-requires g c = let inside = c.requires.inside in
+    let all = on_disk g.C.Disk.facts g.B.Disk.facts c.args.seat.now c.args.backing.now c.requires.backing in
+    record {
+      on_disk = (
+        length c.args.values,
+        c.requires.some,
+        ap (λ (bs : List ℕ). length bs) c.deref.ensures.value ∙ c.requires.bytes.1,
+        omega arith,
+      );
+    }

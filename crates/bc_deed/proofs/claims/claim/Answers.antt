@@ -1,7 +1,7 @@
 use Rattle.std.proofs.Common.{refl, ap, ◌∙◌}
 use Rattle.bc_hand.proofs.Knowing.{note_waited}
 use Rattle.bc_hand.proofs.Lending.{works_flight}
-use Rattle.bc_deed.proofs.May.{did_nothing, map_if_ok, map_if_err}
+use Rattle.bc_deed.proofs.May.{did_nothing, other_number, map_if_ok, map_if_err}
 use Rattle.bc_deed.proofs.Claiming.{claimed_between, halted_between}
 use Rattle.bc_deed.proofs.claims.claim.Goals as goal
 
@@ -20,7 +20,7 @@ pub return_flight-requires : goal.return_flight-requires
 return_flight-requires g c = works_flight g.C.Disk.facts g.B.Disk.facts c.args.parts.now
     c.borrow_flight-flight.new.seat c.claim_in-done.new.seat c.borrow_flight-flight.new.hand
     c.borrow_flight-flight.result.0 c.claim_in-done.new.flight _ c.borrow_flight-flight.ensures.lent
-    c.claim_in-done.ensures.seat c.claim_in-done.ensures.kept refl refl c.claim_in-done.ensures.flight
+    c.claim_in-done.ensures.seat c.claim_in-done.ensures.kept (other_number 1) c.claim_in-done.ensures.flight
 
 pub returns-clause-ok : goal.returns-clause-ok
 returns-clause-ok g c = map_if_ok c.claim_in-done.result (λ done h.

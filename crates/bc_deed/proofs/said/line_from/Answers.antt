@@ -1,4 +1,3 @@
-use Rattle.std.specs.Prelude.{◌==◌}
 use Rattle.bc_deed.proofs.May.{did_nothing, may_begin_line, none_changed, works_kept}
 use Rattle.bc_deed.proofs.said.line_from.Goals as goal
 
@@ -13,9 +12,9 @@ commit-requires-clause-may g c = let v = c.args.seat.now in
 pub returns-in-Ok-clause-works : goal.returns-in-Ok-clause-works
 returns-in-Ok-clause-works g c = works_kept g.C.Disk.facts g.B.Disk.facts c.args.parts.now c.args.seat.now
     c.commit.new.seat c.args.hand.now _ c.requires.works c.in-Ok.ensures.ok.seat c.in-Ok.ensures.kept
-    (λ k. none_changed (k == 1) (k == 4) (k == 5))
+    none_changed
 
 pub returns-in-Err-clause-works : goal.returns-in-Err-clause-works
 returns-in-Err-clause-works g c = works_kept g.C.Disk.facts g.B.Disk.facts c.args.parts.now c.args.seat.now
     c.commit.new.seat c.args.hand.now _ c.requires.works c.in-Err.ensures.err.seat c.in-Err.ensures.kept
-    (λ k. none_changed (k == 1) (k == 4) (k == 5))
+    none_changed
