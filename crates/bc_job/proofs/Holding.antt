@@ -10,33 +10,60 @@ use Rattle.bc_events.specs.Columns.{halt_of}
 use Rattle.bc_events.specs.declared.event.Event.{Event}
 use Rattle.bc_machine.specs.Frame.{stays_halted}
 use Rattle.bc_machine.specs.declared.part.BackingPart.{BackingPart}
+use Rattle.bc_machine.specs.declared.part.BucketsPart.{BucketsPart}
+use Rattle.bc_tree.specs.Spine.{Spine}
+use Rattle.bc_journal.specs.Journal.{Journal}
 use Rattle.bc_machine.specs.declared.part.CorePart.{CorePart}
 use Rattle.bc_hand.specs.declared.hand.Hand.{Hand}
-use Rattle.bc_hand.specs.Seats.{Kinds, kinds, empty, Works}
+use Rattle.bc_hand.specs.declared.hand.LeafHand.{LeafHand}
+use Rattle.bc_hand.specs.Seats.{HasNoneBehindFlight, Kinds, kinds, part_of, empty, Works}
 use Rattle.bc_hand.proofs.Knowing.{View, m}
 
 is_none : {A : Type 0} (o : Option A) → is_some o ≡ false → o ≡ None
 is_none None is = refl
 is_none (Some x) is = absurd (cc)
 
+no_leaves : (o : Option LeafHand) → part_of o ≡ None → o ≡ None
+no_leaves None is = refl
+no_leaves (Some x) is = absurd (cc)
+
 -- a step that holds after it what it held before holds nothing where there was nothing
 pub still_empty : {C B : Type 0} (h k : Hand C B) → h ≡ empty → kinds k ≡ kinds h → k ≡ empty
 still_empty {C} {B} h k is same =
     let all : kinds k ≡ kinds {C = C} {B = B} empty = same ∙ ap (λ (x : Hand C B). kinds x) is in
+    let s : k.spine ≡ None = is_none k.spine (ap (λ (x : Kinds). x.spine) all) in
+    let l : k.leaves ≡ None = no_leaves k.leaves (ap (λ (x : Kinds). x.leaves) all) in
     let f : k.flight ≡ None = is_none k.flight (ap (λ (x : Kinds). x.flight) all) in
+    let u : k.buckets ≡ None = is_none k.buckets (ap (λ (x : Kinds). x.buckets) all) in
+    let j : k.journal ≡ None = is_none k.journal (ap (λ (x : Kinds). x.journal) all) in
     let c : k.cache ≡ None = is_none k.cache (ap (λ (x : Kinds). x.cache) all) in
     let b : k.backing ≡ None = is_none k.backing (ap (λ (x : Kinds). x.backing) all) in
-    ap (λ (o : Option InFlight). record k { flight = o }) f
-    ∙ ap (λ (o : Option C). record k { flight = None; cache = o }) c
-    ∙ ap (λ (o : Option (BackingPart B)). record k { flight = None; cache = None; backing = o }) b
+    ap (λ (o : Option Spine). record k { spine = o }) s
+    ∙ ap (λ (o : Option LeafHand). record k { spine = None; leaves = o }) l
+    ∙ ap (λ (o : Option InFlight). record k { spine = None; leaves = None; flight = o }) f
+    ∙ ap (λ (o : Option BucketsPart). record (empty {C = C} {B = B}) {
+      buckets = o;
+      journal = k.journal;
+      cache = k.cache;
+      backing = k.backing;
+    }) u
+    ∙ ap (λ (o : Option Journal). record (empty {C = C} {B = B}) {
+      journal = o;
+      cache = k.cache;
+      backing = k.backing;
+    }) j
+    ∙ ap (λ (o : Option C). record (empty {C = C} {B = B}) { cache = o; backing = k.backing }) c
+    ∙ ap (λ (o : Option (BackingPart B)). record (empty {C = C} {B = B}) { backing = o }) b
 
 -- with nothing in hand a part may be taken
 pub in_order : {C B : Type 0} (h : Hand C B) → h ≡ empty
-    → h.flight ≡ None → (h.cache ≡ None) × (h.backing ≡ None)
-in_order {C} {B} h is none = (
-  ap (λ (x : Hand C B). x.cache) is,
-  ap (λ (x : Hand C B). x.backing) is,
-)
+    → h.flight ≡ None → HasNoneBehindFlight h
+in_order {C} {B} h is none = record {
+  buckets = ap (λ (x : Hand C B). x.buckets) is;
+  journal = ap (λ (x : Hand C B). x.journal) is;
+  cache = ap (λ (x : Hand C B). x.cache) is;
+  backing = ap (λ (x : Hand C B). x.backing) is;
+}
 
 -- a halt stays, whatever comes behind it
 stays_more : (es others : List Event) (d : Device) → halt_of es ≡ Some d → halt_of (es ++ others) ≡ Some d

@@ -16,6 +16,7 @@ use Rattle.bc_parts.specs.Seat.{PartsView}
 use Rattle.bc_events.specs.Acts.{is_exclusive}
 use Rattle.bc_flight.specs.declared.claim.Claim.{Claim}
 use Rattle.bc_machine.specs.Frame.{Range}
+use Rattle.bc_machine.specs.World.{are_plain}
 use Rattle.bc_machine.specs.declared.part.CorePart.{CorePart}
 use Rattle.bc_hand.specs.declared.hand.Hand.{Hand}
 use Rattle.bc_hand.specs.Seats.{Did, IsCoreSeat, Works, empty}
@@ -76,11 +77,11 @@ module _ {C B : Type 0} (cache_facts : C → DiskFacts) (backing_facts : B → D
 
   pub made_claim : (c : Claim) (u v w : View cache_facts backing_facts) (first count : ℕ) (share : Share)
       → c ≡ record { seat = w.first; first = first; count = count; share = share } → 1 ≤ count
-      → IsCoreSeat cache_facts backing_facts v → HasDone cache_facts backing_facts [] u v
-      → v.promises ≡ u.promises → Did cache_facts backing_facts (Some (deed.Claim first count share)) v w
+      → IsCoreSeat cache_facts backing_facts v → are_plain cache_facts backing_facts v.run.start ≡ true
+      → HasDone cache_facts backing_facts [] u v → v.promises ≡ u.promises → Did cache_facts backing_facts (Some (deed.Claim first count share)) v w
       → HasMadeClaim cache_facts backing_facts c first count share u w
-  made_claim c u v w first count share is some seat before room did =
-      let fresh = fresh_claim cache_facts backing_facts v w first count share seat did in
+  made_claim c u v w first count share is some seat plain before room did =
+      let fresh = fresh_claim cache_facts backing_facts v w first count share seat plain did in
       let used = did.is.promises in record {
         its = record {
           its_seat = ap (λ (x : Claim). x.seat) is;
@@ -98,10 +99,12 @@ module _ {C B : Type 0} (cache_facts : C → DiskFacts) (backing_facts : B → D
 
   -- nothing is claimed once the claim is let go
   pub idle_released : (p : PartsView (CorePart C B)) (v w : View cache_facts backing_facts) (h : Hand C B)
-      → h ≡ empty → Works cache_facts backing_facts p w h → IsCoreSeat cache_facts backing_facts v
+      → h ≡ empty → Works cache_facts backing_facts p w h → are_plain cache_facts backing_facts p.run.start ≡ true
+      → IsCoreSeat cache_facts backing_facts v
       → Did cache_facts backing_facts (Some deed.Release) v w → IsIdle cache_facts backing_facts p w
-  idle_released p v w h is works seat did = record {
+  idle_released p v w h is works plain seat did = record {
     works = works_empty cache_facts backing_facts p w h is works;
+    plain = plain;
     unclaimed = ap (λ (r : Range). r.count)
         (note_committed cache_facts backing_facts v w deed.Release seat did.is).range;
   }

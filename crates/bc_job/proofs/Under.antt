@@ -11,6 +11,7 @@ use Rattle.bc_events.specs.declared.event.Deed.{Deed}
 use Rattle.bc_events.specs.declared.event.Deed.TheVariants as deed
 use Rattle.bc_events.specs.declared.event.Failure.TheVariants as failure
 use Rattle.bc_machine.specs.Frame.{Range}
+use Rattle.bc_machine.specs.World.{are_plain}
 use Rattle.bc_machine.specs.Note.{Note, IsFirmer}
 use Rattle.bc_hand.specs.Seats.{note, IsCoreSeat, Did}
 use Rattle.bc_hand.specs.declared.error.StepError.{StepError}
@@ -48,13 +49,14 @@ last_of x line first n m is h = subst (λ k. IsLast x line first k) (sym is) h
 module _ {C B : Type 0} (cache_facts : C → DiskFacts) (backing_facts : B → DiskFacts) where
   pub fresh_claim : (v w : View cache_facts backing_facts) (first count : ℕ) (share : Share)
       → IsCoreSeat cache_facts backing_facts v
+      → are_plain cache_facts backing_facts v.run.start ≡ true
       → Did cache_facts backing_facts (Some (deed.Claim first count share)) v w
       → IsFresh first count share (note cache_facts backing_facts w)
-  fresh_claim v w first count share seat did =
+  fresh_claim v w first count share seat plain did =
       let firm = note_committed cache_facts backing_facts v w (deed.Claim first count share) seat did.is in record {
         range = firm.range;
         wrote = firm.wrote;
-        looked = firm.looked ∙ plain_seen cache_facts backing_facts v;
+        looked = firm.looked ∙ plain_seen cache_facts backing_facts v ∙ plain;
       }
 
   -- ---- reading

@@ -1,9 +1,10 @@
 -- What a request asks of its seat.
-use Rattle.std.specs.Prelude.{◌≡◌, ◌+◌, ◌<◌, ◌≤◌, ◌^◌}
+use Rattle.std.specs.Prelude.{◌≡◌, ◌+◌, ◌<◌, ◌≤◌, ◌^◌, true}
 use Rattle.bc_disk.specs.Disk.{DiskFacts}
 use Rattle.bc_parts.specs.Seat.{PartsView}
 use Rattle.bc_events.specs.declared.event.Line.{Line}
 use Rattle.bc_machine.specs.Plain.{worker_of}
+use Rattle.bc_machine.specs.World.{are_plain}
 use Rattle.bc_machine.specs.declared.part.CorePart.{CorePart}
 use Rattle.bc_hand.specs.Seats.{View, Works, empty, note}
 use Rattle.bc_deed.specs.Asked.{size_of}
@@ -18,9 +19,10 @@ pub record IsRange (job : Job) : Type 0 where
   pub end : job.first + job.count < 2 ^ 64
 
 module _ {C B : Type 0} (cache_facts : C → DiskFacts) (backing_facts : B → DiskFacts) where
-  -- a seat of this run that holds no part and no claim
+  -- a seat of this run, which is one over the backing device alone, that holds no part and no claim
   pub record IsIdle (p : PartsView (CorePart C B)) (v : View cache_facts backing_facts) : Type 0 where
     pub works : Works cache_facts backing_facts p v empty
+    pub plain : are_plain cache_facts backing_facts p.run.start ≡ true
     pub unclaimed : (note cache_facts backing_facts v).range.count ≡ 0
 
   -- it is of the worker that the line names, and the job tells how many sectors the data are

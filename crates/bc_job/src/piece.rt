@@ -4,6 +4,7 @@ ghost use Rattle.bc_model.specs.Sector.{values_of};
 ghost use Rattle.bc_events.specs.declared.event.Deed.{Deed};
 ghost use Rattle.bc_flight.specs.declared.claim.Share.{Share};
 ghost use Rattle.bc_machine.specs.Plain.{worker_of};
+ghost use Rattle.bc_machine.specs.World.{are_plain};
 ghost use Rattle.bc_hand.specs.Seats.{Works, empty, note};
 ghost use Rattle.bc_deed.specs.Asked.{AreSectors, IsHalted, IsWithin, size_of};
 ghost use Rattle.bc_deed.specs.Flushed.{HasDone};
@@ -40,6 +41,7 @@ fn claim_range<C: Disk + Drop, B: Disk + Drop, R: Wait>(
     share: Share,
 ) -> Result<Claim, StepError>
     requires works { Works C.facts B.facts parts.now seat.old hand.old }
+    requires plain { are_plain C.facts B.facts parts.now.run.start ≡ true }
     requires empty { hand.old ≡ empty }
     requires promise { 0 < seat.old.promises }
     requires none { (note C.facts B.facts seat.old).range.count ≡ 0 }
@@ -84,6 +86,7 @@ fn read_under<C: Disk + Drop, B: Disk + Drop, R: Wait, G: Gate>(
     gate: &G,
 ) -> Result<(), StepError>
     requires works { Works C.facts B.facts parts.now seat.old hand.old }
+    requires plain { are_plain C.facts B.facts parts.now.run.start ≡ true }
     requires empty { hand.old ≡ empty }
     requires promise { 1 < seat.old.promises }
     requires line { worker_of seat.old.first ≡ of.worker }
@@ -163,6 +166,7 @@ fn write_under<C: Disk + Drop, B: Disk + Drop, R: Wait>(
     force: bool,
 ) -> Result<(), StepError>
     requires works { Works C.facts B.facts parts.now seat.old hand.old }
+    requires plain { are_plain C.facts B.facts parts.now.run.start ≡ true }
     requires empty { hand.old ≡ empty }
     requires promise { (if force then 3 else 1) ≤ seat.old.promises }
     requires line { worker_of seat.old.first ≡ of.worker }

@@ -10,7 +10,8 @@ use Rattle.bc_data.specs.Example.{zero_value, one_value}
 use Rattle.bc_data.proofs.Asked.{run_one}
 use Rattle.bc_machine.specs.declared.part.BackingPart.{BackingPart}
 use Rattle.bc_machine.specs.declared.part.CorePart.TheVariants as part
-use Rattle.bc_machine.specs.World.{World, opening, IsEnabled, after}
+use Rattle.bc_machine.specs.World.{World, opening, IsBackingOf, IsEnabled, after}
+use Rattle.bc_machine.proofs.Viewing.{plain_view}
 use Rattle.bc_events.specs.declared.event.Deed.TheVariants.{Claim as ClaimDeed, BackingWrite, BackingBarrier}
 use Rattle.bc_flight.specs.declared.claim.Share.TheVariants.{Exclusive}
 use Rattle.bc_events.specs.declared.event.Event.{Event}
@@ -52,36 +53,40 @@ settles = record { seat = 16; deed = BackingBarrier }
 claim_on : IsEnabled x0 claims
 claim_on = record {
   seat = refl;
-  allowed = λ told. record {
-    seat = refl;
-    course = (
-      record {
-        data_allows = (
-          record {
-            heard = refl;
-            steps = tt;
-            can = record {
-              none = refl;
-              inside = omega arith;
-              apart = λ k ne. inr (λ s p q. let q1 = q.1 in omega arith);
-            };
-          },
-          tt,
-        );
-        asks = refl;
-      },
-      (
+  allowed = λ told plain. record {
+    enabled = record {
+      seat = refl;
+      course = (
         record {
-          data_allows = (record { heard = refl; steps = tt; can = λ s covers. refl }, tt);
+          data_allows = (
+            record {
+              heard = refl;
+              steps = tt;
+              can = record {
+                none = refl;
+                inside = omega arith;
+                apart = λ k ne. inr (λ s p q. let q1 = q.1 in omega arith);
+              };
+            },
+            tt,
+          );
           asks = refl;
         },
-        tt,
-      ),
-    );
-    fit = omega arith;
-    its_line = tt;
-    plain = λ _. (tt, (tt, tt));
+        (
+          record {
+            data_allows = (record { heard = refl; steps = tt; can = λ s covers. refl }, tt);
+            asks = refl;
+          },
+          tt,
+        ),
+      );
+      fit = omega arith;
+      its_line = tt;
+      plain = λ _. (tt, (tt, tt));
+    };
+    names = tt;
   };
+  follows = λ o is course. let t = is.with_cache in absurd (cc);
 }
 
 -- the claim, once it was looked at
@@ -91,48 +96,56 @@ looked = record (new_claim 0 1 true) { looked = true }
 write_on : IsEnabled (after x0 claims) writes
 write_on = record {
   seat = refl;
-  allowed = λ told. record {
-    seat = refl;
-    course = (
-      record {
-        data_allows = (
-          record {
-            heard = inl refl;
-            steps = tt;
-            can = record {
-              some = λ e. cc;
-              exclusive = refl;
-              first_write = refl;
-              bare = λ s v e. run_one 0 one_value s v
-                  (λ s v. Covers looked s × IsBare true looked 0 s)
-                  ((omega arith, omega arith), inl refl) e;
-            };
-          },
-          tt,
-        );
-        asks = refl;
-      },
-      tt,
-    );
-    fit = tt;
-    its_line = refl;
-    plain = λ _. (tt, tt);
+  allowed = λ told plain. record {
+    enabled = record {
+      seat = refl;
+      course = (
+        record {
+          data_allows = (
+            record {
+              heard = inl refl;
+              steps = tt;
+              can = record {
+                some = λ e. cc;
+                exclusive = refl;
+                first_write = refl;
+                bare = λ s v e. run_one 0 one_value s v
+                    (λ s v. Covers looked s × IsBare true looked 0 s)
+                    ((omega arith, omega arith), inl refl) e;
+              };
+            },
+            tt,
+          );
+          asks = refl;
+        },
+        tt,
+      );
+      fit = tt;
+      its_line = refl;
+      plain = λ _. (tt, tt);
+    };
+    names = tt;
   };
+  follows = λ o is course. let t = is.with_cache in absurd (cc);
 }
 
 barrier_on : IsEnabled (after (after x0 claims) writes) settles
 barrier_on = record {
   seat = refl;
-  allowed = λ told. record {
-    seat = refl;
-    course = (
-      record { data_allows = (record { heard = inl refl; steps = tt; can = tt }, tt); asks = refl },
-      tt,
-    );
-    fit = tt;
-    its_line = tt;
-    plain = λ _. (tt, tt);
+  allowed = λ told plain. record {
+    enabled = record {
+      seat = refl;
+      course = (
+        record { data_allows = (record { heard = inl refl; steps = tt; can = tt }, tt); asks = refl },
+        tt,
+      );
+      fit = tt;
+      its_line = tt;
+      plain = λ _. (tt, tt);
+    };
+    names = tt;
   };
+  follows = λ o is course. let t = is.with_cache in absurd (cc);
 }
 
 -- ---- what they leave
@@ -149,8 +162,8 @@ none = record {
   left = part_of fresh;
   first_is = refl;
   left_is = refl;
-  run = record { cache = refl; course = tt };
-  stands = record {
+  run = record { plain = refl; course = tt };
+  stands = λ y view. subst (IsBackingOf none_used shown_facts (part_of fresh)) (sym (plain_view x0 y refl view)) (record {
     stands = record {
       sectors = refl;
       content = (
@@ -163,7 +176,7 @@ none = record {
     offset = refl;
     size = refl;
     inside = omega arith;
-  };
+  });
 }
 
 write : HasRun fresh undoable a_write
@@ -172,8 +185,8 @@ write = record {
   left = part_of undoable;
   first_is = refl;
   left_is = refl;
-  run = record { cache = refl; course = (claim_on, (write_on, tt)) };
-  stands = record {
+  run = record { plain = refl; course = (claim_on, (write_on, tt)) };
+  stands = λ y view. subst (IsBackingOf none_used shown_facts (part_of undoable)) (sym (plain_view (after (after x0 claims) writes) y refl view)) (record {
     stands = record {
       sectors = refl;
       content = (
@@ -187,7 +200,7 @@ write = record {
     offset = refl;
     size = refl;
     inside = omega arith;
-  };
+  });
 }
 
 firm : HasRun fresh kept a_firm_write
@@ -196,8 +209,8 @@ firm = record {
   left = part_of kept;
   first_is = refl;
   left_is = refl;
-  run = record { cache = refl; course = (claim_on, (write_on, (barrier_on, tt))) };
-  stands = record {
+  run = record { plain = refl; course = (claim_on, (write_on, (barrier_on, tt))) };
+  stands = λ y view. subst (IsBackingOf none_used shown_facts (part_of kept)) (sym (plain_view (after (after (after x0 claims) writes) settles) y refl view)) (record {
     stands = record {
       sectors = refl;
       content = (
@@ -211,7 +224,7 @@ firm = record {
     offset = refl;
     size = refl;
     inside = omega arith;
-  };
+  });
 }
 
 pub law_runs : LawRuns
@@ -228,6 +241,13 @@ law_teeth = record {
       (λ s. in_besides (at_run 0 (one_value ∷ []) s)) 0 in absurd (cc);
   backing = part_of fresh;
   told = refl;
-  course = (record { seat = refl; allowed = λ is. absurd (cc) }, tt);
+  course = (
+    record {
+      seat = refl;
+      allowed = λ is plain. absurd (cc);
+      follows = λ o is course. let t = is.told in absurd (cc);
+    },
+    tt,
+  );
   wrong = λ legal. let is : one_value ≡ zero_value = legal.0 0 one_value refl in absurd (cc);
 }

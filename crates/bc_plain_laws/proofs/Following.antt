@@ -5,8 +5,8 @@ use Rattle.bc_disk.specs.Disk.{DiskFacts}
 use Rattle.bc_parts.specs.Machine.{IsRun}
 use Rattle.bc_events.specs.Run as core
 use Rattle.bc_events.specs.declared.event.Event.{Event}
-use Rattle.bc_machine.specs.World.{World, after, is_told}
-use Rattle.bc_machine.proofs.Baring.{told_event}
+use Rattle.bc_machine.specs.World.{World, after, is_plain, is_told}
+use Rattle.bc_machine.specs.Standing.{told_event}
 use Rattle.bc_hand.specs.Seats.{core as machine}
 
 pub told_events : (x : World) (es : List Event) → is_told (fold after x es) ≡ is_told x
@@ -30,8 +30,8 @@ now_events x [] = refl
 now_events x (e ∷ es) = now_events (after x e) es
 
 module _ {C B : Type 0} (cache_facts : C → DiskFacts) (backing_facts : B → DiskFacts) where
-  pub follows : (x : World) (es : List Event) → is_told x ≡ true
+  pub follows : (x : World) (es : List Event) → is_told x ≡ true → is_plain x ≡ true
       → IsRun (machine cache_facts backing_facts) x es → core.IsRun x.opening x.now es
-  follows x [] told h = tt
-  follows x (e ∷ es) told h =
-      (h.0.allowed told, follows (after x e) es (told_event x e ∙ told) h.1)
+  follows x [] told plain h = tt
+  follows x (e ∷ es) told plain h =
+      ((h.0.allowed told plain).enabled, follows (after x e) es (told_event x e ∙ told) plain h.1)

@@ -3,6 +3,7 @@ use Rattle.std.proofs.Common.{◌≡◌, ℕ, Bool, true, false, List, [], ◌�
 use Rattle.std.specs.Prelude.{fold, is_some}
 use Rattle.bc_model.specs.Sector.{Value}
 use Rattle.bc_model.specs.Pattern.{zeros}
+use Rattle.bc_disk.specs.Device.{quiet}
 use Rattle.bc_disk.specs.declared.disk.Device.{Device}
 use Rattle.bc_whole.specs.State as whole
 use Rattle.bc_known.specs.Acts.{Act, FailCache}
@@ -52,6 +53,9 @@ module _ (w : core.Opening) (st : core.State) (plain : w.machine.flow.plain ≡ 
     ahead = λ s. zeros;
     cache = no_side;
     backing = no_side;
+    held = quiet (λ s. zeros);
+    begun = record { spine = None; buckets = None; journal = None; leaves = []; leaf_parts = 0 };
+    log = [];
   }
 
   -- what halts nothing

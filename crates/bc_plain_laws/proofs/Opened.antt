@@ -1,14 +1,15 @@
 -- What a plain run opens with is a sound pair, and no two seats are of one worker.
-use Rattle.std.proofs.Common.{◌≡◌, ℕ, ◌+◌, ◌/◌, ◌%◌, ◌<◌, refl, arith, if◌then◌else◌}
+use Rattle.std.proofs.Common.{◌≡◌, Bool, ℕ, ◌+◌, ◌/◌, ◌%◌, ◌<◌, refl, arith, if◌then◌else◌}
 use Rattle.std.proofs.lemmas.Bool.{ltb-true}
 use Rattle.bc_model.specs.Sector.{Image}
 use Rattle.bc_data.specs.Laws.{IsPair}
 use Rattle.bc_events.specs.Laws.{HaveWorkers}
 use Rattle.bc_machine.specs.Frame.{by_test}
-use Rattle.bc_machine.specs.Plain.{plain_data, plain_opening, worker_of}
+use Rattle.bc_machine.specs.Plain.{bare_data, bare_opening, worker_of}
 
-pub pair_of : (size : ℕ) (cache held : Image) → IsPair (plain_data size cache held)
-pair_of size cache held = record {
+pub pair_of : (plain : Bool) (size : ℕ) (cache held : Image)
+    → IsPair (bare_data plain size cache held)
+pair_of plain size cache held = record {
   books = record {
     window = λ b. (omega arith, omega arith);
     inside = λ s r is. absurd (cc);
@@ -34,6 +35,7 @@ apart a b low high = by_test (a % 16) 0
     (λ other_a. by_test (b % 16) 0 (λ t. 320 + a ≡ (if t then b / 16 else 320 + b) → a ≡ b)
     (λ first_b is. absurd (omega arith)) (λ other is. omega arith))
 
-pub workers_of : (size : ℕ) (cache held : Image) → HaveWorkers (plain_opening size cache held)
-workers_of size cache held a b low high is =
+pub workers_of : (plain : Bool) (size : ℕ) (cache held : Image)
+    → HaveWorkers (bare_opening plain size cache held)
+workers_of plain size cache held a b low high is =
     apart a b (ltb-true a 320 low) (ltb-true b 320 high) is

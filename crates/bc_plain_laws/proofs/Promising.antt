@@ -1,5 +1,5 @@
 -- From what the end of a run says to what it promises.
-use Rattle.std.proofs.Common.{◌≡◌, inl, inr, ℕ, ◌+◌, ◌≤◌, true, false, List, [], ◌∷◌, reverse, Option, Some, None, append-nil, refl, sym, ap, ◌∙◌, subst}
+use Rattle.std.proofs.Common.{◌≡◌, inl, inr, ℕ, ◌+◌, ◌≤◌, Bool, true, false, List, [], ◌∷◌, reverse, Option, Some, None, append-nil, refl, sym, ap, ◌∙◌, subst}
 use Rattle.std.specs.Prelude.{is_some, ◌&&◌}
 use Rattle.std.proofs.lemmas.Bool.{and_parts}
 use Rattle.bc_model.specs.Sector.{Value, Image}
@@ -19,7 +19,7 @@ use Rattle.bc_machine.specs.declared.part.BackingPart.{BackingPart}
 use Rattle.bc_machine.specs.declared.part.CorePart.{CorePart}
 use Rattle.bc_machine.specs.declared.part.CorePart.TheVariants as part
 use Rattle.bc_machine.specs.Plain.{no_parts}
-use Rattle.bc_machine.specs.World.{World, behind, data_of, is_told, is_some_image, image_of, cache_among, data_among, opening, IsBacking}
+use Rattle.bc_machine.specs.World.{World, behind, data_of, is_told, is_some_image, image_of, cache_among, are_plain, data_among, opening, IsBackingOf, IsBacking}
 use Rattle.bc_hand.specs.Seats.{core as machine}
 use Rattle.bc_plain_laws.specs.Promises.{Survives, IsStable, IsOutside, IsUntouched}
 use Rattle.bc_plain_laws.specs.Laws.{HasHistory, EndsFirmly, IsPlainRun, last, data_offset, data_size, LawHistory, LawLegal, LawSurvives, LawStable, LawOutside, Promises, LawPromises}
@@ -60,6 +60,9 @@ module _ {C B : Type 0} (cache_facts : C → DiskFacts) (backing_facts : B → D
   abbrev cached : Image
   cached = image_of (cache_among cache_facts backing_facts ps).holds
 
+  abbrev plain : Bool
+  plain = are_plain cache_facts backing_facts ps
+
   abbrev end : World
   end = last cache_facts backing_facts ps es
 
@@ -67,10 +70,16 @@ module _ {C B : Type 0} (cache_facts : C → DiskFacts) (backing_facts : B → D
   st = core.run w first.now es
 
   told : is_told first ≡ true
-  told = ap (λ b. b && first.backing.told) h.cache ∙ on
+  told = ap (λ b. b && first.backing.told) (no_cache ps h.plain) ∙ on
+    where
+      no_cache : (qs : List (CorePart C B)) → are_plain cache_facts backing_facts qs ≡ true
+          → is_some_image (cache_among cache_facts backing_facts qs).holds ≡ true
+      no_cache [] is = refl
+      no_cache (part.Cache c ∷ qs) is = absurd (cc)
+      no_cache (q ∷ qs) is = no_cache qs is
 
   course : core.IsRun w first.now es
-  course = follows cache_facts backing_facts first es told h.course
+  course = follows cache_facts backing_facts first es told h.plain h.course
 
   now_is : end.now ≡ st
   now_is = now_events first es
@@ -81,7 +90,7 @@ module _ {C B : Type 0} (cache_facts : C → DiskFacts) (backing_facts : B → D
   history = entries_run w first.now es course ∙ append-nil (reverse (entries_of es))
 
   halted : st.machine.whole.flow.halted ≡ is_some (halt_of es)
-  halted = halted_run w first.now es None refl refl course
+  halted = halted_run w first.now es None h.plain refl course
 
   pub has_history : HasHistory end es
   has_history = record {
@@ -91,21 +100,21 @@ module _ {C B : Type 0} (cache_facts : C → DiskFacts) (backing_facts : B → D
   }
 
   pub legal : IsLegal shown (reverse (entries_of es))
-  legal = subst (IsLegal shown) history (plain_law.law_plain_now w no_parts 0 es refl
-      (pair_of size cached shown) course)
+  legal = subst (IsLegal shown) history (plain_law.law_plain_now w no_parts 0 es h.plain
+      (pair_of plain size cached shown) course)
 
   allowed : (b : Image) → MayLeave st.machine.whole.flow.backing b → (s : ℕ)
       → Allowed shown (reverse (entries_of es)) s (b s)
   allowed b left s = subst (λ H. Allowed shown H s (b s)) history
-      (((law_workers w no_parts 0 es shown (workers_of size cached shown) course).allowed s (b s)).1
-      (plain_law.law_plain_crash w no_parts 0 es refl
-      (pair_of size cached shown) course b left s))
+      (((law_workers w no_parts 0 es shown (workers_of plain size cached shown) course).allowed s (b s)).1
+      (plain_law.law_plain_crash w no_parts 0 es h.plain
+      (pair_of plain size cached shown) course b left s))
 
   stable : EndsFirmly es → (b : Image) → MayLeave st.machine.whole.flow.backing b → (s : ℕ)
       → b s ≡ now shown (reverse (entries_of es)) s
   stable firm b left s =
-      plain_law.law_plain_stable w no_parts 0 firm.before firm.seat refl
-      (pair_of size cached shown)
+      plain_law.law_plain_stable w no_parts 0 firm.before firm.seat h.plain
+      (pair_of plain size cached shown)
       (subst (core.IsRun w first.now) firm.is course)
       (subst (λ l. (core.run w first.now l).machine.whole.flow.halted ≡ false) firm.is
       (halted ∙ ap (λ (o : Option Device). is_some o) firm.running))
@@ -114,7 +123,7 @@ module _ {C B : Type 0} (cache_facts : C → DiskFacts) (backing_facts : B → D
       ∙ ap (λ H. now shown H s) history
 
   bounded : IsBounded w.machine.flow st.machine.whole.flow
-  bounded = bounded_run w first.now es refl (bounded_opened w.machine.flow) course
+  bounded = bounded_run w first.now es h.plain (bounded_opened w.machine.flow) course
 
   -- ---- the device
 
@@ -122,6 +131,9 @@ module _ {C B : Type 0} (cache_facts : C → DiskFacts) (backing_facts : B → D
       (stands : IsBacking {C = C} cache_facts backing_facts backing end) where
     abbrev after_ : DiskFacts
     after_ = backing_facts backing.disk
+
+    base : IsBackingOf {C = C} cache_facts backing_facts backing end
+    base = stands end (inl refl)
 
     abbrev content : Content
     content = behind offset held st.machine.whole.flow.backing
@@ -137,12 +149,12 @@ module _ {C B : Type 0} (cache_facts : C → DiskFacts) (backing_facts : B → D
     left_of : (left : Image) → after_.may_leave left → MayLeave content left
     left_of left can = subst (λ c. MayLeave c left) same (told_leaves end.backing.told
         (behind end.offset end.ahead (data_of end).backing) after_.holds after_.may_leave told_end
-        stands.stands.content left can)
+        base.stands.content left can)
 
     held_of : IfTold after_.holds (λ new. (t : ℕ) → Among (new t) (content.reads t))
     held_of = subst (λ c. IfTold after_.holds (λ new. (t : ℕ) → Among (new t) (c.reads t))) same
         (told_holds end.backing.told (behind end.offset end.ahead (data_of end).backing)
-        after_.holds after_.may_leave told_end stands.stands.content)
+        after_.holds after_.may_leave told_end base.stands.content)
 
     data_left : (left : Image) → after_.may_leave left
         → MayLeave st.machine.whole.flow.backing (λ s. left (offset + s))
@@ -213,7 +225,7 @@ module _ {C B : Type 0} (cache_facts : C → DiskFacts) (backing_facts : B → D
   all_of backing left ps es flight is course stands on =
       let start : List (CorePart C B) = begins_on flight backing in
       let run : IsPlainRun cache_facts backing_facts start es = record {
-        cache = refl;
+        plain = refl;
         course = subst (λ (l : List (CorePart C B)). IsRun (machine cache_facts backing_facts)
             (opening cache_facts backing_facts l) es) is course;
       } in

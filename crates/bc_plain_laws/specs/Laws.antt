@@ -1,5 +1,5 @@
--- What holds of every run that began with these parts, none of which is a cache device, or one that
--- tells what it holds; and whose backing device told what it held.
+-- What holds of every run that began with these parts, none of which is a cache device, and whose
+-- backing device told what it held.
 use Rattle.std.specs.Prelude.{◌≡◌, ℕ, ◌+◌, true, List, [], ◌∷◌, ◌++◌, reverse, None, is_some}
 use Rattle.bc_model.specs.Sector.{Image}
 use Rattle.bc_model.specs.History.{IsLegal}
@@ -13,7 +13,7 @@ use Rattle.bc_events.specs.declared.event.Event.{Event}
 use Rattle.bc_machine.specs.declared.part.BackingPart.{BackingPart}
 use Rattle.bc_machine.specs.declared.part.CorePart.{CorePart}
 use Rattle.bc_machine.specs.declared.part.CorePart.TheVariants as part
-use Rattle.bc_machine.specs.World.{World, data_of, is_some_image, cache_among, data_among, opening, IsBacking}
+use Rattle.bc_machine.specs.World.{World, data_of, are_plain, data_among, opening, IsBacking}
 use Rattle.bc_hand.specs.Seats.{core}
 use Rattle.bc_plain_laws.specs.Promises.{Survives, IsStable, IsUntouched}
 
@@ -30,9 +30,9 @@ pub record EndsFirmly (es : List Event) : Type 0 where
   pub running : halt_of es ≡ None
 
 module _ {C B : Type 0} (cache_facts : C → DiskFacts) (backing_facts : B → DiskFacts) where
-  -- each event might follow those before it; and what holds the cache, if anything does, tells
+  -- there is no cache device, and each event might follow those before it
   pub record IsPlainRun (ps : List (CorePart C B)) (es : List Event) : Type 0 where
-    pub cache : is_some_image (cache_among cache_facts backing_facts ps).holds ≡ true
+    pub plain : are_plain cache_facts backing_facts ps ≡ true
     pub course : IsRun (core cache_facts backing_facts) (opening cache_facts backing_facts ps) es
 
   -- the state that the events leave

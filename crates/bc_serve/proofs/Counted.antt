@@ -1,5 +1,5 @@
 -- What a run's calls come to in the count of faults.
-use Rattle.std.proofs.Common.{◌≡◌, ℕ, suc, true, List, [], ◌∷◌, ◌++◌, sym, subst}
+use Rattle.std.proofs.Common.{◌≡◌, inl, ℕ, suc, true, List, [], ◌∷◌, ◌++◌, refl, sym, subst}
 use Rattle.std.specs.Prelude.{map}
 use Rattle.bc_disk.specs.Device.{HasRisen}
 use Rattle.bc_disk.specs.Disk.{DiskFacts}
@@ -43,5 +43,5 @@ module _ {C B : Type 0} (cache_facts : C → DiskFacts) (backing_facts : B → D
   -- where a call failed the device has counted it
   pub run_rises : failed_in events ≡ true
       → HasRisen (backing_facts backing.disk).faults (backing_facts left.disk).faults
-  run_rises failed = subst (HasRisen (backing_facts backing.disk).faults) (sym run.device.stands.faults)
+  run_rises failed = subst (HasRisen (backing_facts backing.disk).faults) (sym (run.device _ (inl refl)).stands.faults)
       (rises (opening cache_facts backing_facts (opening_parts run.flight backing)) events calls failed)

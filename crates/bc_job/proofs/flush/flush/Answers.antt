@@ -8,6 +8,7 @@ returns-in-Ok-flush_line-clause-idle g c = record {
   works = works_empty g.C.Disk.facts g.B.Disk.facts c.args.parts.now c.flush.new.seat c.flush.new.hand
       (still_empty c.promise.new.hand c.flush.new.hand (c.promise.ensures.hand ∙ c.empty-hand.ensures)
       c.flush.ensures.hand) c.flush.ensures.works;
+  plain = c.requires.idle.plain;
   unclaimed = ap (λ r. r.count) (c.flush.ensures.claim ∙ c.promise.ensures.note.range)
       ∙ c.requires.idle.unclaimed;
 }
@@ -22,6 +23,7 @@ returns-clause-idle g c = record {
   works = works_empty g.C.Disk.facts g.B.Disk.facts c.args.parts.now c.flush.new.seat c.flush.new.hand
       (still_empty c.promise.new.hand c.flush.new.hand (c.promise.ensures.hand ∙ c.empty-hand.ensures)
       c.flush.ensures.hand) c.flush.ensures.works;
+  plain = c.requires.idle.plain;
   unclaimed = ap (λ r. r.count) (c.flush.ensures.claim ∙ c.promise.ensures.note.range)
       ∙ c.requires.idle.unclaimed;
 }

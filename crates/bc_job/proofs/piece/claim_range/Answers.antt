@@ -1,5 +1,6 @@
 use Rattle.std.proofs.Common.{refl, ap, ◌∙◌}
 use Rattle.bc_hand.proofs.Knowing.{note_waited}
+use Rattle.bc_deed.proofs.May.{plain_by}
 use Rattle.bc_job.proofs.Holding.{still_empty}
 use Rattle.bc_job.proofs.Sequence.{none_yet, still_waiting, made_claim, has_claimed, has_waited}
 use Rattle.bc_job.proofs.piece.claim_range.Goals as goal
@@ -17,7 +18,9 @@ pub returns-in-Ok-true-clause-ok : goal.returns-in-Ok-true-clause-ok
 returns-in-Ok-true-clause-ok g c = made_claim g.C.Disk.facts g.B.Disk.facts _ c.args.seat.now c.loop.seat
     c.claim.new.seat c.args.first c.args.count c.args.share
     (ap (λ n. record { seat = n; first = c.args.first; count = c.args.count; share = c.args.share }) c.number.ensures.first)
-    c.requires.range.0 c.loop.invariant.0.seat c.loop.invariant.2 c.loop.invariant.3
+    c.requires.range.0 c.loop.invariant.0.seat
+    (plain_by g.C.Disk.facts g.B.Disk.facts c.args.parts.now c.loop.seat c.loop.invariant.0.run c.requires.plain)
+    c.loop.invariant.2 c.loop.invariant.3
     (has_claimed g.C.Disk.facts g.B.Disk.facts c.in-Ok-true.field-0 c.loop.seat c.claim.new.seat c.args.first
     c.args.count c.args.share c.in-Ok-true.field-0-test c.in-Ok-true.ensures.ok)
 

@@ -2,7 +2,8 @@ use Rattle.std.proofs.Common.{sym, subst}
 use Rattle.bc_job.specs.Deeds.{ReadStop}
 use Rattle.bc_job.specs.Requests.{HasStoppedBy}
 use Rattle.bc_job.specs.declared.error.RequestError.{RequestError}
-use Rattle.bc_job.proofs.Sequence.{answered_under, read_unclaimed, read_stopped}
+use Rattle.bc_job.proofs.Holding.{still_empty}
+use Rattle.bc_job.proofs.Sequence.{idle_released, answered_under, read_unclaimed, read_stopped}
 use Rattle.bc_model.specs.Sector.{values_of}
 use Rattle.bc_job.proofs.piece.read_piece.Goals as goal
 
@@ -25,3 +26,17 @@ returns-clause-err g c = subst (λ (e : RequestError). HasStoppedBy g.C.Disk.fac
     (read_stopped g.C.Disk.facts g.B.Disk.facts c.in-Err-answered.error c.args.first c.args.count c.args.seat.now
     c.promise.new.seat c.claim_range.new.seat c.read_under-answered.new.seat c.release.new.seat
     c.promise.ensures.done c.in-Ok-claim_range.ensures.ok.done c.in-Err-answered.ensures.err c.release.ensures.did)
+
+pub returns-in-Ok-answered-clause-idle : goal.returns-in-Ok-answered-clause-idle
+returns-in-Ok-answered-clause-idle g c = idle_released g.C.Disk.facts g.B.Disk.facts c.args.parts.now
+    c.read_under-answered.new.seat c.release.new.seat c.release.new.hand
+    (still_empty c.read_under-answered.new.hand c.release.new.hand c.read_under-answered.ensures.empty
+    c.release.ensures.hand) c.release.ensures.works c.requires.idle.plain
+    c.read_under-answered.ensures.works.seat c.release.ensures.did
+
+pub returns-clause-idle : goal.returns-clause-idle
+returns-clause-idle g c = idle_released g.C.Disk.facts g.B.Disk.facts c.args.parts.now
+    c.read_under-answered.new.seat c.release.new.seat c.release.new.hand
+    (still_empty c.read_under-answered.new.hand c.release.new.hand c.read_under-answered.ensures.empty
+    c.release.ensures.hand) c.release.ensures.works c.requires.idle.plain
+    c.read_under-answered.ensures.works.seat c.release.ensures.did

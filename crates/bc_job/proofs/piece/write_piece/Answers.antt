@@ -2,7 +2,8 @@ use Rattle.std.proofs.Common.{sym, subst}
 use Rattle.bc_job.specs.Deeds.{WriteStop}
 use Rattle.bc_job.specs.Requests.{HasStoppedBy}
 use Rattle.bc_job.specs.declared.error.RequestError.{RequestError}
-use Rattle.bc_job.proofs.Sequence.{written_under, write_unclaimed, write_stopped_for}
+use Rattle.bc_job.proofs.Holding.{still_empty}
+use Rattle.bc_job.proofs.Sequence.{idle_released, written_under, write_unclaimed, write_stopped_for}
 use Rattle.bc_job.proofs.piece.write_piece.Goals as goal
 
 pub returns-in-Err-clause-err : goal.returns-in-Err-clause-err
@@ -27,3 +28,17 @@ returns-clause-err g c = subst (λ (e : RequestError). HasStoppedBy g.C.Disk.fac
     c.len-count.result c.args.values.now c.args.seat.now c.promise.new.seat c.claim_range.new.seat
     c.write_under-written.new.seat c.release.new.seat c.len-count.ensures c.promise.ensures.done
     c.in-Ok-claim_range.ensures.ok.done c.in-Err-written.ensures.err c.release.ensures.did)
+
+pub returns-in-Ok-written-clause-idle : goal.returns-in-Ok-written-clause-idle
+returns-in-Ok-written-clause-idle g c = idle_released g.C.Disk.facts g.B.Disk.facts c.args.parts.now
+    c.write_under-written.new.seat c.release.new.seat c.release.new.hand
+    (still_empty c.write_under-written.new.hand c.release.new.hand c.write_under-written.ensures.empty
+    c.release.ensures.hand) c.release.ensures.works c.requires.idle.plain
+    c.write_under-written.ensures.works.seat c.release.ensures.did
+
+pub returns-clause-idle : goal.returns-clause-idle
+returns-clause-idle g c = idle_released g.C.Disk.facts g.B.Disk.facts c.args.parts.now
+    c.write_under-written.new.seat c.release.new.seat c.release.new.hand
+    (still_empty c.write_under-written.new.hand c.release.new.hand c.write_under-written.ensures.empty
+    c.release.ensures.hand) c.release.ensures.works c.requires.idle.plain
+    c.write_under-written.ensures.works.seat c.release.ensures.did
