@@ -40,6 +40,8 @@ struct Log {
 struct Counters;
 
 impl Machine for Counters {
+    ghost use Rattle.bc_parts.specs.declared.tests.Tick.{Tick};
+
     type Part = Counter;
 
     type Event = Tick;
