@@ -163,7 +163,7 @@ module _ (g : Geometry) (r : Reading) (reserves : Reserves) (filled : HasReserve
   spare_in : (x : ℕ) → In x ks → IsSpare g r x
   spare_in x i = (all_in (λ k. (k < g.nbuckets) × IsSpare g r k) filled.spare x filled.are.each i).1
 
-  low : (x : ℕ) → IsSpare g r x → g.first_bucket ≤ x
+  pub low : (x : ℕ) → IsSpare g r x → g.first_bucket ≤ x
   low x is = by_lt x g.first_bucket (λ _. g.first_bucket ≤ x) (λ lt. absurd (is.1 Super lt)) (λ ge. ge)
 
   abbrev none : Reserve
@@ -181,7 +181,7 @@ module _ (g : Geometry) (r : Reading) (reserves : Reserves) (filled : HasReserve
   each_spare : EachHas (IsSpare g r) reserves.lists
   each_spare = subst (EachHas (IsSpare g r)) (sym lists_are) (all_stored (IsSpare g r) ks (none ∷ others) spare_in nothing_yet)
 
-  on_spare : (p : lists.Purpose) (k : ℕ) → is_on p reserves k ≡ true → IsSpare g r k
+  pub on_spare : (p : lists.Purpose) (k : ℕ) → is_on p reserves k ≡ true → IsSpare g r k
   on_spare p k on = at_list (IsSpare g r) reserves.lists each_spare (place_of p) k (in_has (list_of p reserves).buckets k on)
 
   listed : (q : ℕ) (p : Purpose) → listed_at g reserves q ≡ Some p → IsSpare g r (back g q)

@@ -1,0 +1,3 @@
+pub mod Spine
+pub mod Buckets
+pub mod Journal

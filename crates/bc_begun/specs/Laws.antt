@@ -1,0 +1,35 @@
+-- What the parts of a pair that was read stand for, as a run begins.
+use Rattle.std.specs.Prelude.{◌≡◌, ℕ, []}
+use Rattle.bc_books.specs.Books.{opened}
+use Rattle.bc_chosen.specs.Parts.{Parts}
+use Rattle.bc_entries.specs.Journal.{Journal as Read}
+use Rattle.bc_events.specs.Run.{Opening, start}
+use Rattle.bc_image.specs.Pair.{Pair}
+use Rattle.bc_image.specs.Reading.{View}
+use Rattle.bc_journal.specs.Journal.{Journal}
+use Rattle.bc_leaves.specs.Parts as parts
+use Rattle.bc_machine.specs.Containers.{AreBucketsOf, IsJournalOf, IsSpineOf}
+use Rattle.bc_machine.specs.declared.part.BucketsPart.{BucketsPart}
+use Rattle.bc_meta.specs.Layout.{Layout}
+use Rattle.bc_resume.specs.Resume.{IsResumed}
+use Rattle.bc_shares.specs.Shares.{journal_share}
+use Rattle.bc_whole.specs.State as whole
+use Rattle.bc_begun.specs.Opened.{AreBytes, IsOpenedWith}
+
+abbrev pub LawSpine : Type 0
+LawSpine = (p : Pair) (v : View) (layout : Layout) (x : Parts) (w : whole.Opening)
+    (st : parts.State) → IsOpenedWith p v layout x w st → IsSpineOf w st x.tree
+
+-- no bucket is open yet
+abbrev pub LawBuckets : Type 0
+LawBuckets = (p : Pair) (v : View) (layout : Layout) (x : Parts) (w : whole.Opening)
+    (st : parts.State) (b : BucketsPart) → IsOpenedWith p v layout x w st
+    → AreBytes x.buckets → b.buckets ≡ x.buckets → b.reserves ≡ x.reserves → b.fill ≡ []
+    → AreBucketsOf w (opened w.flow.books) b
+
+-- behind the entries that were read
+abbrev pub LawJournal : Type 0
+LawJournal = (p : Pair) (v : View) (layout : Layout) (x : Parts) (w : Opening)
+    (st : parts.State) (next_seq : ℕ) (read : Read) (j : Journal)
+    → IsOpenedWith p v layout x w.machine st → read.entries ≡ v.reading.entries
+    → IsResumed v.geometry read j → IsJournalOf (journal_share (start w st next_seq).machine) j
