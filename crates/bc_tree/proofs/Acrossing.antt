@@ -16,7 +16,9 @@ use Rattle.bc_tree.specs.Change.{CanChange, IsChangeOf, set_words}
 use Rattle.bc_tree.specs.Group.{AreTwo, CanStand, IsFresh, beside_count}
 use Rattle.bc_tree.specs.Needs.{across_needs, become_one, fits_node, has_room, needs, takes_set, with_root, words}
 use Rattle.bc_tree.specs.Next.{below_next, leaves_next, node_next, nodes_next, root_next}
-use Rattle.bc_tree.specs.Plan.{CanJoinAcross, CanJoinAt, CanTake, Fits, IsAcross, IsOneBelow, IsRegrouped, Names, across_count, children_across, moved_count, top_count}
+use Rattle.bc_tree.specs.Across.{CanJoinAcross, CanJoinAt, IsAcross, IsOneBelow, across_count, children_across}
+use Rattle.bc_tree.specs.Halves.{IsRegrouped}
+use Rattle.bc_tree.specs.Plan.{CanTake, Fits, Names, moved_count, top_count}
 use Rattle.bc_tree.specs.Same.{IsSameTree, SameNode}
 use Rattle.bc_tree.specs.Spine.{IsProper, IsSpine, NameLeaves, Spine, bottom, children_in}
 use Rattle.bc_tree.specs.declared.beside.Beside.{Beside}

@@ -19,7 +19,9 @@ use Rattle.bc_tree.specs.Children.{EndsBefore, HasPointer, children_after}
 use Rattle.bc_tree.specs.Group.{AreNeighbours, AreTwo, IsFresh}
 use Rattle.bc_tree.specs.Needs.{become_one, fits_half, fits_node, words}
 use Rattle.bc_tree.specs.Next.{below_next, leaves_next, node_next, root_next}
-use Rattle.bc_tree.specs.Plan.{CanJoinAcross, IsAcross, IsOneAcross, IsOneBelow, IsRegrouped, IsTwoAcross, Names, children_across}
+use Rattle.bc_tree.specs.Across.{CanJoinAcross, IsAcross, IsOneAcross, IsOneBelow, IsTwoAcross, children_across}
+use Rattle.bc_tree.specs.Halves.{IsRegrouped}
+use Rattle.bc_tree.specs.Plan.{Names}
 use Rattle.bc_tree.specs.Spine.{AreInRow, Covers, IsProper, IsSpine, NameLeaves, NameNodes, Rise, children_in, last_end}
 use Rattle.bc_tree.specs.declared.beside.Beside.{Beside}
 use Rattle.bc_tree.specs.declared.beside.Beside.TheVariants.{Goes, Moves}

@@ -16,7 +16,9 @@ use Rattle.bc_spine.specs.declared.exchange.Exchange.{Exchange}
 use Rattle.bc_spine.specs.declared.leaf.LeafRange.{LeafRange}
 use Rattle.bc_tree.specs.Children.{children_after}
 use Rattle.bc_tree.specs.Needs.{IsNeededForBoth, across_needs, can_merge, merge_needs}
-use Rattle.bc_tree.specs.Plan.{CanJoinAcross, CanJoinAt, CanJoinHere, HasNextAcross, HasNextLeaf, IsAcrossOf, IsAcrossPlan, IsJoinedAcross, IsKeyOf, IsMadeJoin, IsMergePlan, IsOfSpine, above_count, across_count, children_across, moves}
+use Rattle.bc_tree.specs.Across.{CanJoinAcross, CanJoinAt, HasNextAcross, IsAcrossOf, IsAcrossPlan, IsJoinedAcross, across_count, children_across}
+use Rattle.bc_tree.specs.Merge.{CanJoinHere, HasNextLeaf, IsMadeJoin, IsMergePlan}
+use Rattle.bc_tree.specs.Plan.{IsKeyOf, IsOfSpine, above_count, moves}
 use Rattle.bc_tree.specs.Same.{IsSameButSpare}
 use Rattle.bc_tree.specs.Spine.{AreInRow, Covers, IsParentAt, IsPlaceAt, IsRootOf, IsSpine, NameLeaves, NameNodes, Rise, Spine, bottom, children_in, last_end, row_end}
 use Rattle.bc_tree.specs.declared.needs.Needs.{Needs}
@@ -26,7 +28,8 @@ use Rattle.bc_tree.proofs.Crossed.{row_beside}
 use Rattle.bc_tree.proofs.Acrossing.{across_total}
 use Rattle.bc_tree.proofs.Choices.{merge_across}
 use Rattle.bc_tree.proofs.Counts.{total}
-use Rattle.bc_tree.proofs.Joins.{five_words, join_places, named_there, neighbour, row_next}
+use Rattle.bc_tree.proofs.Joins.{five_words, join_places, named_there, neighbour}
+use Rattle.bc_tree.proofs.Neighbours.{row_next}
 use Rattle.bc_tree.proofs.Moves.{all_at, covers_at, one_named, parent_at, range_is, same_parent}
 use Rattle.bc_tree.proofs.Nexts.{take_front}
 use Rattle.bc_tree.proofs.Coming.{high_names, same_there}

@@ -15,7 +15,8 @@ use Rattle.bc_tree.specs.Children.{HasPointer, children_after}
 use Rattle.bc_tree.specs.Group.{AreNeighbours, AreTwo, IsFresh}
 use Rattle.bc_tree.specs.Needs.{fits_node, words}
 use Rattle.bc_tree.specs.Next.{below_next, leaves_next, node_next, root_next}
-use Rattle.bc_tree.specs.Plan.{CanHalve, IsAboveHalves, Names}
+use Rattle.bc_tree.specs.Halves.{CanHalve, IsAboveHalves}
+use Rattle.bc_tree.specs.Plan.{Names}
 use Rattle.bc_tree.specs.Spine.{Covers, IsProper, IsSpine, NameLeaves, NameNodes, Rise, bottom, children_in, last_end}
 use Rattle.bc_tree.specs.declared.beside.Beside.{Beside}
 use Rattle.bc_tree.specs.declared.beside.Beside.TheVariants.{Comes}

@@ -16,7 +16,9 @@ use Rattle.bc_tree.specs.Children.{children_after}
 use Rattle.bc_tree.specs.Group.{AreNeighbours, AreTwo, CanStand, IsFresh, beside_count}
 use Rattle.bc_tree.specs.Needs.{IsNeeded, fits_node, halved_needs, has_room, needs, split_needs, takes_set, words}
 use Rattle.bc_tree.specs.Next.{below_next, leaves_next, nodes_next, root_next}
-use Rattle.bc_tree.specs.Plan.{AreSplitPlaces, CanHalve, CanHalveAt, CanTake, Fits, IsAboveHalves, IsHalved, IsHalvedAbove, IsHalvesPlan, IsHalvingOf, IsKeyOf, IsMadeSplit, IsRaised, IsRegrouped, IsSplitPlan, Names, above_count, halves_count, moved_count, moves, top_count}
+use Rattle.bc_tree.specs.Halves.{CanHalve, CanHalveAt, IsAboveHalves, IsHalved, IsHalvedAbove, IsHalvingOf, IsRaised, IsRegrouped, halves_count}
+use Rattle.bc_tree.specs.Plan.{CanTake, Fits, IsKeyOf, Names, above_count, moved_count, moves, top_count}
+use Rattle.bc_tree.specs.Split.{AreSplitPlaces, IsHalvesPlan, IsMadeSplit, IsSplitPlan}
 use Rattle.bc_tree.specs.Same.{IsSameButSpare, IsSameTree, SameNode}
 use Rattle.bc_tree.specs.Spine.{IsPlaceAt, IsProper, IsRootOf, IsSpine, NameNodes, Spine, bottom, last_end}
 use Rattle.bc_tree.specs.declared.beside.Beside.{Beside}

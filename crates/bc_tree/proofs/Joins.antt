@@ -21,7 +21,8 @@ use Rattle.bc_tree.specs.Children.{EndsBefore, HasPointer}
 use Rattle.bc_tree.specs.Change.{set_words}
 use Rattle.bc_tree.specs.Needs.{IsNeededForBoth, across_needs, can_merge, inside_needs, merge_needs}
 use Rattle.bc_tree.specs.Parts.{LiesBetween}
-use Rattle.bc_tree.specs.Plan.{CanExchange, HasNextLeaf, IsKeyOf, IsMergePlan, IsOfSpine, IsPlanOf, moves}
+use Rattle.bc_tree.specs.Merge.{HasNextLeaf, IsMergePlan}
+use Rattle.bc_tree.specs.Plan.{CanExchange, IsKeyOf, IsOfSpine, IsPlanOf, moves}
 use Rattle.bc_tree.specs.Same.{IsSameButSpare}
 use Rattle.bc_tree.specs.Spine.{Covers, IsPlaceAt, IsSpine, NameLeaves, Spine, bottom, children_in, last_end}
 use Rattle.bc_tree.specs.declared.needs.Needs.{Needs}
@@ -32,6 +33,7 @@ use Rattle.bc_tree.proofs.Coming.{same_there}
 use Rattle.bc_tree.proofs.Counts.{fits_now, low_count, total}
 use Rattle.bc_tree.proofs.Moves.{above_kept, covers_at, one_named, parent_at, proper_at, range_is, same_parent}
 use Rattle.bc_tree.proofs.Places.{children_split, get_before, get_behind, some_there}
+use Rattle.bc_tree.proofs.Neighbours.{row_next}
 use Rattle.bc_tree.proofs.Proper.{words_cons}
 use Rattle.bc_tree.proofs.Spines.{cover_ends, cover_rises, end_more, rise_at}
 use Rattle.bc_tree.proofs.Splices.{can_replace}
@@ -53,16 +55,6 @@ named_there [] leaves i key names there = absurd (cc)
 named_there (k ∷ keys) [] i key names there = absurd names
 named_there (k ∷ keys) (l ∷ leaves) zero key names there = let same : k ≡ key = cc in (l, refl, names.0 ∙ ap (λ (x : Key). x.end) same)
 named_there (k ∷ keys) (l ∷ leaves) (suc i) key names there = named_there keys leaves i key names.2 there
-
-pub row_next : (a b : ℕ) (leaves : List LeafRange) (i : ℕ) (left right : LeafRange) → IsRow a leaves b → slice_get leaves i ≡ Some left → slice_get leaves (suc i) ≡ Some right → (right.from ≡ left.end) × (right.from < right.end)
-row_next a b [] i left right row one two = absurd (cc)
-row_next a b (l ∷ []) zero left right row one two = absurd (cc)
-row_next a b (l ∷ (r ∷ leaves)) zero left right row one two =
-    let first : l ≡ left = cc in
-    let second : r ≡ right = cc in
-    let rest = row.2 in
-    (ap (λ (x : LeafRange). x.from) (sym second) ∙ rest.0 ∙ ap (λ (x : LeafRange). x.end) first, omega (arith, rest.0, rest.1, ap (λ (x : LeafRange). x.from) second, ap (λ (x : LeafRange). x.end) second))
-row_next a b (l ∷ leaves) (suc i) left right row one two = row_next l.end b leaves i left right row.2 one two
 
 -- the leaf behind one whose parent goes on is named by the next child
 next_is : (s : Spine) (sector b until : ℕ) (place : LeafPlace) (is : IsPlaceAt s sector place) → IsSpine s.geometry s.root s.below s.leaves → IsRow 0 s.leaves b → place.range.end < is.parent.end

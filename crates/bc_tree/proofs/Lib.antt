@@ -15,6 +15,7 @@ pub mod Fits
 pub mod Counts
 pub mod Moves
 pub mod Splits
+pub mod Neighbours
 pub mod Joins
 pub mod Appends
 pub mod Groups
@@ -25,3 +26,4 @@ pub mod Halving
 pub mod Crossed
 pub mod Acrossing
 pub mod Crossings
+pub mod LastKeys

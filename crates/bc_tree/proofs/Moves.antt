@@ -13,7 +13,8 @@ use Rattle.bc_spine.specs.Leaves.{Spans}
 use Rattle.bc_spine.specs.declared.exchange.Exchange.{Exchange}
 use Rattle.bc_spine.specs.declared.leaf.LeafRange.{LeafRange}
 use Rattle.bc_node.specs.Leaf.{Leaf}
-use Rattle.bc_tree.specs.Plan.{CanExchange, IsComing, IsKeyOf, IsMovePlan, IsPlanOf, IsPlannedAbove}
+use Rattle.bc_tree.specs.Plan.{CanExchange, IsComing, IsKeyOf, IsPlanOf, IsPlannedAbove}
+use Rattle.bc_tree.specs.Rewrite.{IsMovePlan}
 use Rattle.bc_tree.specs.Same.{IsSameButSpare, IsSameTree}
 use Rattle.bc_tree.specs.Spine.{AreInRow, Covers, IsParentAt, IsPlaceAt, IsProper, IsSpine, NameLeaves, Spine, bottom}
 use Rattle.bc_tree.specs.declared.place.LeafPlace.{LeafPlace}

@@ -18,7 +18,8 @@ use Rattle.bc_tree.specs.Change.{set_words}
 use Rattle.bc_tree.specs.Children.{HasPointer}
 use Rattle.bc_tree.specs.Needs.{IsNeeded, fits_node, needs, split_needs, takes_set, with_parent, words}
 use Rattle.bc_tree.specs.Parts.{IsNearMiddle}
-use Rattle.bc_tree.specs.Plan.{CanExchange, IsHalfTooLarge, IsKeyOf, IsNoHalf, IsNotSplit, IsPlanOf, IsSplitPlan, moves}
+use Rattle.bc_tree.specs.Plan.{CanExchange, IsKeyOf, IsPlanOf, moves}
+use Rattle.bc_tree.specs.Split.{IsHalfTooLarge, IsNoHalf, IsNotSplit, IsSplitPlan}
 use Rattle.bc_tree.specs.Same.{IsSameButSpare}
 use Rattle.bc_tree.specs.Spine.{IsPlaceAt, IsSpine, NameLeaves, Spine, bottom, last_end}
 use Rattle.bc_tree.specs.declared.needs.Needs.{Needs}

@@ -17,23 +17,32 @@ pub record CanAppend (g : Geometry) (sectors : ℕ) (node : Inner) (keys : List 
   pub within : node.ptr.offset + g.node_sectors ≤ sectors
 
 -- what a write of it does
-pub record IsSetWrite (g : Geometry) (node : Inner) (keys : List Key) (bytes : List ℕ) (old new : DiskFacts) (result : Result (Unit {0}) Failed) : Type 0 where
+pub record IsSetWrite (g : Geometry) (node : Inner) (keys : List Key) (bytes : List ℕ)
+    (old new : DiskFacts) (result : Result (Unit {0}) Failed) : Type 0 where
   pub has : HasSet g (ptr_word node.ptr) (set_of node.seq keys) bytes
-  pub ok : OnOk result (IsWritten (node.ptr.offset + node.taken) (put_values g node.taken (set_of node.seq keys) bytes) old new)
-  pub failed : OnErr result (IsFailedWrite (node.ptr.offset + node.taken) (put_values g node.taken (set_of node.seq keys) bytes) old new)
+  pub ok : OnOk result
+      (IsWritten (node.ptr.offset + node.taken)
+      (put_values g node.taken (set_of node.seq keys) bytes) old new)
+  pub failed : OnErr result
+      (IsFailedWrite (node.ptr.offset + node.taken)
+      (put_values g node.taken (set_of node.seq keys) bytes) old new)
   pub counted : IsCounted result old new
 
 -- the node has one set more, where it was written
-abbrev pub HasMoreIf : {E : Type 0} → Result (Unit {0}) E → Geometry → List Key → Inner → Inner → Type 0
+abbrev pub HasMoreIf : {E : Type 0} → Result (Unit {0}) E → Geometry → List Key → Inner → Inner
+    → Type 0
 HasMoreIf (Ok _) g keys old new = HasTaken (old.taken + set_sectors g (set_of old.seq keys)) old new
 HasMoreIf (Err _) g keys old new = new ≡ old
 
--- a node of the tree has one set more, where it was written, and nothing else has changed: the root, or the one at a place below it
-pub record HasRootMore {E : Type 0} (result : Result (Unit {0}) E) (keys : List Key) (old new : Spine) : Type 0 where
+-- a node of the tree has one set more, where it was written, and nothing else has changed: the
+-- root, or the one at a place below it
+pub record HasRootMore {E : Type 0} (result : Result (Unit {0}) E) (keys : List Key)
+    (old new : Spine) : Type 0 where
   pub only : new ≡ record old { root = new.root }
   pub more : HasMoreIf result old.geometry keys old.root new.root
 
-pub record HasBelowMore {E : Type 0} (result : Result (Unit {0}) E) (place : ℕ) (keys : List Key) (old new : Spine) : Type 0 where
+pub record HasBelowMore {E : Type 0} (result : Result (Unit {0}) E) (place : ℕ) (keys : List Key)
+    (old new : Spine) : Type 0 where
   pub node : Inner
   pub next : Inner
   pub there : slice_get old.below place ≡ Some node

@@ -17,7 +17,8 @@ use Rattle.bc_tree.specs.declared.change.NodeChange.TheVariants.{Move, Set}
 abbrev pub set_words : ℕ → List Key → ℕ
 set_words gone come = 2 * (gone - 1) + words come
 
--- some children of the node can give way to others: these have the same sectors, and all of them fit in one set
+-- some children of the node can give way to others: these have the same sectors, and all of them
+-- fit in one set
 pub record CanChange (g : Geometry) (node : Inner) (at gone : ℕ) (come : List Key) : Type 0 where
   pub proper : IsProper g node
   pub way : CanGiveWay node.children at gone come
@@ -25,7 +26,8 @@ pub record CanChange (g : Geometry) (node : Inner) (at gone : ℕ) (come : List 
   pub fits : fits_node g (words (children_after node.children at gone come)) ≡ true
 
 -- the keys of a further set that has room in the node
-pub record IsSetFor (g : Geometry) (node : Inner) (at gone : ℕ) (come keys : List Key) : Type 0 where
+pub record IsSetFor (g : Geometry) (node : Inner) (at gone : ℕ) (come keys : List Key)
+    : Type 0 where
   pub room : has_room g node (words keys) ≡ true
   pub size : words keys ≡ set_words gone come
   pub few : length keys ≡ gone - 1 + length come
@@ -33,7 +35,8 @@ pub record IsSetFor (g : Geometry) (node : Inner) (at gone : ℕ) (come keys : L
   pub kind : AreSetKeys Children keys
 
 -- the same node with other children, at a place where nothing is written yet
-pub record IsMoved (node : Inner) (children : List Key) (to : Ptr) (seq : ℕ) (next : Inner) : Type 0 where
+pub record IsMoved (node : Inner) (children : List Key) (to : Ptr) (seq : ℕ) (next : Inner)
+    : Type 0 where
   pub level : next.level ≡ node.level
   pub from : next.from ≡ node.from
   pub end : next.end ≡ node.end
@@ -43,9 +46,11 @@ pub record IsMoved (node : Inner) (children : List Key) (to : Ptr) (seq : ℕ) (
   pub children_are : next.children ≡ children
   pub fresh : next.loaded ≡ false
 
--- The node takes a further set exactly where it has room for it, and moves to the first of these places else.
+-- The node takes a further set exactly where it has room for it, and moves to the first of these
+-- places else.
 abbrev pub IsChangeOf : Geometry → Inner → ℕ → ℕ → List Key → List Ptr → ℕ → NodeChange → Type 0
 IsChangeOf g node at gone come to seq (Set keys) = IsSetFor g node at gone come keys
 IsChangeOf g node at gone come to seq (Move next) =
     (has_room g node (set_words gone come) ≡ false)
-    × ((ptr : Ptr) × (slice_get to 0 ≡ Some ptr) × IsMoved node (children_after node.children at gone come) ptr seq next)
+    × ((ptr : Ptr) × (slice_get to 0 ≡ Some ptr)
+    × IsMoved node (children_after node.children at gone come) ptr seq next)

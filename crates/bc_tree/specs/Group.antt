@@ -7,7 +7,8 @@ use Rattle.bc_tree.specs.Spine.{last_end}
 use Rattle.bc_tree.specs.declared.beside.Beside.{Beside}
 use Rattle.bc_tree.specs.declared.beside.Beside.TheVariants.{Comes, Goes, Moves, Stays, Under}
 
--- among so many nodes, with room for so many more, there is a place for what comes beside one, and one behind it, where that gives way
+-- among so many nodes, with room for so many more, there is a place for what comes beside one, and
+-- one behind it, where that gives way
 abbrev pub CanStand : ℕ → ℕ → ℕ → Beside → Type 0
 CanStand count room place Stays = Unit {0}
 CanStand count room place (Comes node) = (place < count) × (1 ≤ room)
@@ -24,7 +25,8 @@ beside_count Goes = 0
 beside_count (Under low high) = 2
 
 -- a node of these sectors and children, at a place where nothing is written yet
-pub record IsFresh (level from end : ℕ) (children : List Key) (to : Ptr) (seq : ℕ) (next : Inner) : Type 0 where
+pub record IsFresh (level from end : ℕ) (children : List Key) (to : Ptr) (seq : ℕ) (next : Inner)
+    : Type 0 where
   pub level_is : next.level ≡ level
   pub begins : next.from ≡ from
   pub ends : next.end ≡ end
@@ -43,9 +45,11 @@ pub record AreNeighbours (from end : ℕ) (low high : Inner) : Type 0 where
   pub multiple : end % 256 ≡ 0
 
 -- two nodes above leaves that have all these children between them: so many of them go to the first
-pub record AreTwo (from end cut : ℕ) (all : List Key) (to : List Ptr) (seq : ℕ) (low high : Inner) : Type 0 where
+pub record AreTwo (from end cut : ℕ) (all : List Key) (to : List Ptr) (seq : ℕ) (low high : Inner)
+    : Type 0 where
   pub low_ptr : Ptr
   pub high_ptr : Ptr
   pub places : (slice_get to 0 ≡ Some low_ptr) × (slice_get to 1 ≡ Some high_ptr)
   pub low_is : IsFresh 1 from (last_end from (take cut all)) (take cut all) low_ptr seq low
-  pub high_is : IsFresh 1 (last_end from (take cut all)) end (drop cut all) high_ptr ((seq + 1) % 2 ^ 64) high
+  pub high_is : IsFresh 1 (last_end from (take cut all)) end (drop cut all) high_ptr
+      ((seq + 1) % 2 ^ 64) high

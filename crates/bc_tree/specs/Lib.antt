@@ -8,4 +8,10 @@ pub mod Group
 pub mod Same
 pub mod Append
 pub mod Plan
+pub mod Halves
+pub mod Across
+pub mod Rewrite
+pub mod Split
+pub mod Merge
+pub mod LastKeys
 pub mod Laws

@@ -34,7 +34,8 @@ beside_next nodes place (Under low high) = low ∷ high ∷ []
 abbrev pub below_next : List Inner → ℕ → NodeChange → Beside → List Inner
 below_next below place change beside = beside_next (nodes_next below place change) place beside
 
--- the root after a change of the node above leaves, and of the root, where it is another and changes
+-- the root after a change of the node above leaves, and of the root, where it is another and
+-- changes
 abbrev pub root_next : Inner → List Inner → NodeChange → Option NodeChange → Inner
 root_next root [] bottom top = node_next root bottom
 root_next root (node ∷ nodes) bottom None = root

@@ -5,7 +5,9 @@ ghost use Rattle.bc_inner.specs.Inner.{Inner};
 ghost use Rattle.bc_key.specs.declared.key.Key.{Key};
 ghost use Rattle.bc_tree.specs.Change.{CanChange};
 ghost use Rattle.bc_tree.specs.Needs.{has_room};
-ghost use Rattle.bc_tree.specs.Plan.{CanJoinAcross, CanJoinAt, Fits, HasNextAcross, IsAcross, IsAcrossOf, IsAcrossPlan, IsOneBelow, IsRegrouped, Names, across_count, children_across};
+ghost use Rattle.bc_tree.specs.Across.{CanJoinAcross, CanJoinAt, HasNextAcross, IsAcross, IsAcrossOf, IsAcrossPlan, IsOneBelow, across_count, children_across};
+ghost use Rattle.bc_tree.specs.Halves.{IsRegrouped};
+ghost use Rattle.bc_tree.specs.Plan.{Fits, Names};
 ghost use Rattle.bc_tree.specs.Same.{IsSameTree};
 ghost use Rattle.bc_tree.specs.declared.beside.Beside.TheVariants as besides;
 
@@ -23,8 +25,8 @@ use bc_key::{Key, Ptr};
 use bc_node::Leaf;
 use std::alloc::{AllocError, Global};
 
-/// The children of two neighbouring nodes, where the last of the one and the first of the other give
-/// way to one.
+/// The children of two neighbouring nodes, where the last of the one and the first of the other
+/// give way to one.
 fn both(alloc: Global, left: &Inner, right: &Inner, key: &Key) -> Result<Vec<Key>, AllocError>
     requires left { 0 < length left.now.children }
     requires right { 0 < length right.now.children }
@@ -36,8 +38,8 @@ fn both(alloc: Global, left: &Inner, right: &Inner, key: &Key) -> Result<Vec<Key
 }
 
 impl Spine {
-    /// What becomes of the root where one node comes in the place of the one at a place below it and
-    /// of the next.
+    /// What becomes of the root where one node comes in the place of the one at a place below it
+    /// and of the next.
     fn one_below(
         &self,
         alloc: Global,
@@ -71,8 +73,8 @@ impl Spine {
         })
     }
 
-    /// What becomes of the root where two nodes come in the place of the one at a place below it and
-    /// of the next.
+    /// What becomes of the root where two nodes come in the place of the one at a place below it
+    /// and of the next.
     fn two_below(
         &self,
         alloc: Global,
@@ -98,8 +100,8 @@ impl Spine {
         })
     }
 
-    /// What becomes of the nodes above two leaves that become one, where the first is the last child
-    /// of the node at a place below the root, and the second the first child of the next.
+    /// What becomes of the nodes above two leaves that become one, where the first is the last
+    /// child of the node at a place below the root, and the second the first child of the next.
     fn joined_across(
         &self,
         alloc: Global,
@@ -161,8 +163,8 @@ impl Spine {
         })
     }
 
-    /// Plans that a leaf comes in the place of the one that stands here and of the next, where these
-    /// are children of two nodes. The new nodes above go to these places.
+    /// Plans that a leaf comes in the place of the one that stands here and of the next, where
+    /// these are children of two nodes. The new nodes above go to these places.
     pub(crate) fn across_to(
         &mut self,
         alloc: Global,

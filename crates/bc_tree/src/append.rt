@@ -48,7 +48,8 @@ impl Spine {
         append(&mut self.root, disk, &g, keys, buffer)
     }
 
-    /// Writes a further set of the node at a place below the root, as `append_root` does of the root.
+    /// Writes a further set of the node at a place below the root, as `append_root` does of the
+    /// root.
     pub fn append_below<D: Disk>(
         &mut self,
         place: usize,

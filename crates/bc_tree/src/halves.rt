@@ -1,13 +1,15 @@
 //! Plans for a leaf that is split where the node above it has no room for one child more: that node
-//! gives way to two, which its own parent names in its place. Where it is the root, a root of level 2
-//! comes above the two.
+//! gives way to two, which its own parent names in its place. Where it is the root, a root of level
+//! 2 comes above the two.
 ghost use Rattle.std.specs.Prelude.{◌≡◌, ◌+◌, ◌%◌, ◌^◌, ◌<◌, ◌≤◌, ◌∷◌, [], true, false, length, slice_get, Some, IfOk, OnOk};
 ghost use Rattle.bc_inner.specs.Inner.{Inner};
 ghost use Rattle.bc_key.specs.declared.key.Key.{Key};
 ghost use Rattle.bc_tree.specs.Change.{CanChange};
 ghost use Rattle.bc_tree.specs.Group.{AreNeighbours};
 ghost use Rattle.bc_tree.specs.Needs.{fits_node, has_room, words};
-ghost use Rattle.bc_tree.specs.Plan.{CanHalve, CanHalveAt, Fits, IsAboveHalves, IsHalved, IsHalvesPlan, IsHalvingOf, IsRaised, IsRegrouped, Names, halves_count};
+ghost use Rattle.bc_tree.specs.Halves.{CanHalve, CanHalveAt, IsAboveHalves, IsHalved, IsHalvingOf, IsRaised, IsRegrouped, halves_count};
+ghost use Rattle.bc_tree.specs.Plan.{Fits, Names};
+ghost use Rattle.bc_tree.specs.Split.{IsHalvesPlan};
 ghost use Rattle.bc_tree.specs.Same.{IsSameTree};
 ghost use Rattle.bc_tree.specs.Spine.{IsPlaceAt, bottom};
 ghost use Rattle.bc_tree.specs.declared.beside.Beside.TheVariants as besides;
@@ -150,8 +152,8 @@ impl Spine {
         })
     }
 
-    /// Plans that two leaves come in the place of the one that stands here, where the node above has
-    /// no room for one child more and gives way to two. The new nodes above go to these places.
+    /// Plans that two leaves come in the place of the one that stands here, where the node above
+    /// has no room for one child more and gives way to two. The new nodes above go to these places.
     pub(crate) fn halve_to(
         &mut self,
         alloc: Global,

@@ -1,6 +1,8 @@
 //! A plan, put into the tree.
 ghost use Rattle.std.specs.Prelude.{◌≡◌, IfSome, Some, slice_get, vec_capacity};
 ghost use Rattle.bc_inner.specs.Inner.{Inner};
+ghost use Rattle.bc_spine.specs.Leaves.{AreLeaves};
+ghost use Rattle.bc_tree.specs.LastKeys.{AreKept};
 ghost use Rattle.bc_tree.specs.Next.{below_next, leaves_next, nodes_next, root_next};
 ghost use Rattle.bc_tree.specs.Plan.{CanTake, Fits};
 ghost use Rattle.bc_tree.specs.Same.{SameNode, SameNodes};
@@ -51,8 +53,9 @@ fn change_nodes(
 }
 
 impl Spine {
-    /// Puts what was planned in the place of what goes. Each sector still lies in one leaf. Takes
-    /// no memory.
+    /// Puts what was planned in the place of what goes. Each sector still lies in one leaf, which
+    /// has the last key that the sector had, wherever the leaves that come have those of the ones
+    /// that go. Takes no memory.
     pub fn install(&mut self, plan: Plan) -> NewLeaves
         requires { Fits self.old plan }
         ensures geometry { self.new.geometry ≡ self.old.geometry }
@@ -61,10 +64,13 @@ impl Spine {
         ensures below { SameNodes
             (below_next self.old.below plan.place plan.bottom plan.beside) self.new.below }
         ensures leaves { self.new.leaves ≡ leaves_next self.old.leaves plan.leaves }
+        ensures cover { AreLeaves self.new.leaves self.old.root.end }
+        ensures kept { AreKept self.old.leaves plan self.new.leaves }
         ensures exchange { result.leaves ≡ plan.leaves }
         ensures first { result.first ≡ plan.first }
         ensures second { result.second ≡ plan.second }
     {
+        let _ = self.len();
         let Plan {
             leaves,
             first,

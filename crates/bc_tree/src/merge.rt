@@ -1,8 +1,10 @@
 //! Plans for two leaves that become one.
 ghost use Rattle.std.specs.Prelude.{◌≡◌, ◌↔◌, ◌+◌, ◌≤◌, ◌++◌, true, false, length, slice_get, Some, IfErr, IfOk, IfSome, IsNone, OnOk, Option};
 ghost use Rattle.bc_inner.specs.Inner.{Inner};
+ghost use Rattle.bc_tree.specs.LastKeys.{StandsInForBoth};
 ghost use Rattle.bc_tree.specs.Needs.{IsNeededForBoth, can_merge};
-ghost use Rattle.bc_tree.specs.Plan.{CanJoinHere, Fits, HasNextLeaf, IsJoined, IsLeafMerge, IsMadeJoin, IsMergePlan, IsNotMerged, IsOfSpine, above_count, moves, new_count};
+ghost use Rattle.bc_tree.specs.Merge.{CanJoinHere, HasNextLeaf, IsJoined, IsLeafMerge, IsMadeJoin, IsMergePlan, IsNotMerged};
+ghost use Rattle.bc_tree.specs.Plan.{Fits, IsOfSpine, above_count, moves, new_count};
 ghost use Rattle.bc_tree.specs.Same.{IsSameTree};
 ghost use Rattle.bc_tree.specs.Spine.{IsPlaceAt, bottom};
 ghost use Rattle.bc_tree.specs.declared.needs.Needs.{Needs};
@@ -71,8 +73,8 @@ impl Spine {
         self.plan_siblings(alloc, new, place, 2, &[key], to, seq)
     }
 
-    /// Plans that a leaf comes in the place of the one that stands here and of the next, which begins
-    /// at a sector. The new nodes above go to these places.
+    /// Plans that a leaf comes in the place of the one that stands here and of the next, which
+    /// begins at a sector. The new nodes above go to these places.
     fn join_here(
         &mut self,
         alloc: Global,
@@ -117,12 +119,15 @@ impl Spine {
             × (length to.now ≡ n.tree + n.moving) }
         ensures fits { IfOk result (Fits self.new) }
         ensures planned { IfOk result (IsLeafMerge self.old left.now right.now to.now seq) }
+        ensures kept { IfOk result (StandsInForBoth self.old.leaves left.now right.now) }
         ensures count { IfOk result (λ plan. new_count plan ≡ length to.now) }
         ensures tree { IsSameTree self.old self.new }
         ensures refused { IfErr result (IsNotMerged self.old left.now right.now) }
     {
         let _ = self.len();
         let _ = self.root();
+        let _ = left.keys();
+        let _ = right.keys();
         let place = self.place(left.from());
         let first = joined(alloc, left, right, &to[0], seq)?;
         if first.is_full(self.geometry()) {
@@ -161,6 +166,8 @@ impl Spine {
         ensures fits { IfOk result (λ plan. IfSome plan (Fits self.new)) }
         ensures planned { IfOk result (λ plan. IfSome plan
             (IsLeafMerge self.old left.now right.now to.now seq)) }
+        ensures kept { IfOk result (λ plan. IfSome plan
+            (StandsInForBoth self.old.leaves left.now right.now)) }
         ensures count { IfOk result (λ plan. IfSome plan (λ p. new_count p ≡ length to.now)) }
         ensures tree { IsSameTree self.old self.new }
         ensures refused { IfErr result (IsNotMerged self.old left.now right.now) }

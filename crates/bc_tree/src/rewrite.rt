@@ -1,8 +1,10 @@
 //! Plans for a leaf that moves.
 ghost use Rattle.std.specs.Prelude.{◌≡◌, ◌+◌, ◌≤◌, length, slice_get, Some, IfErr, IfOk};
 ghost use Rattle.bc_inner.specs.Inner.{Inner};
+ghost use Rattle.bc_tree.specs.LastKeys.{StandsInFor};
 ghost use Rattle.bc_tree.specs.Needs.{IsNeeded, rewrite_needs};
-ghost use Rattle.bc_tree.specs.Plan.{Fits, IsMovePlan, IsNotRewritten, IsOfSpine, IsRewrite, moves, new_count};
+ghost use Rattle.bc_tree.specs.Plan.{Fits, IsOfSpine, moves, new_count};
+ghost use Rattle.bc_tree.specs.Rewrite.{IsMovePlan, IsNotRewritten, IsRewrite};
 ghost use Rattle.bc_tree.specs.Same.{IsSameTree};
 ghost use Rattle.bc_tree.specs.Spine.{IsPlaceAt, bottom};
 ghost use Rattle.bc_tree.specs.declared.needs.Needs.{Needs};
@@ -46,9 +48,10 @@ impl Spine {
         self.plan_siblings(alloc, new, place, 1, &[key], to, seq)
     }
 
-    /// Plans that a leaf moves to the first of these places, with a number: so do the nodes above it
-    /// that take no further set, to the other places and with the next numbers. There are as many
-    /// places as `rewrite_needs` says. The tree stays as it is, but for its room, until `install`.
+    /// Plans that a leaf moves to the first of these places, with a number: so do the nodes above
+    /// it that take no further set, to the other places and with the next numbers. There are as
+    /// many places as `rewrite_needs` says. The tree stays as it is, but for its room, until
+    /// `install`.
     ///
     /// The refusal is `Large` where the leaf's keys don't fit in a node, and `Memory`.
     pub fn plan_rewrite(
@@ -63,6 +66,7 @@ impl Spine {
             × (length to.now ≡ n.tree + n.moving) }
         ensures fits { IfOk result (Fits self.new) }
         ensures planned { IfOk result (IsRewrite self.old leaf.now to.now seq) }
+        ensures kept { IfOk result (StandsInFor self.old.leaves leaf.now) }
         ensures count { IfOk result (λ plan. new_count plan ≡ length to.now) }
         ensures tree { IsSameTree self.old self.new }
         ensures refused { IfErr result (IsNotRewritten self.old leaf.now) }

@@ -1,8 +1,10 @@
 //! Plans for a leaf that is split in two.
 ghost use Rattle.std.specs.Prelude.{◌≡◌, ◌+◌, ◌%◌, ◌<◌, ◌≤◌, true, length, slice_get, Some, IfErr, IfOk};
 ghost use Rattle.bc_inner.specs.Inner.{Inner};
+ghost use Rattle.bc_tree.specs.LastKeys.{StandsInFor};
 ghost use Rattle.bc_tree.specs.Needs.{IsNeeded, fits_node, split_needs, words};
-ghost use Rattle.bc_tree.specs.Plan.{AreHalves, AreSplitPlaces, Fits, IsLeafSplit, IsMadeSplit, IsNoHalf, IsNotSplit, IsOfSpine, IsSplitPlan, above_count, moves, new_count};
+ghost use Rattle.bc_tree.specs.Plan.{Fits, IsOfSpine, above_count, moves, new_count};
+ghost use Rattle.bc_tree.specs.Split.{AreHalves, AreSplitPlaces, IsLeafSplit, IsMadeSplit, IsNoHalf, IsNotSplit, IsSplitPlan};
 ghost use Rattle.bc_tree.specs.Same.{IsSameTree};
 ghost use Rattle.bc_tree.specs.Spine.{IsPlaceAt, bottom};
 ghost use Rattle.bc_tree.specs.declared.needs.Needs.{Needs};
@@ -92,8 +94,9 @@ impl Spine {
         self.plan_siblings(alloc, new, place, 1, &[low_key, high_key], to, seq)
     }
 
-    /// Plans that two leaves come in the place of the one that stands here. Where the node above has
-    /// no room for one child more, two come in its place too. The new nodes above go to these places.
+    /// Plans that two leaves come in the place of the one that stands here. Where the node above
+    /// has no room for one child more, two come in its place too. The new nodes above go to these
+    /// places.
     fn split_here(
         &mut self,
         alloc: Global,
@@ -125,9 +128,9 @@ impl Spine {
 
     /// Plans that a leaf of more than 256 sectors is split: two with its keys come in its place, at
     /// the first two places and with numbers from this one on, and the nodes above it that take no
-    /// further set move to the others. Where the node above has no room for one child more, two come
-    /// in its place too. There are as many places as `split_needs` says. The tree stays as it is, but
-    /// for its room, until `install`.
+    /// further set move to the others. Where the node above has no room for one child more, two
+    /// come in its place too. There are as many places as `split_needs` says. The tree stays as it
+    /// is, but for its room, until `install`.
     ///
     /// The refusal is `Large` where the keys of one of the two don't fit in a node, and `Memory`.
     pub fn plan_split(
@@ -144,6 +147,7 @@ impl Spine {
             × (length to.now ≡ n.tree + n.moving) }
         ensures fits { IfOk result (Fits self.new) }
         ensures planned { IfOk result (IsLeafSplit self.old leaf.now to.now seq) }
+        ensures kept { IfOk result (StandsInFor self.old.leaves leaf.now) }
         ensures count { IfOk result (λ plan. new_count plan ≡ length to.now) }
         ensures tree { IsSameTree self.old self.new }
         ensures refused { IfErr result (IsNotSplit self.old leaf.now) }

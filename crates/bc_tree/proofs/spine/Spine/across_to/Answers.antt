@@ -1,7 +1,7 @@
 use Rattle.std.proofs.Common.{◌≡◌, ◌+◌, None, Some, length, ap, sym, subst, ◌∙◌}
 use Rattle.std.proofs.lemmas.Option.{slice_get_within}
 use Rattle.bc_key.specs.declared.ptr.Ptr.{Ptr}
-use Rattle.bc_tree.specs.Plan.{IsAcrossOf, IsAcrossPlan, across_count}
+use Rattle.bc_tree.specs.Across.{IsAcrossOf, IsAcrossPlan, across_count}
 use Rattle.bc_tree.specs.Spine.{Spine}
 use Rattle.bc_tree.proofs.Crossings.{across_kept, across_planned, can_across}
 use Rattle.bc_tree.proofs.Moves.{if_ok, key_of, spine_kept}

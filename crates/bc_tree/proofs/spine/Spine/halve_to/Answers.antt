@@ -1,7 +1,8 @@
 use Rattle.std.proofs.Common.{◌≡◌, ◌+◌, ◌%◌, ◌<◌, [], ◌∷◌, true, Some, length, ap, sym, subst, ◌∙◌, arith}
 use Rattle.bc_key.specs.declared.ptr.Ptr.{Ptr}
 use Rattle.bc_tree.specs.Needs.{fits_node, words}
-use Rattle.bc_tree.specs.Plan.{IsHalvesPlan, IsHalvingOf, halves_count}
+use Rattle.bc_tree.specs.Halves.{IsHalvingOf, halves_count}
+use Rattle.bc_tree.specs.Split.{IsHalvesPlan}
 use Rattle.bc_tree.specs.Spine.{Spine}
 use Rattle.bc_tree.proofs.Halving.{can_halve, halves_planned}
 use Rattle.bc_tree.proofs.Moves.{if_ok, key_of, spine_kept}

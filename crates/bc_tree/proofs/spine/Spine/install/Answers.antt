@@ -1,11 +1,13 @@
 use Rattle.std.proofs.Common.{◌≡◌, ◌-◌, List, length, sym, subst, ◌∙◌, arith}
 use Rattle.std.specs.Prelude.{vec_capacity, vec_len}
 use Rattle.bc_spine.specs.declared.leaf.LeafRange.{LeafRange}
+use Rattle.bc_spine.specs.Leaves.{AreLeaves}
 use Rattle.bc_tree.specs.Group.{CanStand}
 use Rattle.bc_tree.specs.Next.{below_next, nodes_next, root_next}
 use Rattle.bc_tree.specs.Same.{SameNodes}
 use Rattle.bc_tree.specs.Spine.{IsSpine}
 use Rattle.bc_tree.proofs.Besides.{beside_same, next_long}
+use Rattle.bc_tree.proofs.LastKeys.{are_kept}
 use Rattle.bc_tree.proofs.Same.{long_same, spine_same}
 use Rattle.bc_tree.proofs.spine.Spine.install.Goals as goal
 
@@ -43,3 +45,13 @@ returns-clause-below c =
     let mid = c.change_nodes.new.below.items in
     rw (← c.self.view_is)
     (subst (λ ns. SameNodes (below_next i.below.items p.place p.bottom p.beside) ns) (sym c.set_beside.ensures) (beside_same (nodes_next i.below.items p.place p.bottom) mid p.place p.beside c.change_nodes.ensures.below))
+
+pub returns-clause-cover : goal.returns-clause-cover
+returns-clause-cover c = rw (← c.self.view_is) (subst (λ n. AreLeaves c.install.new.self.leaves n) (c.install.ensures.end ∙ c.self.invariant.1) c.install.ensures.all)
+
+pub returns-clause-kept : goal.returns-clause-kept
+returns-clause-kept c =
+    let i = c.self.inside in
+    let fits = rw (← c.self.view_is) at c.requires.leaves_fit in
+    let old = rw (← c.self.view_is) at c.len.ensures.all in
+    rw (← c.self.view_is) (are_kept i.leaves.leaves c.install.new.self.leaves i.root.end c.install.new.self.end c.args.plan old fits c.install.ensures.leaves c.install.ensures.all)

@@ -2,7 +2,9 @@ use Rattle.std.proofs.Common.{◌≡◌, ◌≤◌, inl, inr, Some, length, ap, 
 use Rattle.std.specs.Prelude.{slice_get}
 use Rattle.std.proofs.lemmas.Option.{slice_get_within}
 use Rattle.bc_inner.specs.Inner.{Inner}
-use Rattle.bc_tree.specs.Plan.{IsAcrossPlan, IsMadeJoin, IsMergePlan, above_count, moves}
+use Rattle.bc_tree.specs.Across.{IsAcrossPlan}
+use Rattle.bc_tree.specs.Merge.{IsMadeJoin, IsMergePlan}
+use Rattle.bc_tree.specs.Plan.{above_count, moves}
 use Rattle.bc_tree.specs.Spine.{bottom}
 use Rattle.bc_tree.specs.declared.plan.Plan.{Plan}
 use Rattle.bc_tree.proofs.Coming.{same_there}

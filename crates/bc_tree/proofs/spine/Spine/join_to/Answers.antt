@@ -4,7 +4,8 @@ use Rattle.std.proofs.lemmas.Option.{slice_get_within}
 use Rattle.bc_inner.specs.Inner.{Inner}
 use Rattle.bc_key.specs.declared.ptr.Ptr.{Ptr}
 use Rattle.bc_tree.specs.Change.{set_words}
-use Rattle.bc_tree.specs.Plan.{IsMergePlan, IsPlanOf, moves}
+use Rattle.bc_tree.specs.Merge.{IsMergePlan}
+use Rattle.bc_tree.specs.Plan.{IsPlanOf, moves}
 use Rattle.bc_tree.specs.Spine.{Spine, bottom}
 use Rattle.bc_tree.proofs.Joins.{can_join, five_words, join_planned, next_kept}
 use Rattle.bc_tree.proofs.Moves.{if_ok, key_of, spine_kept}

@@ -6,7 +6,7 @@ use Rattle.bc_inner.specs.Inner.{CoverRange, Inner}
 use Rattle.bc_key.specs.declared.key.Key.{Key}
 use Rattle.bc_tree.specs.Group.{AreTwo, IsFresh}
 use Rattle.bc_tree.specs.Needs.{become_one}
-use Rattle.bc_tree.specs.Plan.{children_across}
+use Rattle.bc_tree.specs.Across.{children_across}
 use Rattle.bc_tree.specs.Spine.{IsProper}
 use Rattle.bc_tree.proofs.Acrossing.{across_at, across_least, count_at, one_joined, one_left, one_may, propers_at, two_joined, two_least, two_left, two_may}
 use Rattle.bc_tree.proofs.Choices.{test}

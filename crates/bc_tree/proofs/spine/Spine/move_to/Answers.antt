@@ -4,7 +4,8 @@ use Rattle.std.proofs.lemmas.Option.{slice_get_within}
 use Rattle.bc_inner.specs.Inner.{Inner}
 use Rattle.bc_key.specs.declared.ptr.Ptr.{Ptr}
 use Rattle.bc_tree.specs.Change.{set_words}
-use Rattle.bc_tree.specs.Plan.{IsMovePlan, IsPlanOf, moves}
+use Rattle.bc_tree.specs.Plan.{IsPlanOf, moves}
+use Rattle.bc_tree.specs.Rewrite.{IsMovePlan}
 use Rattle.bc_tree.specs.Spine.{Spine, bottom}
 use Rattle.bc_tree.proofs.Coming.{three_words}
 use Rattle.bc_tree.proofs.Moves.{can_move, if_ok, key_of, move_planned, spine_kept}

@@ -6,10 +6,11 @@ use Rattle.bc_disk.specs.declared.geometry.Geometry.{Geometry}
 use Rattle.bc_inner.specs.Inner.{Inner}
 use Rattle.bc_key.specs.declared.ptr.Ptr.{Ptr}
 use Rattle.bc_node.specs.Leaf.{IsFull, Leaf}
-use Rattle.bc_tree.specs.Plan.{CanJoinHere, IsJoined, IsMadeJoin}
+use Rattle.bc_tree.specs.Merge.{CanJoinHere, IsJoined, IsMadeJoin}
 use Rattle.bc_tree.specs.Spine.{IsPlaceAt}
 use Rattle.bc_tree.proofs.Coming.{same_there}
 use Rattle.bc_tree.proofs.Crossings.{join_first, joins}
+use Rattle.bc_tree.proofs.LastKeys.{merge_stands}
 use Rattle.bc_tree.proofs.Same.{same_tree}
 use Rattle.bc_tree.proofs.spine.Spine.plan_join.Goals as goal
 
@@ -132,3 +133,6 @@ returns-clause-count c =
     let second = (join_first s place made.0 c.from-next.result c.in_ok-first.first _ _ c.in_ok-plan.plan made.2).1 in
     let all = take_all (length to - 1) (drop 1 to) (omega (arith, length-drop 1 to)) in
     omega (arith, can.0, c.in_ok-plan.ensures.count, ap (λ (l : Option Leaf). length (option_to_list l)) second, length-drop 1 to, ap (λ (ps : List Ptr). length ps) all)
+
+pub returns-clause-kept : goal.returns-clause-kept
+returns-clause-kept c = merge_stands c.args.self.now c.args.self.now.root.end c.args.left.now c.args.right.now c.args.to.now c.args.seq c.in_ok-plan.plan c.len.ensures.all.row c.requires.left c.requires.right c.requires.beside c.keys.ensures.proper.within c.keys-2.ensures.proper.within (returns-clause-planned c)

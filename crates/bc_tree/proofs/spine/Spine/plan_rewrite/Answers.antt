@@ -6,11 +6,13 @@ use Rattle.bc_disk.specs.declared.geometry.Geometry.{Geometry}
 use Rattle.bc_inner.specs.Inner.{Inner}
 use Rattle.bc_key.specs.declared.ptr.Ptr.{Ptr}
 use Rattle.bc_node.specs.Leaf.{IsFull, Leaf}
-use Rattle.bc_tree.specs.Plan.{IsComing, IsMovePlan, moves}
+use Rattle.bc_tree.specs.Plan.{IsComing, moves}
+use Rattle.bc_tree.specs.Rewrite.{IsMovePlan}
 use Rattle.bc_tree.specs.Spine.{IsPlaceAt}
 use Rattle.bc_tree.proofs.Coming.{same_there, three_words}
 use Rattle.bc_tree.proofs.Counts.{rewrite_places}
 use Rattle.bc_tree.proofs.Moves.{coming_same, range_is}
+use Rattle.bc_tree.proofs.LastKeys.{moved_stands}
 use Rattle.bc_tree.proofs.Same.{same_tree}
 use Rattle.bc_tree.proofs.spine.Spine.plan_rewrite.Goals as goal
 
@@ -99,3 +101,6 @@ returns-clause-count c =
     let places = rewrite_places s c.args.leaf.now.from place (length c.args.to.now) stands c.root.ensures.spine c.requires.places in
     let same = same_there s place.node is.above.node stands.parent is.above.there stands.node in
     omega (arith, places, is.above.moved, ap (λ (l : Option Leaf). length (option_to_list l)) is.alone, ap (λ (n : Inner). moves s n 3) same, ap (λ n. moves s is.above.node n) (three_words is.key is.names.one))
+
+pub returns-clause-kept : goal.returns-clause-kept
+returns-clause-kept c = moved_stands c.args.self.now c.args.leaf.now c.args.to.now c.args.seq c.in_ok-plan.plan c.requires.leaf (returns-clause-planned c)

@@ -6,11 +6,12 @@ use Rattle.bc_key.specs.declared.key.Key.{Key}
 use Rattle.bc_key.specs.declared.ptr.Ptr.{Ptr}
 use Rattle.bc_node.specs.Leaf.{Leaf}
 use Rattle.bc_tree.specs.Parts.{IsNearMiddle}
-use Rattle.bc_tree.specs.Plan.{AreHalves, AreSplitPlaces, IsMadeSplit, IsNotSplit}
+use Rattle.bc_tree.specs.Split.{AreHalves, AreSplitPlaces, IsMadeSplit, IsNotSplit}
 use Rattle.bc_tree.specs.Spine.{IsPlaceAt}
 use Rattle.bc_tree.proofs.Coming.{same_there}
 use Rattle.bc_tree.proofs.Halving.{made_first, made_places, made_second}
 use Rattle.bc_tree.proofs.Moves.{passed_on, range_is}
+use Rattle.bc_tree.proofs.LastKeys.{split_stands}
 use Rattle.bc_tree.proofs.Same.{same_tree}
 use Rattle.bc_tree.proofs.Splits.{not_split}
 use Rattle.bc_tree.proofs.spine.Spine.plan_split.Goals as goal
@@ -121,3 +122,6 @@ returns-clause-count c =
     let second = made_second s place made.0 c.in_ok-two.two.low c.in_ok-two.two.high _ _ c.in_ok-plan.plan made.2 in
     let all = take_all (length to - 2) (drop 2 to) (omega (arith, length-drop 2 to)) in
     omega (arith, places.0, c.in_ok-plan.ensures.count, second, length-drop 2 to, ap (λ (ps : List Ptr). length ps) all)
+
+pub returns-clause-kept : goal.returns-clause-kept
+returns-clause-kept c = split_stands c.args.self.now c.args.leaf.now c.args.to.now c.args.seq c.in_ok-plan.plan c.requires.leaf (returns-clause-planned c)

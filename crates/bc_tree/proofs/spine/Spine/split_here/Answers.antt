@@ -3,7 +3,8 @@ use Rattle.std.specs.Prelude.{slice_get}
 use Rattle.std.proofs.lemmas.Option.{slice_get_within}
 use Rattle.bc_disk.specs.declared.geometry.Geometry.{Geometry}
 use Rattle.bc_inner.specs.Inner.{Inner}
-use Rattle.bc_tree.specs.Plan.{IsHalvesPlan, IsMadeSplit, IsSplitPlan, above_count}
+use Rattle.bc_tree.specs.Plan.{above_count}
+use Rattle.bc_tree.specs.Split.{IsHalvesPlan, IsMadeSplit, IsSplitPlan}
 use Rattle.bc_tree.specs.Spine.{IsProper, bottom}
 use Rattle.bc_tree.specs.declared.plan.Plan.{Plan}
 use Rattle.bc_tree.proofs.Halving.{fits_at, full_places, room_places, split_counted}

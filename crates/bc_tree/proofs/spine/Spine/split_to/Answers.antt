@@ -4,7 +4,8 @@ use Rattle.bc_inner.specs.Inner.{Inner}
 use Rattle.bc_key.specs.declared.ptr.Ptr.{Ptr}
 use Rattle.bc_tree.specs.Change.{set_words}
 use Rattle.bc_tree.specs.Needs.{fits_node, words}
-use Rattle.bc_tree.specs.Plan.{IsPlanOf, IsSplitPlan, moves}
+use Rattle.bc_tree.specs.Plan.{IsPlanOf, moves}
+use Rattle.bc_tree.specs.Split.{IsSplitPlan}
 use Rattle.bc_tree.specs.Spine.{Spine, bottom}
 use Rattle.bc_tree.proofs.Moves.{if_ok, key_of, spine_kept}
 use Rattle.bc_tree.proofs.Same.{place_same, same_but_spare, same_twice}
