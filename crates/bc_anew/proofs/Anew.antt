@@ -63,7 +63,7 @@ use Rattle.bc_image.specs.Tree as image
 use Rattle.bc_image.proofs.Formatted.{only_bucket}
 use Rattle.bc_image.proofs.Fresh.{fresh_is_sound, fresh_is_view, fresh_shows, fresh_view}
 use Rattle.bc_image.proofs.Unique.{one_backing, one_shown, one_view}
-use Rattle.bc_opened.specs.Opening.{IsInnerOf, IsLeafOf, IsOpeningOf}
+use Rattle.bc_opened.specs.Opening.{IsInnerOf, IsLeafOf, IsSoundOpeningOf}
 use Rattle.bc_anew.specs.Laws.{IsOpenedOn}
 use Rattle.bc_anew.proofs.Classes.{Class, by_class, chain_has, class, class_area, class_chain, class_node, class_spare, class_table, fixed_has, from_on, is_chain, is_fixed, is_node, list_of, mark_of, node_has, not_chain, on_distinct, on_long, on_within, plain_has}
 
@@ -554,7 +554,7 @@ module _ (p : Pair) (b : BackingSuper) (c : CacheSuper) (g : Geometry) (w : Layo
   abbrev Nodes : List image.Node
   Nodes = node_of 1 0 f.entry.root (f.root_set ∷ []) ∷ node_of 0 0 f.leaf (f.leaf_set ∷ []) ∷ []
 
-  pub opening_of : IsOpeningOf p (fresh_view p b c g f) opening held
+  pub opening_of : IsSoundOpeningOf p (fresh_view p b c g f) opening held
   opening_of = record {
     view = view_is;
     parts = sound_parts;

@@ -26,7 +26,7 @@ use Rattle.bc_known.specs.Laws.{IsSound}
 use Rattle.bc_origin.specs.Keys.{WasThere, new_keys}
 use Rattle.bc_shows.specs.On.{IsMachineOf, IsRunOn}
 use Rattle.bc_shows.specs.Laws.{IsLeftAs}
-use Rattle.bc_opened.specs.Opening.{IsOpeningOf}
+use Rattle.bc_opened.specs.Opening.{IsSoundOpeningOf}
 use Rattle.bc_ranges.specs.Laws.{IsRunOf}
 
 -- A sound opening of a machine of the device, without keys. The backing device has its data from an
@@ -55,7 +55,7 @@ abbrev pub LawOpening : Type 0
 LawOpening =
     (p : Pair) (b : BackingSuper) (c : CacheSuper) (g : Geometry) (layout : Layout)
     → IsFormatted p b c g → HasSuperblocks b c → IsLayoutOf g layout
-    → (v : View) × (w : Opening) × (x : parts.State) × (v.geometry ≡ g) × IsOpeningOf p v w x
+    → (v : View) × (w : Opening) × (x : parts.State) × (v.geometry ≡ g) × IsSoundOpeningOf p v w x
 
 -- a run from there, all whose keys lie in data whole, and of which no torn record matched by chance
 pub record IsRunFrom (g : Geometry) (w : Opening) (x : parts.State) (next_seq : ℕ)
@@ -79,7 +79,7 @@ HasExample = (b : BackingSuper) × (g : Geometry) × (w : Opening) × (x : parts
 
 -- it opens that pair as a sound one
 abbrev pub HasOpening : Type 0
-HasOpening = (v : View) × (w : Opening) × (x : parts.State) × IsOpeningOf new_pair v w x
+HasOpening = (v : View) × (w : Opening) × (x : parts.State) × IsSoundOpeningOf new_pair v w x
 
 -- and a run goes on from there, in which something is done
 abbrev pub HasRun : Type 0

@@ -79,8 +79,8 @@ HasNumber None number = ⊥
 HasNumber (Some cached) number = cached.number ≡ number
 
 -- the slot has some leaf
-abbrev pub IsTaken : List (Option Cached) → ℕ → Type 0
-IsTaken slots slot = (cached : Cached) × (slice_get slots slot ≡ Some (Some cached))
+abbrev pub IsOccupied : List (Option Cached) → ℕ → Type 0
+IsOccupied slots slot = (cached : Cached) × (slice_get slots slot ≡ Some (Some cached))
 
 -- it has one, which somebody holds, or nobody
 abbrev pub IsTakenBy : List (Option Cached) → ℕ → Bool → Type 0

@@ -3,7 +3,7 @@ ghost use Rattle.std.specs.Prelude.{◌≡◌, ◌+◌, ◌<◌, ◌≤◌, ◌^
 ghost use Rattle.bc_disk.specs.Disk.{IsKept};
 ghost use Rattle.bc_disk.specs.Device.{next_count};
 ghost use Rattle.bc_key.specs.Key.{ptr_at};
-ghost use Rattle.bc_cache.specs.Slots.{HasLeaf, IsOldest, IsSlotOf, IsTaken, IsTakenBy, Misses, NoneCanGo, coming, used_with, with_slot};
+ghost use Rattle.bc_cache.specs.Slots.{HasLeaf, IsOldest, IsSlotOf, IsOccupied, IsTakenBy, Misses, NoneCanGo, coming, used_with, with_slot};
 ghost use Rattle.bc_cache.specs.Fetch.{IsLeafIn, IsNotRead, IsReadInto, IsSetHeld, IsTakenOut, IsUsed};
 ghost use Rattle.bc_cache.specs.declared.error.FetchError.{FetchError};
 
@@ -101,7 +101,7 @@ impl NodeCache {
 
     /// Notes that a slot was used.
     fn touch(&mut self, slot: u32)
-        requires { IsTaken self.old.slots slot }
+        requires { IsOccupied self.old.slots slot }
         ensures { IsUsed slot self.old self.new }
     {
         let uses = next_use(self.uses);
@@ -262,7 +262,7 @@ impl NodeCache {
 
     /// The leaf in a slot, to be changed.
     pub fn node(&mut self, slot: u32) -> &mut Leaf
-        requires { IsTaken self.old.slots slot }
+        requires { IsOccupied self.old.slots slot }
         ensures* lends { sem 𝓛 (LendsLeaf self.entry slot result) }
         ensures leaf { IsLeafIn self.old.slots slot result.now }
     {

@@ -1,6 +1,6 @@
 //! A node cache beside a plain list of slots.
 ghost use Rattle.std.specs.Prelude.{◌<◌};
-ghost use Rattle.bc_cache.specs.Slots.{IsTaken, IsTakenBy};
+ghost use Rattle.bc_cache.specs.Slots.{IsOccupied, IsTakenBy};
 
 use super::{Cached, FetchError, NodeCache};
 use bc_disk::disk::Disk;
@@ -225,7 +225,7 @@ fn fetch(rt: &impl Abort, both: &mut Both, number: u32)
 
 /// Adds a key to the leaf in a slot of both.
 fn change(rt: &impl Abort, both: &mut Both, slot: u32, plain: Plain) -> Result<(), AllocError>
-    requires { IsTaken both.old.cache.slots slot }
+    requires { IsOccupied both.old.cache.slots slot }
 {
     let n = plain.number as usize;
     assert!(rt; plain.number < 6 && n < both.added.len() && (slot as usize) < both.list.len());
@@ -243,7 +243,7 @@ fn change(rt: &impl Abort, both: &mut Both, slot: u32, plain: Plain) -> Result<(
 
 /// Writes the leaf in a slot of both.
 fn clean(rt: &impl Abort, both: &mut Both, slot: u32, plain: Plain)
-    requires { IsTaken both.old.cache.slots slot }
+    requires { IsOccupied both.old.cache.slots slot }
 {
     let n = plain.number as usize;
     assert!(rt; n < both.stored.len() && (slot as usize) < both.list.len());

@@ -6,7 +6,6 @@ ghost use Rattle.bc_disk.specs.declared.disk.Device.TheVariants as device;
 ghost use Rattle.bc_image.specs.Pair.{Pair};
 ghost use Rattle.bc_replay.specs.Causes.{IsReadOnce, OfHeld};
 ghost use Rattle.bc_replay.specs.Survey.{HasSurvey};
-ghost use Rattle.bc_super.specs.Division.{IsPassThrough};
 ghost use Rattle.bc_super.specs.declared.error.SuperError.{SuperError};
 ghost use Rattle.bc_disk.specs.declared.disk.Device.{Device};
 ghost use Rattle.bc_check.specs.declared.verdict.CheckError.{CheckError};
@@ -20,19 +19,10 @@ use crate::totals::count_sectors;
 use crate::verdict::{CheckError, Verdict};
 use crate::window::first_aged;
 use bc_disk::disk::{Device, Disk};
-use bc_mode::Mode;
 use bc_replay::{Survey, survey};
-use bc_super::backing::{BackingSuper, read_backing};
+use bc_super::backing::read_backing;
 use bc_super::error::SuperError;
-use bc_super::state::BackingState;
 use std::alloc::{AllocError, Global};
-
-/// Whether the backing device of this superblock asks for no cache.
-fn is_pass_through(b: &BackingSuper) -> bool
-    ensures { IsTrue result ↔ IsPassThrough b.now }
-{
-    b.mode() == Mode::None && b.state() == BackingState::None
-}
 
 /// That the backing device doesn't serve alone, since its superblock was refused for this reason; a
 /// fault stays one.
@@ -59,7 +49,7 @@ fn serves_alone<B: Disk>(backing: &mut B) -> Result<bool, CheckError>
         → (B.facts backing.new).calls ≡ next_count (B.facts backing.old).calls) }
 {
     match read_backing(backing) {
-        Ok(b) => Ok(is_pass_through(&b)),
+        Ok(b) => Ok(b.is_pass_through()),
         Err(why) => refused(why),
     }
 }

@@ -4,7 +4,7 @@ use Rattle.std.specs.Prelude.{◌==◌, ◌&&◌, ◌||◌, nat_lt, if◌then◌
 use Rattle.std.proofs.lemmas.Bool.{lt-ltb}
 use Rattle.bc_disk.specs.Disk.{DiskFacts}
 use Rattle.bc_flight.specs.Claims.{is_exclusive as alone, conflicts, conflicts_any}
-use Rattle.bc_flight.specs.Flight.{InFlight, claim_at, claim_of, without, IsTaken as TakenBy}
+use Rattle.bc_flight.specs.Flight.{InFlight, claim_at, claim_of, without, HasConflict}
 use Rattle.bc_flight.specs.declared.claim.Claim.{Claim as FlightClaim}
 use Rattle.bc_flight.specs.declared.claim.Share.{Share}
 use Rattle.bc_flight.specs.declared.claim.Share.TheVariants.{Shared, Exclusive}
@@ -334,7 +334,7 @@ module _ {C B : Type 0} (cache_facts : C → DiskFacts) (backing_facts : B → D
   -- one that conflicts with what was asked for is another seat's
   pub claim_taken : (v : View cache_facts backing_facts) (f : InFlight) (i first count : ℕ) (how : Share)
       → i ≡ v.first → IsFlight f (world cache_facts backing_facts v)
-      → TakenBy (claim_at i first count how) f.claims
+      → HasConflict (claim_at i first count how) f.claims
       → IsTaken (claim_at v.first first count how) (world cache_facts backing_facts v)
   claim_taken v f i first count how is on taken = subst (λ n. IsTaken (claim_at n first count how)
       (world cache_facts backing_facts v)) is (
@@ -376,7 +376,7 @@ module _ {C B : Type 0} (cache_facts : C → DiskFacts) (backing_facts : B → D
       (u v w x : View cache_facts backing_facts) → ((k : ℕ) → Holds u.parts k → Holds v.parts k)
       → Waited (m cache_facts backing_facts) u v
       → HasClaimed cache_facts backing_facts done first count how v w
-      → Waited (m cache_facts backing_facts) w x → x.seen ≡ w.seen → x.told ≡ w.told
+      → Waited (m cache_facts backing_facts) w x → x.seen ≡ w.seen → x.heard ≡ w.heard
       → IsCoreSeat cache_facts backing_facts x
       → HasClaimed cache_facts backing_facts done first count how u x
   claimed_between true first count how u v w x still before h last seen told seat =
@@ -391,7 +391,7 @@ module _ {C B : Type 0} (cache_facts : C → DiskFacts) (backing_facts : B → D
   pub halted_between : (error : StepError) (u v w x : View cache_facts backing_facts)
       → ((k : ℕ) → Holds u.parts k → Holds v.parts k) → Waited (m cache_facts backing_facts) u v
       → IsHalted error w.seen × Did cache_facts backing_facts None v w
-      → Waited (m cache_facts backing_facts) w x → x.seen ≡ w.seen → x.told ≡ w.told
+      → Waited (m cache_facts backing_facts) w x → x.seen ≡ w.seen → x.heard ≡ w.heard
       → IsCoreSeat cache_facts backing_facts x
       → IsHalted error x.seen × Did cache_facts backing_facts None u x
   halted_between error u v w x still before h last seen told seat = (

@@ -9,7 +9,7 @@ use Rattle.bc_disk.specs.Stands.{MayRead, settled_model}
 use Rattle.bc_disk.specs.declared.disk.Device.TheVariants as device
 use Rattle.bc_disk.proofs.Sectors.{at_run-below}
 use Rattle.bc_disk.proofs.Stands.{CountsGood, CountsFault, read_stands, fault_stands, write_stands, failed_write_stands, barrier_stands, read_may}
-use Rattle.bc_events.specs.declared.event.Line.{Line}
+use Rattle.bc_events.specs.declared.event.LineNumber.{LineNumber}
 use Rattle.bc_events.specs.declared.event.Failure.TheVariants as failure
 use Rattle.bc_events.specs.declared.event.Deed.TheVariants as deed
 use Rattle.bc_model.specs.declared.values.Values.{Values}
@@ -206,7 +206,7 @@ module _ {C B : Type 0} (cache_facts : C → DiskFacts) (backing_facts : B → D
       part_is (after x (by i (deed.DeviceFault (failure.Read device.Backing)))) refl refl refl
       (fault_stands old_facts new_facts (model x.backing content) on.stands is counts)
 
-  pub behind_write : (first : ℕ) (of : Option Line) (values : Values)
+  pub behind_write : (first : ℕ) (of : Option LineNumber) (values : Values)
       → IsWritten (b.offset + first) values old_facts new_facts → CountsGood old_facts new_facts
       → IsBackingOf {C = C} cache_facts backing_facts new (after x (by i (deed.BackingWrite first of values)))
   behind_write first of values is counts = part_is (after x (by i (deed.BackingWrite first of values))) refl refl refl
@@ -216,7 +216,7 @@ module _ {C B : Type 0} (cache_facts : C → DiskFacts) (backing_facts : B → D
       (write_stands old_facts new_facts (model x.backing content) on.stands (x.offset + first) values
       (subst (λ n. IsWritten (n + first) values old_facts new_facts) on.offset is) counts)))
 
-  pub behind_failed_write : (first : ℕ) (of : Option Line) (values : Values)
+  pub behind_failed_write : (first : ℕ) (of : Option LineNumber) (values : Values)
       → IsFailedWrite (b.offset + first) values old_facts new_facts → CountsFault old_facts new_facts
       → IsBackingOf {C = C} cache_facts backing_facts new
       (after x (by i (deed.DeviceFault (failure.BackingWrite first of values))))

@@ -8,7 +8,7 @@ use Rattle.bc_disk.specs.Disk.{DiskFacts}
 use Rattle.bc_machine.specs.declared.part.BackingPart.{BackingPart}
 use Rattle.bc_machine.specs.declared.part.CorePart.{CorePart}
 use Rattle.bc_machine.specs.declared.part.CorePart.TheVariants as part
-use Rattle.bc_machine.specs.World.{World, opening, IsPart, IsFlightOf, IsBackingOf, IsBacking}
+use Rattle.bc_machine.specs.World.{World, opening, StandsAs, IsFlightOf, IsBackingOf, IsBacking}
 use Rattle.bc_machine.proofs.Viewing.{plain_view}
 use Rattle.bc_hand.specs.Seats.{core}
 use Rattle.bc_deed.specs.Begun.{opening_parts}
@@ -37,7 +37,7 @@ six_pushed {P} l0 l1 l2 l3 l4 l5 l6 a b c d e f p0 p1 p2 p3 p4 p5 p6 =
 
 module _ {C B : Type 0} (cache_facts : C → DiskFacts) (backing_facts : B → DiskFacts) where
   -- the last part is the backing device
-  pub is_backing : (p : CorePart C B) (x : World) → IsPart cache_facts backing_facts 5 p x
+  pub is_backing : (p : CorePart C B) (x : World) → StandsAs cache_facts backing_facts 5 p x
       → (backing : BackingPart B) × (p ≡ part.Backing backing)
   is_backing part.Absent x h = absurd (h.not_backing refl)
   is_backing (part.Spine sp) x h = absurd (let not : 5 ≡ 0 = h.0 in omega arith)
@@ -49,9 +49,9 @@ module _ {C B : Type 0} (cache_facts : C → DiskFacts) (backing_facts : B → D
   is_backing (part.Backing b) x h = (b, refl)
 
   pub stands_backing : (p : CorePart C B) (b : BackingPart B) (x : World)
-      → IsPart cache_facts backing_facts 5 p x → p ≡ part.Backing b
+      → StandsAs cache_facts backing_facts 5 p x → p ≡ part.Backing b
       → IsBacking {C = C} cache_facts backing_facts b x
-  stands_backing p b x h is = (subst (λ (q : CorePart C B). IsPart cache_facts backing_facts 5 q x) is h).1
+  stands_backing p b x h is = (subst (λ (q : CorePart C B). StandsAs cache_facts backing_facts 5 q x) is h).1
 
   -- as a run over the backing device alone begins
   pub begins : (f : InFlight) (b : BackingPart B) → f.seats ≡ 320 → f.claims ≡ []

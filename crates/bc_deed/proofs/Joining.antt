@@ -59,7 +59,7 @@ module _ {C B : Type 0} (cache_facts : C → DiskFacts) (backing_facts : B → D
   pub works_joined : (p : PartsView (CorePart C B)) (v o w : View cache_facts backing_facts)
       → Works cache_facts backing_facts p v empty → Works cache_facts backing_facts p o empty
       → w.run ≡ v.run → w.first ≡ v.first → w.end ≡ o.end → o.first ≡ v.end → w.parts ≡ v.parts
-      → w.told ≡ option_or v.told o.told → SeesLater (m cache_facts backing_facts) v w.seen
+      → w.heard ≡ option_or v.heard o.heard → SeesLater (m cache_facts backing_facts) v w.seen
       → Works cache_facts backing_facts p w empty
   works_joined p v o w a b run first_is end_is next parts told sees =
       let since = since_later (m cache_facts backing_facts) v w sees run in
@@ -76,7 +76,7 @@ module _ {C B : Type 0} (cache_facts : C → DiskFacts) (backing_facts : B → D
           numbers = subst (λ n. n ≤ 320) (sym end_is) b.seat.numbers;
           parts = subst (λ (r : Run (CorePart C B)). 5 < length r.start) (sym run) a.seat.parts;
           fresh = λ none. subst (λ n. InEach (world cache_facts backing_facts w) (λ y. (data_of y).late n ≡ false))
-              (sym first_is) (fresh (a.seat.fresh (none_left v.told o.told (sym told ∙ none))));
+              (sym first_is) (fresh (a.seat.fresh (none_left v.heard o.heard (sym told ∙ none))));
           bare = bare_since cache_facts backing_facts v (world cache_facts backing_facts w) a.seat.bare since;
         };
         parts = parts ∙ a.parts;

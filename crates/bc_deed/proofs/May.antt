@@ -16,7 +16,7 @@ use Rattle.bc_whole.specs.Together.{is_quiet}
 use Rattle.bc_known.specs.Acts.{Alone}
 use Rattle.bc_events.specs.Acts.{acts_of}
 use Rattle.bc_events.specs.Run.{Opening, IsSome, CanDo, IsFit, IsOf, line_of}
-use Rattle.bc_events.specs.declared.event.Line.{Line}
+use Rattle.bc_events.specs.declared.event.LineNumber.{LineNumber}
 use Rattle.bc_events.specs.declared.event.Deed.{Deed}
 use Rattle.bc_events.specs.declared.event.Deed.TheVariants as deed
 use Rattle.bc_events.specs.declared.event.Failure.TheVariants as failure
@@ -133,7 +133,7 @@ module _ {C B : Type 0} (cache_facts : C → DiskFacts) (backing_facts : B → D
   size_at v d x y at = at.size ∙ ap (λ (o : Opening). o.machine.flow.books.size)
       (opening_stays (opening cache_facts backing_facts v.run.start) v.seen)
 
-  line_at : (v : View cache_facts backing_facts) (d : Deed) (x y : World) (of : Line)
+  line_at : (v : View cache_facts backing_facts) (d : Deed) (x y : World) (of : LineNumber)
       → AtDeed cache_facts backing_facts v d x y → worker_of v.first ≡ of.worker
       → y.opening.worker v.first ≡ of.worker
   line_at v d x y of at is = at.worker ∙ ap (λ (o : Opening). o.worker v.first)
@@ -144,14 +144,14 @@ module _ {C B : Type 0} (cache_facts : C → DiskFacts) (backing_facts : B → D
 
   -- ---- what seats say
 
-  pub may_begin_flush : (v : View cache_facts backing_facts) (of : Line)
+  pub may_begin_flush : (v : View cache_facts backing_facts) (of : LineNumber)
       → IsCoreSeat cache_facts backing_facts v → worker_of v.first ≡ of.worker
       → MayDo cache_facts backing_facts v (deed.FlushFrom of)
   may_begin_flush v of seat line = λ x y at told. can_alone y v.first (deed.FlushFrom of)
       (flow.Say (flow.BeginFlush of.line)) (low v seat) refl refl
       (record { heard = at.running refl; steps = tt; can = tt }) tt (line_at v (deed.FlushFrom of) x y of at line) tt
 
-  pub may_end_flush : (v : View cache_facts backing_facts) (of : Line)
+  pub may_end_flush : (v : View cache_facts backing_facts) (of : LineNumber)
       → IsCoreSeat cache_facts backing_facts v → worker_of v.first ≡ of.worker
       → are_plain cache_facts backing_facts v.run.start ≡ true
       → (note cache_facts backing_facts v).flush.going ≡ true
@@ -171,7 +171,7 @@ module _ {C B : Type 0} (cache_facts : C → DiskFacts) (backing_facts : B → D
         };
       }) tt (line_at v (deed.FlushDone of) x y of at line) tt
 
-  pub may_acknowledge : (v : View cache_facts backing_facts) (of : Line) (first count : ℕ)
+  pub may_acknowledge : (v : View cache_facts backing_facts) (of : LineNumber) (first count : ℕ)
       → IsCoreSeat cache_facts backing_facts v → worker_of v.first ≡ of.worker
       → are_plain cache_facts backing_facts v.run.start ≡ true
       → (note cache_facts backing_facts v).range.exclusive ≡ true
@@ -196,7 +196,7 @@ module _ {C B : Type 0} (cache_facts : C → DiskFacts) (backing_facts : B → D
         };
       }) tt (line_at v (deed.Durable of first count) x y of at line) tt
 
-  pub may_begin_line : (v : View cache_facts backing_facts) (of : Line)
+  pub may_begin_line : (v : View cache_facts backing_facts) (of : LineNumber)
       → IsCoreSeat cache_facts backing_facts v → worker_of v.first ≡ of.worker
       → MayDo cache_facts backing_facts v (deed.LineFrom of)
   may_begin_line v of seat line = λ x y at told. record {
@@ -210,7 +210,7 @@ module _ {C B : Type 0} (cache_facts : C → DiskFacts) (backing_facts : B → D
     names = tt;
   }
 
-  pub may_end_line : (v : View cache_facts backing_facts) (of : Line)
+  pub may_end_line : (v : View cache_facts backing_facts) (of : LineNumber)
       → IsCoreSeat cache_facts backing_facts v → worker_of v.first ≡ of.worker
       → (world cache_facts backing_facts v).now.line v.first ≡ Some of
       → MayDo cache_facts backing_facts v (deed.LineDone of)
@@ -240,7 +240,7 @@ module _ {C B : Type 0} (cache_facts : C → DiskFacts) (backing_facts : B → D
       ap (λ (z : World). z.opening.machine.flow.books.index s) alone
       ∙ ap (λ (o : Opening). o.machine.flow.books.index s) (opening_seen cache_facts backing_facts v x since)
 
-  pub may_answer : (v : View cache_facts backing_facts) (of : Line) (first : ℕ) (values : Values)
+  pub may_answer : (v : View cache_facts backing_facts) (of : LineNumber) (first : ℕ) (values : Values)
       → IsCoreSeat cache_facts backing_facts v → worker_of v.first ≡ of.worker
       → are_plain cache_facts backing_facts v.run.start ≡ true
       → (note cache_facts backing_facts v).looked ≡ true
@@ -270,24 +270,24 @@ module _ {C B : Type 0} (cache_facts : C → DiskFacts) (backing_facts : B → D
   -- ---- calls of the backing device
 
   pub may_barrier : (v : View cache_facts backing_facts) → IsCoreSeat cache_facts backing_facts v
-      → v.told ≡ None → MayDo cache_facts backing_facts v deed.BackingBarrier
+      → v.heard ≡ None → MayDo cache_facts backing_facts v deed.BackingBarrier
   may_barrier v seat untold = λ x y at told. can_alone y v.first deed.BackingBarrier flow.BackingBarrier (low v seat)
       refl refl (record { heard = inr (at.late untold); steps = tt; can = tt }) tt tt tt
 
   pub may_fail_barrier : (v : View cache_facts backing_facts) → IsCoreSeat cache_facts backing_facts v
-      → v.told ≡ None → MayDo cache_facts backing_facts v (deed.DeviceFault (failure.Barrier which.Backing))
+      → v.heard ≡ None → MayDo cache_facts backing_facts v (deed.DeviceFault (failure.Barrier which.Backing))
   may_fail_barrier v seat untold = λ x y at told. can_alone y v.first
       (deed.DeviceFault (failure.Barrier which.Backing)) (flow.Fail flow.BarrierFault) (low v seat)
       refl refl (record { heard = inr (at.late untold); steps = tt; can = tt }) tt tt tt
 
   pub may_fail_read : (v : View cache_facts backing_facts) → IsCoreSeat cache_facts backing_facts v
-      → v.told ≡ None → MayDo cache_facts backing_facts v (deed.DeviceFault (failure.Read which.Backing))
+      → v.heard ≡ None → MayDo cache_facts backing_facts v (deed.DeviceFault (failure.Read which.Backing))
   may_fail_read v seat untold = λ x y at told. can_alone y v.first
       (deed.DeviceFault (failure.Read which.Backing)) (flow.Fail flow.ReadFault) (low v seat)
       refl refl (record { heard = inr (at.late untold); steps = tt; can = tt }) tt tt tt
 
   pub may_read : (v : View cache_facts backing_facts) (b : BackingPart B) (first : ℕ) (values : Values)
-      → IsCoreSeat cache_facts backing_facts v → v.told ≡ None → Holds v.parts 5
+      → IsCoreSeat cache_facts backing_facts v → v.heard ≡ None → Holds v.parts 5
       → IsBacking {C = C} cache_facts backing_facts b (world cache_facts backing_facts v)
       → (note cache_facts backing_facts v).looked ≡ true
       → IsWithin (note cache_facts backing_facts v).range first (length values)
@@ -326,8 +326,8 @@ module _ {C B : Type 0} (cache_facts : C → DiskFacts) (backing_facts : B → D
     );
   }
 
-  pub may_write : (v : View cache_facts backing_facts) (first : ℕ) (of : Line) (values : Values)
-      → IsCoreSeat cache_facts backing_facts v → v.told ≡ None → worker_of v.first ≡ of.worker
+  pub may_write : (v : View cache_facts backing_facts) (first : ℕ) (of : LineNumber) (values : Values)
+      → IsCoreSeat cache_facts backing_facts v → v.heard ≡ None → worker_of v.first ≡ of.worker
       → are_plain cache_facts backing_facts v.run.start ≡ true → 0 < length values → MayWrite (note cache_facts backing_facts v) first (length values)
       → MayDo cache_facts backing_facts v (deed.BackingWrite first (Some of) values)
   may_write v first of values seat untold line plain some may = λ x y at told.
@@ -338,8 +338,8 @@ module _ {C B : Type 0} (cache_facts : C → DiskFacts) (backing_facts : B → D
         can = bypass v x y (deed.BackingWrite first (Some of) values) first values at some plain may;
       }) tt (line_at v (deed.BackingWrite first (Some of) values) x y of at line) tt
 
-  pub may_fail_write : (v : View cache_facts backing_facts) (first : ℕ) (of : Line) (values : Values)
-      → IsCoreSeat cache_facts backing_facts v → v.told ≡ None → worker_of v.first ≡ of.worker
+  pub may_fail_write : (v : View cache_facts backing_facts) (first : ℕ) (of : LineNumber) (values : Values)
+      → IsCoreSeat cache_facts backing_facts v → v.heard ≡ None → worker_of v.first ≡ of.worker
       → are_plain cache_facts backing_facts v.run.start ≡ true → 0 < length values → MayWrite (note cache_facts backing_facts v) first (length values)
       → MayDo cache_facts backing_facts v (deed.DeviceFault (failure.BackingWrite first (Some of) values))
   may_fail_write v first of values seat untold line plain some may = λ x y at told.
@@ -434,7 +434,7 @@ module _ {C B : Type 0} (cache_facts : C → DiskFacts) (backing_facts : B → D
   pub failed_between : (error : StepError) (d : Deed) (u v w x : View cache_facts backing_facts)
       → ((k : ℕ) → Holds u.parts k → Holds v.parts k) → Waited (m cache_facts backing_facts) u v
       → HasFailed cache_facts backing_facts error d v w → Waited (m cache_facts backing_facts) w x
-      → x.seen ≡ w.seen → x.told ≡ w.told → IsCoreSeat cache_facts backing_facts x
+      → x.seen ≡ w.seen → x.heard ≡ w.heard → IsCoreSeat cache_facts backing_facts x
       → HasFailed cache_facts backing_facts error d u x
   failed_between (error.Fault device) d u v w x still first h last seen told seat =
       (h.0, did_between cache_facts backing_facts (Some d) u v w x still first h.1 last seen told seat)
@@ -445,7 +445,7 @@ module _ {C B : Type 0} (cache_facts : C → DiskFacts) (backing_facts : B → D
   pub failed_or_between : (error : StepError) (d : Deed) (u v w x : View cache_facts backing_facts)
       → ((k : ℕ) → Holds u.parts k → Holds v.parts k) → Waited (m cache_facts backing_facts) u v
       → HasFailed cache_facts backing_facts error d v w → Waited (m cache_facts backing_facts) w x
-      → x.seen ≡ w.seen → x.told ≡ w.told → IsCoreSeat cache_facts backing_facts x
+      → x.seen ≡ w.seen → x.heard ≡ w.heard → IsCoreSeat cache_facts backing_facts x
       → HasFailedOr cache_facts backing_facts error d u x
   failed_or_between (error.Fault device) d u v w x still first h last seen told seat =
       (h.0, did_between cache_facts backing_facts (Some d) u v w x still first h.1 last seen told seat)

@@ -19,21 +19,21 @@ module _ {C B : Type 0} (cache_facts : C → DiskFacts) (backing_facts : B → D
 
   waited_for : (v w : View cache_facts backing_facts) → Went (m cache_facts backing_facts) v [] w
       → Since (m cache_facts backing_facts) v (state_seen (m cache_facts backing_facts) w)
-      → w.told ≡ v.told → Waited (m cache_facts backing_facts) v (as_before v w)
+      → w.heard ≡ v.heard → Waited (m cache_facts backing_facts) v (as_before v w)
   waited_for v w went since told = record {
     same = record { run = went.same.run; first = went.same.first; end = went.same.end };
     promises = refl;
     own = went.own ∙ append-nil (own_events (m cache_facts backing_facts) v);
     since = since;
     grown = record { more = went.grown.more; seen = went.grown.seen; rest = went.grown.rest };
-    told = λ none. sym told ∙ none;
+    heard = λ none. sym told ∙ none;
   }
 
   pub works_promised : (p : PartsView (CorePart C B)) (v w : View cache_facts backing_facts) (h : Hand C B)
       (changed : ℕ → Bool) → Works cache_facts backing_facts p v h
       → Kept (m cache_facts backing_facts) v w changed → Went (m cache_facts backing_facts) v [] w
       → Since (m cache_facts backing_facts) v (state_seen (m cache_facts backing_facts) w)
-      → w.told ≡ v.told → Works cache_facts backing_facts p w h
+      → w.heard ≡ v.heard → Works cache_facts backing_facts p w h
   works_promised p v w h changed works kept went since told =
       let on = works_waited cache_facts backing_facts p v (as_before v w) h works
       (record { live = kept.seat.live; run = kept.seat.run }) (waited_for v w went since told) kept.parts in
@@ -53,6 +53,6 @@ module _ {C B : Type 0} (cache_facts : C → DiskFacts) (backing_facts : B → D
   pub note_promised : (v w : View cache_facts backing_facts) → IsCoreSeat cache_facts backing_facts v
       → Went (m cache_facts backing_facts) v [] w
       → Since (m cache_facts backing_facts) v (state_seen (m cache_facts backing_facts) w)
-      → w.told ≡ v.told → IsFirmer (note cache_facts backing_facts v) (note cache_facts backing_facts w)
+      → w.heard ≡ v.heard → IsFirmer (note cache_facts backing_facts v) (note cache_facts backing_facts w)
   note_promised v w seat went since told =
       note_waited cache_facts backing_facts v (as_before v w) seat (waited_for v w went since told)

@@ -5,7 +5,7 @@ use Rattle.bc_disk.specs.Disk.{DiskFacts}
 use Rattle.bc_disk.specs.declared.disk.Device.TheVariants.{Backing}
 use Rattle.bc_seats.specs.Seats.{Went}
 use Rattle.bc_seats.proofs.Knowing.{waited, committed, both}
-use Rattle.bc_events.specs.declared.event.Line.{Line}
+use Rattle.bc_events.specs.declared.event.LineNumber.{LineNumber}
 use Rattle.bc_events.specs.declared.event.Deed.{Deed}
 use Rattle.bc_events.specs.declared.event.Deed.TheVariants.{FlushFrom, BackingBarrier, FlushDone, DeviceFault}
 use Rattle.bc_events.specs.declared.event.Failure.TheVariants.{Barrier}
@@ -55,7 +55,7 @@ module _ {C B : Type 0} (cache_facts : C → DiskFacts) (backing_facts : B → D
 
   -- ---- a flush
 
-  pub begun_going : (v w : View cache_facts backing_facts) (of : Line) → IsCoreSeat cache_facts backing_facts v
+  pub begun_going : (v w : View cache_facts backing_facts) (of : LineNumber) → IsCoreSeat cache_facts backing_facts v
       → Did cache_facts backing_facts (Some (FlushFrom of)) v w
       → ((note cache_facts backing_facts w).flush.going ≡ true) × ((note cache_facts backing_facts w).flush.line ≡ of.line)
   begun_going v w of seat h = let firm = note_committed cache_facts backing_facts v w (FlushFrom of) seat h.is in
@@ -69,13 +69,13 @@ module _ {C B : Type 0} (cache_facts : C → DiskFacts) (backing_facts : B → D
   barrier_firm v w seat h = let firm = note_committed cache_facts backing_facts v w BackingBarrier seat h.is in
       (firm.flush.0, firm.flush.1, firm.flush.2 refl)
 
-  pub stopped_first : (e : StepError) (of : Line) (v w : View cache_facts backing_facts) → IsHalted e w.seen
+  pub stopped_first : (e : StepError) (of : LineNumber) (v w : View cache_facts backing_facts) → IsHalted e w.seen
       → Did cache_facts backing_facts None v w → HasStopped cache_facts backing_facts e of v w
   stopped_first (error.Fault d) of v w halted h = absurd halted
   stopped_first (error.Halted d) of v w halted h = (halted, inl (done_first None v w h))
   stopped_first error.Memory of v w halted h = absurd halted
 
-  pub stopped_barrier : (e : StepError) (of : Line) (u v w : View cache_facts backing_facts)
+  pub stopped_barrier : (e : StepError) (of : LineNumber) (u v w : View cache_facts backing_facts)
       → Did cache_facts backing_facts (Some (FlushFrom of)) u v
       → HasFailed cache_facts backing_facts e (DeviceFault (Barrier Backing)) v w
       → HasStopped cache_facts backing_facts e of u w
@@ -85,7 +85,7 @@ module _ {C B : Type 0} (cache_facts : C → DiskFacts) (backing_facts : B → D
       (h.0, inr (inl (done_then (FlushFrom of ∷ []) None u v w (done_first (Some (FlushFrom of)) u v a) h.1)))
   stopped_barrier error.Memory of u v w a h = absurd h
 
-  pub stopped_done : (e : StepError) (of : Line) (t u v w : View cache_facts backing_facts)
+  pub stopped_done : (e : StepError) (of : LineNumber) (t u v w : View cache_facts backing_facts)
       → Did cache_facts backing_facts (Some (FlushFrom of)) t u
       → Did cache_facts backing_facts (Some BackingBarrier) u v → IsHalted e w.seen
       → Did cache_facts backing_facts None v w → HasStopped cache_facts backing_facts e of t w
@@ -98,7 +98,7 @@ module _ {C B : Type 0} (cache_facts : C → DiskFacts) (backing_facts : B → D
   )
   stopped_done error.Memory of t u v w a b halted h = absurd halted
 
-  pub stopped_end : {A : Type 0} (r : Result A StepError) (of : Line)
+  pub stopped_end : {A : Type 0} (r : Result A StepError) (of : LineNumber)
       (t u v w : View cache_facts backing_facts)
       → Did cache_facts backing_facts (Some (FlushFrom of)) t u
       → Did cache_facts backing_facts (Some BackingBarrier) u v
@@ -107,7 +107,7 @@ module _ {C B : Type 0} (cache_facts : C → DiskFacts) (backing_facts : B → D
   stopped_end (Ok x) of t u v w a b h halted = tt
   stopped_end (Err e) of t u v w a b h halted = stopped_done e of t u v w a b halted h
 
-  pub flushed : (of : Line) (t u v w : View cache_facts backing_facts)
+  pub flushed : (of : LineNumber) (t u v w : View cache_facts backing_facts)
       → Did cache_facts backing_facts (Some (FlushFrom of)) t u
       → Did cache_facts backing_facts (Some BackingBarrier) u v
       → Did cache_facts backing_facts (Some (FlushDone of)) v w

@@ -4,7 +4,7 @@ use Rattle.bc_disk.specs.Disk.{DiskFacts}
 use Rattle.bc_disk.specs.declared.disk.Device.TheVariants.{Backing}
 use Rattle.bc_seats.specs.Seats.{Went}
 use Rattle.bc_events.specs.Columns.{halt_of}
-use Rattle.bc_events.specs.declared.event.Line.{Line}
+use Rattle.bc_events.specs.declared.event.LineNumber.{LineNumber}
 use Rattle.bc_events.specs.declared.event.Failure.TheVariants.{Barrier}
 use Rattle.bc_events.specs.declared.event.Deed.{Deed}
 use Rattle.bc_events.specs.declared.event.Deed.TheVariants.{FlushFrom, BackingBarrier, FlushDone, DeviceFault}
@@ -18,12 +18,12 @@ module _ {C B : Type 0} (cache_facts : C → DiskFacts) (backing_facts : B → D
       → Type 0
   HasDone deeds v w = Went (core cache_facts backing_facts) v (map (by v.first) deeds) w
 
-  abbrev pub HasFlushed : Line → View cache_facts backing_facts → View cache_facts backing_facts
+  abbrev pub HasFlushed : LineNumber → View cache_facts backing_facts → View cache_facts backing_facts
       → Type 0
   HasFlushed of v w = HasDone (FlushFrom of ∷ BackingBarrier ∷ FlushDone of ∷ []) v w
 
   -- its barrier failed, or a device had halted the run before one of its steps
-  abbrev pub HasStopped : StepError → Line → View cache_facts backing_facts
+  abbrev pub HasStopped : StepError → LineNumber → View cache_facts backing_facts
       → View cache_facts backing_facts → Type 0
   HasStopped (error.Fault device) of v w = (device ≡ Backing)
       × HasDone (FlushFrom of ∷ DeviceFault (Barrier Backing) ∷ []) v w

@@ -13,7 +13,7 @@ ghost use Rattle.bc_deed.specs.Asked.{AreSectors, HasFailed, HasFailedOr, IsWith
 ghost use Rattle.bc_machine.specs.Plain.{worker_of};
 
 use bc_disk::disk::{Device, Disk};
-use bc_events::event::{Deed, Failure, Line};
+use bc_events::event::{Deed, Failure, LineNumber};
 use bc_hand::error::StepError;
 use bc_hand::hand::{Hand, borrow_backing, return_backing};
 use bc_hand::seat::commit;
@@ -62,7 +62,7 @@ pub fn backing_barrier<C: Disk + Drop, B: Disk + Drop, R: Wait>(
     ensures err { IfErr result (λ error. HasFailed C.facts B.facts error
         (Deed.DeviceFault (Failure.Barrier Device.Backing)) seat.old seat.new) }
 {
-    if let Some(device) = seat.told() {
+    if let Some(device) = seat.heard() {
         return Err(StepError::Halted(device));
     }
     let (mut backing, taken) = borrow_backing(rt, parts, seat, hand);
@@ -80,7 +80,7 @@ fn barrier_in<C: Disk, B: Disk, R: Wait>(
 ) -> Result<(), StepError>
     requires run { seat.old.run ≡ parts.now.run }
     requires seat { IsCoreSeat C.facts B.facts seat.old }
-    requires untold { seat.old.told ≡ None }
+    requires unheard { seat.old.heard ≡ None }
     requires promise { 0 < seat.old.promises }
     requires holds { Holds seat.old.parts 5 }
     requires backing { IsBacking C.facts B.facts backing.old (world C.facts B.facts seat.old) }
@@ -130,7 +130,7 @@ pub fn backing_read<C: Disk + Drop, B: Disk + Drop, R: Wait, G: Gate>(
     ensures err { IfErr result (λ error. HasFailedOr C.facts B.facts error
         (Deed.DeviceFault (Failure.Read Device.Backing)) seat.old seat.new) }
 {
-    if let Some(device) = seat.told() {
+    if let Some(device) = seat.heard() {
         return Err(StepError::Halted(device));
     }
     let Ok(bytes) = Vec::with_capacity(alloc, into.len()) else {
@@ -155,7 +155,7 @@ fn read_in<C: Disk, B: Disk, R: Wait>(
 ) -> Result<(), StepError>
     requires run { seat.old.run ≡ parts.now.run }
     requires seat { IsCoreSeat C.facts B.facts seat.old }
-    requires untold { seat.old.told ≡ None }
+    requires unheard { seat.old.heard ≡ None }
     requires promise { 0 < seat.old.promises }
     requires holds { Holds seat.old.parts 5 }
     requires backing { IsBacking C.facts B.facts backing.old (world C.facts B.facts seat.old) }
@@ -202,7 +202,7 @@ pub fn backing_write<C: Disk + Drop, B: Disk + Drop, R: Wait>(
     hand: &mut Hand<C, B>,
     first: u64,
     values: &Values,
-    of: Line,
+    of: LineNumber,
 ) -> Result<(), StepError>
     requires works { Works C.facts B.facts parts.now seat.old hand.old }
     requires plain { are_plain C.facts B.facts parts.now.run.start ≡ true }
@@ -218,7 +218,7 @@ pub fn backing_write<C: Disk + Drop, B: Disk + Drop, R: Wait>(
     ensures err { IfErr result (λ error. HasFailedOr C.facts B.facts error
         (Deed.DeviceFault (Failure.BackingWrite first (Some of) values.now)) seat.old seat.new) }
 {
-    if let Some(device) = seat.told() {
+    if let Some(device) = seat.heard() {
         return Err(StepError::Halted(device));
     }
     let Ok(values) = values.copy() else {
@@ -253,11 +253,11 @@ fn write_in<C: Disk, B: Disk, R: Wait>(
     first: u64,
     values: Values,
     bytes: Vec<u8>,
-    of: Line,
+    of: LineNumber,
 ) -> Result<(), StepError>
     requires run { seat.old.run ≡ parts.now.run }
     requires seat { IsCoreSeat C.facts B.facts seat.old }
-    requires untold { seat.old.told ≡ None }
+    requires unheard { seat.old.heard ≡ None }
     requires plain { are_plain C.facts B.facts parts.now.run.start ≡ true }
     requires promise { 0 < seat.old.promises }
     requires holds { Holds seat.old.parts 5 }

@@ -40,7 +40,7 @@ pub fn claim<C: Disk + Drop, B: Disk + Drop, R: Wait>(
     ensures err { IfErr result (λ error. IsHalted error seat.new.seen
         × Did C.facts B.facts None seat.old seat.new) }
 {
-    if let Some(device) = seat.told() {
+    if let Some(device) = seat.heard() {
         return Err(StepError::Halted(device));
     }
     let (mut flight, taken) = borrow_flight(rt, parts, seat, hand);

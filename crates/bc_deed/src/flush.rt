@@ -8,7 +8,7 @@ ghost use Rattle.bc_deed.specs.Flushed.{HasFlushed, HasStopped};
 use crate::backing::backing_barrier;
 use crate::said::{flush_done, flush_from};
 use bc_disk::disk::Disk;
-use bc_events::event::Line;
+use bc_events::event::LineNumber;
 use bc_hand::error::StepError;
 use bc_hand::hand::Hand;
 use bc_machine::machine::{CoreParts, CoreSeat};
@@ -21,7 +21,7 @@ pub fn flush<C: Disk + Drop, B: Disk + Drop, R: Wait>(
     parts: &CoreParts<C, B>,
     seat: &mut CoreSeat<C, B>,
     hand: &mut Hand<C, B>,
-    of: Line,
+    of: LineNumber,
 ) -> Result<(), StepError>
     requires works { Works C.facts B.facts parts.now seat.old hand.old }
     requires plain { are_plain C.facts B.facts parts.now.run.start ≡ true }

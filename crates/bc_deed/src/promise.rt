@@ -26,7 +26,7 @@ pub fn promise<C: Disk, B: Disk, R: Wait>(
     ensures hand { hand.new ≡ hand.old }
     ensures done { HasDone C.facts B.facts [] seat.old seat.new }
     ensures note { IsFirmer (note C.facts B.facts seat.old) (note C.facts B.facts seat.new) }
-    ensures told { seat.new.told ≡ seat.old.told }
+    ensures heard { seat.new.heard ≡ seat.old.heard }
     ensures ok { OnOk result (seat.new.promises ≡ seat.old.promises + deeds) }
     ensures err { OnErr result (seat.new.promises ≡ seat.old.promises) }
 {

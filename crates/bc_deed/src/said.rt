@@ -8,7 +8,7 @@ ghost use Rattle.bc_hand.specs.Seats.{Works, Did, note, world};
 ghost use Rattle.bc_deed.specs.Asked.{IsHalted, IsHaltedOr, IsLast, IsWithin};
 
 use bc_disk::disk::Disk;
-use bc_events::event::{Deed, Line};
+use bc_events::event::{Deed, LineNumber};
 use bc_hand::error::StepError;
 use bc_hand::hand::Hand;
 use bc_hand::seat::commit;
@@ -22,7 +22,7 @@ pub fn flush_from<C: Disk, B: Disk, R: Wait>(
     parts: &CoreParts<C, B>,
     seat: &mut CoreSeat<C, B>,
     hand: &mut Hand<C, B>,
-    of: Line,
+    of: LineNumber,
 ) -> Result<(), StepError>
     requires works { Works C.facts B.facts parts.now seat.old hand.old }
     requires promise { 0 < seat.old.promises }
@@ -34,7 +34,7 @@ pub fn flush_from<C: Disk, B: Disk, R: Wait>(
     ensures cause { IfErr result (λ error. IsHalted error seat.new.seen) }
 {
     let _ = hand;
-    if let Some(device) = seat.told() {
+    if let Some(device) = seat.heard() {
         return Err(StepError::Halted(device));
     }
     match commit(rt, parts, seat, Deed::FlushFrom { of }) {
@@ -50,7 +50,7 @@ pub fn flush_done<C: Disk, B: Disk, R: Wait>(
     parts: &CoreParts<C, B>,
     seat: &mut CoreSeat<C, B>,
     hand: &mut Hand<C, B>,
-    of: Line,
+    of: LineNumber,
 ) -> Result<(), StepError>
     requires works { Works C.facts B.facts parts.now seat.old hand.old }
     requires plain { are_plain C.facts B.facts parts.now.run.start ≡ true }
@@ -66,7 +66,7 @@ pub fn flush_done<C: Disk, B: Disk, R: Wait>(
     ensures cause { IfErr result (λ error. IsHalted error seat.new.seen) }
 {
     let _ = hand;
-    if let Some(device) = seat.told() {
+    if let Some(device) = seat.heard() {
         return Err(StepError::Halted(device));
     }
     match commit(rt, parts, seat, Deed::FlushDone { of }) {
@@ -82,7 +82,7 @@ pub fn durable<C: Disk, B: Disk, R: Wait>(
     parts: &CoreParts<C, B>,
     seat: &mut CoreSeat<C, B>,
     hand: &mut Hand<C, B>,
-    of: Line,
+    of: LineNumber,
     first: u64,
     count: u32,
 ) -> Result<(), StepError>
@@ -100,7 +100,7 @@ pub fn durable<C: Disk, B: Disk, R: Wait>(
     ensures cause { IfErr result (λ error. IsHalted error seat.new.seen) }
 {
     let _ = hand;
-    if let Some(device) = seat.told() {
+    if let Some(device) = seat.heard() {
         return Err(StepError::Halted(device));
     }
     match commit(rt, parts, seat, Deed::Durable { of, first, count }) {
@@ -115,7 +115,7 @@ pub fn line_from<C: Disk, B: Disk, R: Wait>(
     parts: &CoreParts<C, B>,
     seat: &mut CoreSeat<C, B>,
     hand: &mut Hand<C, B>,
-    of: Line,
+    of: LineNumber,
 ) -> Result<(), StepError>
     requires works { Works C.facts B.facts parts.now seat.old hand.old }
     requires promise { 0 < seat.old.promises }
@@ -127,7 +127,7 @@ pub fn line_from<C: Disk, B: Disk, R: Wait>(
     ensures cause { IfErr result (λ error. IsHalted error seat.new.seen) }
 {
     let _ = hand;
-    if let Some(device) = seat.told() {
+    if let Some(device) = seat.heard() {
         return Err(StepError::Halted(device));
     }
     match commit(rt, parts, seat, Deed::LineFrom { of }) {
@@ -142,7 +142,7 @@ pub fn line_done<C: Disk, B: Disk, R: Wait>(
     parts: &CoreParts<C, B>,
     seat: &mut CoreSeat<C, B>,
     hand: &mut Hand<C, B>,
-    of: Line,
+    of: LineNumber,
 ) -> Result<(), StepError>
     requires works { Works C.facts B.facts parts.now seat.old hand.old }
     requires promise { 0 < seat.old.promises }
@@ -155,7 +155,7 @@ pub fn line_done<C: Disk, B: Disk, R: Wait>(
     ensures cause { IfErr result (λ error. IsHalted error seat.new.seen) }
 {
     let _ = hand;
-    if let Some(device) = seat.told() {
+    if let Some(device) = seat.heard() {
         return Err(StepError::Halted(device));
     }
     match commit(rt, parts, seat, Deed::LineDone { of }) {
@@ -171,7 +171,7 @@ pub fn answer<C: Disk, B: Disk, R: Wait>(
     parts: &CoreParts<C, B>,
     seat: &mut CoreSeat<C, B>,
     hand: &mut Hand<C, B>,
-    of: Line,
+    of: LineNumber,
     first: u64,
     values: &Values,
 ) -> Result<(), StepError>
@@ -190,7 +190,7 @@ pub fn answer<C: Disk, B: Disk, R: Wait>(
     ensures cause { IfErr result (λ error. IsHaltedOr error seat.new.seen) }
 {
     let _ = hand;
-    if let Some(device) = seat.told() {
+    if let Some(device) = seat.heard() {
         return Err(StepError::Halted(device));
     }
     let Ok(values) = values.copy() else {

@@ -33,7 +33,7 @@ use Rattle.bc_known.specs.Acts.{State}
 use Rattle.bc_known.specs.Run.{IsRun, run, start}
 use Rattle.bc_events.specs.Run.{by}
 use Rattle.bc_origin.specs.Keys.{new_keys}
-use Rattle.bc_opened.specs.Opening.{IsOpeningOf}
+use Rattle.bc_opened.specs.Opening.{IsSoundOpeningOf}
 use Rattle.bc_opening.specs.Choices.{Choices, MayBeChosen}
 use Rattle.bc_opening.specs.Opening.{IsOpenedAs}
 use Rattle.bc_opening.proofs.Chosen.{law_choices}
@@ -92,7 +92,7 @@ module _ (p : Pair) (v : View) (layout : Layout) (c : Choices) (w : whole.Openin
   abbrev r : Reading
   r = v.reading
 
-  opens : IsOpeningOf p v w x
+  opens : IsSoundOpeningOf p v w x
   opens = law_opened p v layout c w x (o, may)
 
   root : IsNodeKey g e.root

@@ -17,7 +17,7 @@ use Rattle.bc_known.specs.Acts.{State, Act, Alone, Keyed, CacheBarrier, Seal, Ma
 use Rattle.bc_events.specs.Keys.{book_keys, versions_by}
 use Rattle.bc_events.specs.Changes.{buckets_gone, with, regroup, made, dropped}
 use Rattle.bc_events.specs.Writes.{beginning, acts_of_write, acts_of_failure}
-use Rattle.bc_events.specs.declared.event.Line.{Line}
+use Rattle.bc_events.specs.declared.event.LineNumber.{LineNumber}
 use Rattle.bc_events.specs.declared.event.Change.{Change}
 use Rattle.bc_events.specs.declared.event.Form.{Form}
 use Rattle.bc_events.specs.declared.event.Form.TheVariants as form
@@ -55,7 +55,7 @@ form_of form.Clean = flow.CleanKeys
 form_of form.Move = flow.MoveKeys
 form_of form.Stale = flow.StaleKeys
 
-abbrev pub route_of : Option Line → flow.Route
+abbrev pub route_of : Option LineNumber → flow.Route
 route_of None = flow.Copy
 route_of (Some of) = flow.Around of.line
 

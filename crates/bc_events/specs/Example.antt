@@ -8,7 +8,7 @@ use Rattle.bc_flight.specs.declared.claim.Share.TheVariants.{Exclusive}
 use Rattle.bc_meta.specs.Layout.{Layout}
 use Rattle.bc_meta.specs.Laws as meta
 use Rattle.bc_leaves.specs.Parts as parts
-use Rattle.bc_events.specs.declared.event.Line.{Line}
+use Rattle.bc_events.specs.declared.event.LineNumber.{LineNumber}
 use Rattle.bc_events.specs.declared.event.Deed.{Deed}
 use Rattle.bc_events.specs.declared.event.Deed.TheVariants.{Claim, BackingWrite, BackingBarrier, Durable, Release, LineFrom, LineDone, FlushFrom, FlushDone}
 use Rattle.bc_events.specs.declared.event.Event.{Event}
@@ -21,7 +21,7 @@ unused_cache layout before store = record {
   worker = λ i. 6 + i;
 }
 
-abbrev pub line : ℕ → Line
+abbrev pub line : ℕ → LineNumber
 line n = record { worker = 7; line = n }
 
 abbrev pub by_seat_1 : List Deed → List Event

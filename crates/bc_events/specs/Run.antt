@@ -13,7 +13,7 @@ use Rattle.bc_known.specs.Run as machine
 use Rattle.bc_known.specs.Workers.{all_renamed}
 use Rattle.bc_events.specs.Acts.{acts_of}
 use Rattle.bc_events.specs.Writes.{write_of}
-use Rattle.bc_events.specs.declared.event.Line.{Line}
+use Rattle.bc_events.specs.declared.event.LineNumber.{LineNumber}
 use Rattle.bc_events.specs.declared.event.Written.{Written}
 use Rattle.bc_events.specs.declared.event.Failure.TheVariants as failure
 use Rattle.bc_events.specs.declared.event.Deed.{Deed}
@@ -35,7 +35,7 @@ pub record Opening : Type 0 where
 pub record State : Type 0 where
   pub machine : known.State
   -- the line of a round that each seat began and did not end
-  pub line : ℕ → Option Line
+  pub line : ℕ → Option LineNumber
 
 abbrev pub start : Opening → parts.State → ℕ → State
 start w x next_seq = record {
@@ -76,12 +76,12 @@ IsFit w st i (deed.DeviceFault (failure.CacheWrite at what values)) = IsPlaced w
 IsFit w st i d = Unit {0}
 
 -- a line is served by a seat of its worker
-abbrev pub IsOf : Opening → ℕ → Option Line → Type 0
+abbrev pub IsOf : Opening → ℕ → Option LineNumber → Type 0
 IsOf w i None = Unit {0}
 IsOf w i (Some of) = w.worker i ≡ of.worker
 
 -- the line that a deed is for
-abbrev pub line_of : Deed → Option Line
+abbrev pub line_of : Deed → Option LineNumber
 line_of (deed.BackingWrite first of values) = of
 line_of (deed.InsertWrite leaf keys of first values) = Some of
 line_of (deed.Answer of first values) = Some of
@@ -126,7 +126,7 @@ acts_or_none (Some acts) = acts
 abbrev pub acts : Opening → State → Event → List Act
 acts w st e = acts_or_none (acts_of w.machine st.machine e.seat e.deed)
 
-abbrev pub line_after : (ℕ → Option Line) → ℕ → Deed → ℕ → Option Line
+abbrev pub line_after : (ℕ → Option LineNumber) → ℕ → Deed → ℕ → Option LineNumber
 line_after line i (deed.LineFrom of) = put line i (Some of)
 line_after line i (deed.LineDone of) = put line i None
 line_after line i d = line

@@ -10,7 +10,7 @@ use bc_model::values::Values;
 
 /// A line of a trace: the worker that serves it, from 1 to 16, and its number.
 #[derive(Clone, Copy, Debug, PartialEq, Eq, Drop)]
-pub struct Line {
+pub struct LineNumber {
     pub worker: u8,
     pub line: u32,
 }
@@ -108,7 +108,7 @@ pub enum Failure {
     /// `of` is the line whose write it was to be, or none of a copy of what the cache has.
     BackingWrite {
         first: u64,
-        of: Option<Line>,
+        of: Option<LineNumber>,
         values: Values,
     },
 }
@@ -198,7 +198,7 @@ pub enum Deed {
     /// It wrote these values there: for a line around the cache, or a copy of what the cache has.
     BackingWrite {
         first: u64,
-        of: Option<Line>,
+        of: Option<LineNumber>,
         values: Values,
     },
     /// It made a barrier there.
@@ -207,7 +207,7 @@ pub enum Deed {
     InsertWrite {
         leaf: u32,
         keys: Keys,
-        of: Line,
+        of: LineNumber,
         first: u64,
         values: Values,
     },
@@ -253,30 +253,30 @@ pub enum Deed {
     },
     /// It answered a read with these values.
     Answer {
-        of: Line,
+        of: LineNumber,
         first: u64,
         values: Values,
     },
     /// It began a flush.
     FlushFrom {
-        of: Line,
+        of: LineNumber,
     },
     /// It acknowledged that flush.
     FlushDone {
-        of: Line,
+        of: LineNumber,
     },
     /// It acknowledged a forced write.
     Durable {
-        of: Line,
+        of: LineNumber,
         first: u64,
         count: u32,
     },
     /// It began a line, and ended it.
     LineFrom {
-        of: Line,
+        of: LineNumber,
     },
     LineDone {
-        of: Line,
+        of: LineNumber,
     },
     /// A call of a device failed.
     DeviceFault {

@@ -8,7 +8,7 @@ use Rattle.bc_meta.specs.Facts.{In}
 use Rattle.bc_leaves.specs.Parts as parts
 use Rattle.bc_whole.specs.Example.{HasChain}
 use Rattle.bc_known.specs.Laws.{IsSound}
-use Rattle.bc_events.specs.declared.event.Line.{Line}
+use Rattle.bc_events.specs.declared.event.LineNumber.{LineNumber}
 use Rattle.bc_events.specs.declared.event.Deed.TheVariants as deed
 use Rattle.bc_events.specs.declared.event.Event.{Event}
 use Rattle.bc_events.specs.Laws.{IsTornApart}
@@ -17,7 +17,7 @@ use Rattle.bc_events.specs.Run.{Opening, State, start, IsRun, run, history_of}
 -- A sector that had no key was written for a line, its dirty key is durable, and that was said.
 pub record HasWritten (w : Opening) (st : State) (es : List Event) : Type 0 where
   pub seat : ℕ
-  pub of : Line
+  pub of : LineNumber
   pub sector : ℕ
   pub values : List Value
   pub some : values ≢ []

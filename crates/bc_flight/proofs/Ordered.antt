@@ -4,7 +4,7 @@ use Rattle.std.specs.Prelude.{nat_lt, slice_get, All, IfSome}
 use Rattle.std.specs.List.{remove}
 use Rattle.std.proofs.lemmas.Bool.Decides.{eqb_tells}
 use Rattle.bc_flight.specs.Claims.{conflicts, conflicts_any, is_exclusive}
-use Rattle.bc_flight.specs.Flight.{claim_of, without, IsInOrder, IsRanged, IsTaken}
+use Rattle.bc_flight.specs.Flight.{claim_of, without, IsInOrder, IsRanged, HasConflict}
 use Rattle.bc_flight.specs.declared.claim.Claim.{Claim}
 
 pub by_test : (a b : ℕ) (P : Bool → Type 0) → (a ≡ b → P true) → (a ≢ b → P false) → P (a == b)
@@ -203,7 +203,7 @@ removed seats seat cs i h lt some = go (slice_get cs i) refl some
     go None is own = absurd (some_there cs i lt is)
     go (Some c) is own = remove_without seats seat cs i c h is own
 
-taken_by : (c x : Claim) (xs : List Claim) → claim_of x.seat xs ≡ None → IsTaken c xs → IsTaken c (x ∷ xs)
+taken_by : (c x : Claim) (xs : List Claim) → claim_of x.seat xs ≡ None → HasConflict c xs → HasConflict c (x ∷ xs)
 taken_by c x xs none taken =
     let other = taken.0 in
     let has = taken.1 in (
@@ -213,11 +213,11 @@ taken_by c x xs none taken =
     )
 
 -- where one conflicts, it is the claim of a seat
-pub taken : (seats : ℕ) (c : Claim) (cs : List Claim) → IsInOrder seats cs → conflicts_any c cs ≡ true → IsTaken c cs
+pub taken : (seats : ℕ) (c : Claim) (cs : List Claim) → IsInOrder seats cs → conflicts_any c cs ≡ true → HasConflict c cs
 taken seats c [] order h = absurd (cc)
 taken seats c (x ∷ xs) order h = go (conflicts c x) refl (λ later. taken seats c xs order.4 later)
   where
-    go : (b : Bool) → conflicts c x ≡ b → (conflicts_any c xs ≡ true → IsTaken c xs) → IsTaken c (x ∷ xs)
+    go : (b : Bool) → conflicts c x ≡ b → (conflicts_any c xs ≡ true → HasConflict c xs) → HasConflict c (x ∷ xs)
     go true is later = (x, by_test x.seat x.seat (λ b. (if b then Some x else claim_of x.seat xs) ≡ Some x) (λ _. refl) (λ ne. absurd (ne refl)), is)
     go false is later = taken_by c x xs order.2 (later (ap (λ b. b || conflicts_any c xs) (sym is) ∙ h))
 

@@ -38,5 +38,5 @@ IsInOrder seats [] = Unit {0}
 IsInOrder seats (c ∷ cs) = (c.seat < seats) × IsRanged c × (claim_of c.seat cs ≡ None) × (conflicts_any c cs ≡ false) × IsInOrder seats cs
 
 -- the claim of some seat stands among these and conflicts with it
-abbrev pub IsTaken : Claim → List Claim → Type 0
-IsTaken c cs = (other : Claim) × (claim_of other.seat cs ≡ Some other) × (conflicts c other ≡ true)
+abbrev pub HasConflict : Claim → List Claim → Type 0
+HasConflict c cs = (other : Claim) × (claim_of other.seat cs ≡ Some other) × (conflicts c other ≡ true)

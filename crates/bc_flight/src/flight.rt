@@ -2,7 +2,7 @@
 ghost use Rattle.std.specs.Prelude.{◌≡◌, ◌↔◌, ◌+◌, ◌-◌, ◌<◌, ◌≤◌, ◌^◌, ◌++◌, ◌∷◌, [], IfOk, IfSome, IsNone, OnSome, IfNone, true, false, Some, None, All, length, slice_get};
 ghost use Rattle.bc_flight.specs.Claims.{conflicts_any};
 ghost use Rattle.bc_flight.specs.Candidates.{after_claim, first_of, without_first, kill_over, key_of, AreNumbered};
-ghost use Rattle.bc_flight.specs.Flight.{claim_at, claim_of, without, IsRanged, IsInOrder, IsTaken};
+ghost use Rattle.bc_flight.specs.Flight.{claim_at, claim_of, without, IsRanged, IsInOrder, HasConflict};
 ghost use Rattle.bc_flight.specs.declared.candidate.Wanted.{Wanted};
 
 use crate::candidate::{Candidate, Candidates, Wanted};
@@ -81,7 +81,7 @@ impl Flight {
         requires none { claim_of seat self.old.claims ≡ None }
         requires range { (1 ≤ count) × (first + count < 2 ^ 64) }
         ensures refused { IsNone result ↔ (conflicts_any (claim_at seat first count share) self.old.claims ≡ true) }
-        ensures taken { IfNone result (IsTaken (claim_at seat first count share) self.old.claims) }
+        ensures taken { IfNone result (HasConflict (claim_at seat first count share) self.old.claims) }
         ensures answer { IfSome result (λ c. c ≡ claim_at seat first count share) }
         ensures claimed { OnSome result (self.new.claims ≡ self.old.claims ++ claim_at seat first count share ∷ []) }
         ensures same { IfNone result (self.new.claims ≡ self.old.claims) }

@@ -15,14 +15,14 @@ use Rattle.bc_seats.specs.Seats.{own_events, IsSeat, Foreign, Since, Waited, Com
 use Rattle.bc_seats.proofs.Knowing.{still, lasts, held}
 use Rattle.bc_events.specs.Columns.{halt_of, verdict_of, verdict_by, is_late}
 use Rattle.bc_events.specs.Run.{Opening, line_after}
-use Rattle.bc_events.specs.declared.event.Line.{Line}
+use Rattle.bc_events.specs.declared.event.LineNumber.{LineNumber}
 use Rattle.bc_events.specs.declared.event.Deed.{Deed}
 use Rattle.bc_events.specs.declared.event.Deed.TheVariants as deed
 use Rattle.bc_events.specs.declared.event.Event.{Event}
 use Rattle.bc_book.specs.declared.book.Book.{Book}
 use Rattle.bc_machine.specs.declared.machine.Core.{Core}
 use Rattle.bc_machine.specs.declared.part.CorePart.{CorePart}
-use Rattle.bc_machine.specs.World.{World, data_of, is_plain, is_told, are_plain, opening, after, IsView, InEach, IsEnabled, IsPart}
+use Rattle.bc_machine.specs.World.{World, data_of, is_plain, is_told, are_plain, opening, after, IsView, InEach, IsEnabled, StandsAs}
 use Rattle.bc_machine.specs.Frame.{by_test}
 use Rattle.bc_machine.specs.Standing.{frames, in_each}
 use Rattle.bc_machine.specs.Note.{Note, no_note, note_of, note_by, note_after, IsFirmer}
@@ -128,7 +128,7 @@ module _ {C B : Type 0} (cache_facts : C → DiskFacts) (backing_facts : B → D
       (λ y e may other fresh. in_each y e (λ z. (data_of z).late v.first ≡ false)
       (λ z view on. (other_event z e v.first (other.0 v.first (omega arith) live)).1 ∙ on) fresh) since h
 
-  other_lines : (i n : ℕ) (line : ℕ → Option Line) (d : Deed) → i ≢ n → line_after line i d n ≡ line n
+  other_lines : (i n : ℕ) (line : ℕ → Option LineNumber) (d : Deed) → i ≢ n → line_after line i d n ≡ line n
   other_lines i n line (deed.LineFrom of) ne = by_test n i (λ b. (if b then Some of else line n) ≡ line n)
       (λ is. absurd (ne (sym is))) (λ no. refl)
   other_lines i n line (deed.LineDone of) ne = by_test n i (λ b. (if b then None else line n) ≡ line n)
@@ -184,7 +184,7 @@ module _ {C B : Type 0} (cache_facts : C → DiskFacts) (backing_facts : B → D
         since = since;
         view = view;
         note = note_since v x y seat.seat.live since view;
-        line = ap (λ (f : ℕ → Option Line). f v.first) (line_view v es y there
+        line = ap (λ (f : ℕ → Option LineNumber). f v.first) (line_view v es y there
             ∙ ap (λ (z : World). z.now.line) (sym (state_is v x since)))
             ∙ line_since v x seat.seat.live since;
         late = λ none. fresh_since v x seat.seat.live since (seat.fresh none) y view;
@@ -215,7 +215,7 @@ module _ {C B : Type 0} (cache_facts : C → DiskFacts) (backing_facts : B → D
     parts = subst (λ (r : Run (CorePart C B)). 5 < length r.start) (sym waited.same.run) seat.parts;
     fresh = λ none. subst (λ n. IsFresh n (world cache_facts backing_facts w)) (sym waited.same.first)
         (fresh_since v (world cache_facts backing_facts w) seat.seat.live waited.since
-        (seat.fresh (waited.told none)));
+        (seat.fresh (waited.heard none)));
     bare = bare_since v (world cache_facts backing_facts w) seat.bare waited.since;
   }
 
@@ -225,7 +225,7 @@ module _ {C B : Type 0} (cache_facts : C → DiskFacts) (backing_facts : B → D
     seat = live;
     numbers = subst (λ n. n ≤ 320) (sym done.same.end) seat.numbers;
     parts = subst (λ (r : Run (CorePart C B)). 5 < length r.start) (sym done.same.run) seat.parts;
-    fresh = λ none y view. late_view w w.seen y view w.first (sym done.told ∙ none);
+    fresh = λ none y view. late_view w w.seen y view w.first (sym done.heard ∙ none);
     bare = subst IsBareRun (sym done.state) (bare_event done.before e done.may
         (bare_since v done.before seat.bare done.since));
   }

@@ -12,7 +12,7 @@ use Rattle.bc_machine.specs.declared.part.BackingPart.{BackingPart}
 use Rattle.bc_machine.specs.declared.part.BucketsPart.{BucketsPart}
 use Rattle.bc_machine.specs.declared.part.CorePart.{CorePart}
 use Rattle.bc_machine.specs.declared.part.CorePart.TheVariants as part
-use Rattle.bc_machine.specs.World.{World, IsPart, IsFlight, IsBacking}
+use Rattle.bc_machine.specs.World.{World, StandsAs, IsFlight, IsBacking}
 use Rattle.bc_machine.specs.Frame.{by_test}
 use Rattle.bc_hand.specs.declared.hand.Hand.{Hand}
 use Rattle.bc_hand.specs.declared.hand.LeafHand.{LeafHand}
@@ -86,7 +86,7 @@ above h ks none = ap (λ o. with_part 5 o (with_part 4 h.cache (with_part 3 h.jo
 
 module _ {C B : Type 0} (cache_facts : C → DiskFacts) (backing_facts : B → DiskFacts) where
   abbrev IsIn : ℕ → CorePart C B → World → Type 0
-  IsIn k p x = IsPart cache_facts backing_facts k p x
+  IsIn k p x = StandsAs cache_facts backing_facts k p x
 
   -- parts in hand that go on to stand, go on to stand in hand
   pub map_stand : (h : Hand C B) (x y : World) → ((k : ℕ) (p : CorePart C B) → Holds (numbers h) k → IsIn k p x → IsIn k p y)

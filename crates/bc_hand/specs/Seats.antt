@@ -7,14 +7,14 @@ use Rattle.bc_parts.specs.declared.machine.Machine.{Ghosts}
 use Rattle.bc_parts.specs.Seat.{SeatView, PartsView, Holds}
 use Rattle.bc_seats.specs.Seats.{state_seen, own_events, IsSeat, Since, Waited, Committed, Kept, Went}
 use Rattle.bc_events.specs.Columns.{halt_of, verdict_of, is_late}
-use Rattle.bc_events.specs.declared.event.Line.{Line}
+use Rattle.bc_events.specs.declared.event.LineNumber.{LineNumber}
 use Rattle.bc_events.specs.declared.event.Deed.{Deed}
 use Rattle.bc_events.specs.declared.event.Event.{Event}
 use Rattle.bc_book.specs.declared.book.Book.{Book}
 use Rattle.bc_machine.specs.declared.machine.Core.{Core}
 use Rattle.bc_machine.specs.declared.part.BackingPart.{BackingPart}
 use Rattle.bc_machine.specs.declared.part.CorePart.{CorePart}
-use Rattle.bc_machine.specs.World.{World, data_of, is_told, are_plain, opening, after, IsView, InEach, CanFollow, IsEnabled, changes, IsPart, IsSpine, AreLeaves, IsFlight, AreBuckets, IsJournal, IsCache, IsBacking}
+use Rattle.bc_machine.specs.World.{World, data_of, is_told, are_plain, opening, after, IsView, InEach, CanFollow, IsEnabled, changes, StandsAs, IsSpine, AreLeaves, IsFlight, AreBuckets, IsJournal, IsCache, IsBacking}
 use Rattle.bc_machine.specs.Note.{Note, note_of, note_by, note_after, IsFirmer}
 use Rattle.bc_machine.specs.Bare.{IsBareRun}
 use Rattle.bc_hand.specs.declared.hand.Hand.{Hand}
@@ -94,7 +94,7 @@ module _ {C B : Type 0} (cache_facts : C → DiskFacts) (backing_facts : B → D
     opening = opening cache_facts backing_facts;
     after = after;
     enabled = IsEnabled;
-    stands = λ k p x. IsPart cache_facts backing_facts k p x;
+    stands = λ k p x. StandsAs cache_facts backing_facts k p x;
     changes = changes;
     number = λ e. e.seat;
     events = λ b. b.events;
@@ -119,7 +119,7 @@ module _ {C B : Type 0} (cache_facts : C → DiskFacts) (backing_facts : B → D
     pub seat : IsSeat core v
     pub numbers : v.end ≤ 320
     pub parts : 5 < length v.run.start
-    pub fresh : v.told ≡ None → InEach (world v) (λ y. (data_of y).late v.first ≡ false)
+    pub fresh : v.heard ≡ None → InEach (world v) (λ y. (data_of y).late v.first ≡ false)
     pub bare : IsBareRun (world v)
 
   -- What the seat knows of a state x in which its deed may be committed, seen as y: as events alone
@@ -129,14 +129,14 @@ module _ {C B : Type 0} (cache_facts : C → DiskFacts) (backing_facts : B → D
     pub view : IsView x y
     pub note : IsFirmer (note v) (note_of y v.first)
     pub line : y.now.line v.first ≡ (world v).now.line v.first
-    pub late : v.told ≡ None → (data_of y).late v.first ≡ false
+    pub late : v.heard ≡ None → (data_of y).late v.first ≡ false
     pub running : is_late d ≡ false → (data_of y).halted ≡ false
     pub size : y.opening.machine.flow.books.size ≡ (world v).opening.machine.flow.books.size
     pub worker : y.opening.worker v.first ≡ (world v).opening.worker v.first
     pub plain : y.opening.machine.flow.plain ≡ are_plain cache_facts backing_facts v.run.start
     pub bare : IsBareRun y
     pub stand : (k : ℕ) (p : CorePart C B) → Holds v.parts k
-        → IsPart cache_facts backing_facts k p (world v) → IsPart cache_facts backing_facts k p x
+        → StandsAs cache_facts backing_facts k p (world v) → StandsAs cache_facts backing_facts k p x
 
   -- the deed may be done then
   abbrev pub MayDo : View → Deed → Type 0

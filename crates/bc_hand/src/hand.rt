@@ -62,7 +62,7 @@ pub fn borrow_flight<C: Disk + Drop, B: Disk + Drop, R: Wait>(
     requires order { hand.old.flight ≡ None → HasNoneBehindFlight hand.old }
     ensures lent { Works C.facts B.facts parts.now seat.new (record hand.new { flight = Some result.0 }) }
     ensures waited { Waited (core C.facts B.facts) seat.old seat.new }
-    ensures told { seat.new.told ≡ seat.old.told }
+    ensures heard { seat.new.heard ≡ seat.old.heard }
     ensures still { (k : ℕ) → Holds seat.old.parts k → Holds seat.new.parts k }
     ensures hand { hand.new ≡ record hand.old { flight = None } }
     ensures taken { result.1 ≡ is_none hand.old.flight }
@@ -88,7 +88,7 @@ pub fn return_flight<C: Disk + Drop, B: Disk + Drop>(
     ensures works { Works C.facts B.facts parts.now seat.new hand.new }
     ensures waited { Waited (core C.facts B.facts) seat.old seat.new }
     ensures seen { seat.new.seen ≡ seat.old.seen }
-    ensures told { seat.new.told ≡ seat.old.told }
+    ensures heard { seat.new.heard ≡ seat.old.heard }
     ensures hand { hand.new ≡ record hand.old { flight = if taken then None else Some flight } }
 {
     if taken {
@@ -109,7 +109,7 @@ pub fn borrow_backing<C: Disk + Drop, B: Disk + Drop, R: Wait>(
     requires works { Works C.facts B.facts parts.now seat.old hand.old }
     ensures lent { Works C.facts B.facts parts.now seat.new (record hand.new { backing = Some result.0 }) }
     ensures waited { Waited (core C.facts B.facts) seat.old seat.new }
-    ensures told { seat.new.told ≡ seat.old.told }
+    ensures heard { seat.new.heard ≡ seat.old.heard }
     ensures still { (k : ℕ) → Holds seat.old.parts k → Holds seat.new.parts k }
     ensures hand { hand.new ≡ record hand.old { backing = None } }
     ensures taken { result.1 ≡ is_none hand.old.backing }
@@ -135,7 +135,7 @@ pub fn return_backing<C: Disk + Drop, B: Disk + Drop>(
     ensures works { Works C.facts B.facts parts.now seat.new hand.new }
     ensures waited { Waited (core C.facts B.facts) seat.old seat.new }
     ensures seen { seat.new.seen ≡ seat.old.seen }
-    ensures told { seat.new.told ≡ seat.old.told }
+    ensures heard { seat.new.heard ≡ seat.old.heard }
     ensures hand { hand.new ≡ record hand.old { backing = if taken then None else Some backing } }
 {
     if taken {

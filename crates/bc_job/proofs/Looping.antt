@@ -6,7 +6,7 @@ use Rattle.bc_model.proofs.Sectors.{sectors_front, values_whole}
 use Rattle.bc_model.specs.Pieces.{Piece, piece_in, pieces_from, ServedUpTo, piece_of}
 use Rattle.bc_disk.specs.Disk.{DiskFacts}
 use Rattle.bc_parts.specs.Seat.{Run}
-use Rattle.bc_events.specs.declared.event.Line.{Line}
+use Rattle.bc_events.specs.declared.event.LineNumber.{LineNumber}
 use Rattle.bc_events.specs.declared.event.Deed.{Deed}
 use Rattle.bc_machine.specs.Plain.{worker_of}
 use Rattle.bc_machine.specs.declared.part.CorePart.{CorePart}
@@ -56,7 +56,7 @@ one_more first count number low =
     ap (λ k. pieces_from first count q k) all ∙ cut first count q (number - q) 0 ∙ ap (λ k. pieces_from first count q (number - q) ++ piece_in first count k ∷ []) here
 
 -- its deeds behind those of the pieces before
-writes_behind : (force : Bool) (of : Line) (first : ℕ) (values : List Value) (ps : List Piece) (p : Piece)
+writes_behind : (force : Bool) (of : LineNumber) (first : ℕ) (values : List Value) (ps : List Piece) (p : Piece)
     → writes_deeds force of first values (ps ++ p ∷ [])
     ≡ writes_deeds force of first values ps ++ write_deeds force of p.first (piece_of first values p)
 writes_behind force of first values [] p = append-nil (write_deeds force of p.first (piece_of first values p))
@@ -66,7 +66,7 @@ writes_behind force of first values (x ∷ xs) p =
     ∙ sym (append_assoc (write_deeds force of x.first (piece_of first values x))
     (writes_deeds force of first values xs) (write_deeds force of p.first (piece_of first values p)))
 
-pub writes_more : (force : Bool) (of : Line) (first count number at : ℕ) (values part : List Value)
+pub writes_more : (force : Bool) (of : LineNumber) (first count number at : ℕ) (values part : List Value)
     → first / 256 ≤ number → at ≡ (piece_in first count number).first
     → part ≡ piece_of first values (piece_in first count number)
     → writes_deeds force of first values (pieces_from first count (first / 256) (number + 1 - first / 256))
@@ -81,7 +81,7 @@ writes_more force of first count number at values part low here is =
     ∙ ap (λ k. before ++ write_deeds force of k (piece_of first values p)) (sym here)
     ∙ ap (λ (vs : List Value). before ++ write_deeds force of at vs) (sym is)
 
-pub reads_more : (of : Line) (ps : List Piece) (p : Piece) (values own : List Value) (ds : List Deed)
+pub reads_more : (of : LineNumber) (ps : List Piece) (p : Piece) (values own : List Value) (ds : List Deed)
     → AreReadDeeds of ps values ds → length own ≡ p.count
     → AreReadDeeds of (ps ++ p ∷ []) (values ++ own) (ds ++ read_deeds of p.first p.count own)
 reads_more of [] p values own ds reads long = (
@@ -145,7 +145,7 @@ where_read (request.Fault device) X Y first count ds h y = y
 where_read (request.Halted device) X Y first count ds h y = y
 where_read request.Memory X Y first count ds h y = y
 
-where_write : (error : RequestError) (X Y : Type 0) (force : Bool) (of : Line) (first : ℕ) (values : List Value)
+where_write : (error : RequestError) (X Y : Type 0) (force : Bool) (of : LineNumber) (first : ℕ) (values : List Value)
     (ds : List Deed) → WriteStop error force of first values ds → Y → WhereOutside error X Y
 where_write request.OutOfRange X Y force of first values ds h y = absurd h
 where_write (request.Fault device) X Y force of first values ds h y = y

@@ -8,7 +8,7 @@ use Rattle.bc_disk.specs.declared.disk.Device.TheVariants.{Backing}
 use Rattle.bc_flight.specs.declared.claim.Share.{Share}
 use Rattle.bc_flight.specs.declared.claim.Share.TheVariants.{Shared, Exclusive}
 use Rattle.bc_events.specs.Columns.{halt_of}
-use Rattle.bc_events.specs.declared.event.Line.{Line}
+use Rattle.bc_events.specs.declared.event.LineNumber.{LineNumber}
 use Rattle.bc_events.specs.declared.event.Deed.{Deed}
 use Rattle.bc_events.specs.declared.event.Deed.TheVariants as deed
 use Rattle.bc_events.specs.declared.event.Failure.TheVariants as failure
@@ -119,7 +119,7 @@ module _ {C B : Type 0} (cache_facts : C → DiskFacts) (backing_facts : B → D
       (halted, ([], inl refl, done_both cache_facts backing_facts [] [] u v w room done))
   read_unclaimed step.Memory first count u v w room halted done = absurd halted
 
-  pub write_unclaimed : (error : StepError) (force : Bool) (of : Line) (first : ℕ) (values : List Value)
+  pub write_unclaimed : (error : StepError) (force : Bool) (of : LineNumber) (first : ℕ) (values : List Value)
       (u v w : View cache_facts backing_facts) → HasDone cache_facts backing_facts [] u v
       → IsHalted error w.seen → HasDone cache_facts backing_facts [] v w
       → HasStoppedBy cache_facts backing_facts (refusal error) (WriteStop (refusal error) force of first values) u w
@@ -130,7 +130,7 @@ module _ {C B : Type 0} (cache_facts : C → DiskFacts) (backing_facts : B → D
 
   -- ---- under the claim
 
-  pub answered_under : (of : Line) (first count : ℕ) (values : List Value)
+  pub answered_under : (of : LineNumber) (first count : ℕ) (values : List Value)
       (u v k a r : View cache_facts backing_facts) → HasDone cache_facts backing_facts [] u v
       → HasDone cache_facts backing_facts (deed.Claim first count Shared ∷ []) v k
       → HasDone cache_facts backing_facts (deed.BackingRead first values ∷ deed.Answer of first values ∷ []) k a
@@ -174,7 +174,7 @@ module _ {C B : Type 0} (cache_facts : C → DiskFacts) (backing_facts : B → D
         done_under first count Shared (deed.BackingRead first some.0 ∷ []) u v k a r room claimed some.1 released,
       )
 
-  pub write_stopped : (error : StepError) (force : Bool) (of : Line) (first : ℕ) (values : List Value)
+  pub write_stopped : (error : StepError) (force : Bool) (of : LineNumber) (first : ℕ) (values : List Value)
       (u v k a r : View cache_facts backing_facts) → HasDone cache_facts backing_facts [] u v
       → HasDone cache_facts backing_facts
       (deed.Claim first (length values) Exclusive ∷ []) v k
@@ -225,7 +225,7 @@ module _ {C B : Type 0} (cache_facts : C → DiskFacts) (backing_facts : B → D
       → HasDone cache_facts backing_facts (deed.Claim first m Exclusive ∷ []) v k
   claim_of first n m v k is = subst (λ j. HasDone cache_facts backing_facts (deed.Claim first j Exclusive ∷ []) v k) is
 
-  pub written_under : (force : Bool) (of : Line) (first count : ℕ) (values : List Value)
+  pub written_under : (force : Bool) (of : LineNumber) (first count : ℕ) (values : List Value)
       (u v k a r : View cache_facts backing_facts) → count ≡ length values
       → HasDone cache_facts backing_facts [] u v
       → HasDone cache_facts backing_facts (deed.Claim first count Exclusive ∷ []) v k
@@ -236,7 +236,7 @@ module _ {C B : Type 0} (cache_facts : C → DiskFacts) (backing_facts : B → D
       done_under first (length values) Exclusive (written force of first values) u v k a r room
       (claim_of first count (length values) v k long claimed) did released
 
-  pub write_stopped_for : (error : StepError) (force : Bool) (of : Line) (first count : ℕ) (values : List Value)
+  pub write_stopped_for : (error : StepError) (force : Bool) (of : LineNumber) (first count : ℕ) (values : List Value)
       (u v k a r : View cache_facts backing_facts) → count ≡ length values
       → HasDone cache_facts backing_facts [] u v
       → HasDone cache_facts backing_facts (deed.Claim first count Exclusive ∷ []) v k
@@ -249,7 +249,7 @@ module _ {C B : Type 0} (cache_facts : C → DiskFacts) (backing_facts : B → D
 
   -- ---- flushes
 
-  pub flush_stopped : (error : StepError) (of : Line) (u v w : View cache_facts backing_facts)
+  pub flush_stopped : (error : StepError) (of : LineNumber) (u v w : View cache_facts backing_facts)
       → HasDone cache_facts backing_facts [] u v → HasStopped cache_facts backing_facts error of v w
       → HasNotFlushed cache_facts backing_facts (refusal error) of u w
   flush_stopped (step.Fault device) of u v w room why = (
@@ -277,17 +277,17 @@ module _ {C B : Type 0} (cache_facts : C → DiskFacts) (backing_facts : B → D
   flush_stopped step.Memory of u v w room why = absurd why
 
   -- the same refusals in the words of the request
-  pub flush_in_words : (why : RequestError) (error : StepError) (of line : Line) (u v w : View cache_facts backing_facts)
+  pub flush_in_words : (why : RequestError) (error : StepError) (of line : LineNumber) (u v w : View cache_facts backing_facts)
       → why ≡ refusal error → of ≡ line → HasDone cache_facts backing_facts [] u v
       → HasStopped cache_facts backing_facts error of v w → HasNotFlushed cache_facts backing_facts why line u w
   flush_in_words why error of line u v w is same room stopped = subst (λ (e : RequestError).
       HasNotFlushed cache_facts backing_facts e line u w) (sym is)
-      (subst (λ (l : Line). HasNotFlushed cache_facts backing_facts (refusal error) l u w) same
+      (subst (λ (l : LineNumber). HasNotFlushed cache_facts backing_facts (refusal error) l u w) same
       (flush_stopped error of u v w room stopped))
 
-  pub flushed_for : (of line : Line) (u v w : View cache_facts backing_facts) → of ≡ line
+  pub flushed_for : (of line : LineNumber) (u v w : View cache_facts backing_facts) → of ≡ line
       → HasDone cache_facts backing_facts [] u v → HasDone cache_facts backing_facts (flush_deeds of) v w
       → HasDone cache_facts backing_facts (flush_deeds line) u w
-  flushed_for of line u v w same room done = subst (λ (l : Line).
+  flushed_for of line u v w same room done = subst (λ (l : LineNumber).
       HasDone cache_facts backing_facts (flush_deeds l) u w) same
       (done_both cache_facts backing_facts [] (flush_deeds of) u v w room done)

@@ -6,7 +6,7 @@ use Rattle.bc_disk.specs.Disk.{DiskFacts}
 use Rattle.bc_disk.specs.declared.disk.Device.TheVariants.{Backing}
 use Rattle.bc_flight.specs.declared.claim.Share.{Share}
 use Rattle.bc_flight.specs.declared.claim.Share.TheVariants.{Exclusive}
-use Rattle.bc_events.specs.declared.event.Line.{Line}
+use Rattle.bc_events.specs.declared.event.LineNumber.{LineNumber}
 use Rattle.bc_events.specs.declared.event.Deed.{Deed}
 use Rattle.bc_events.specs.declared.event.Deed.TheVariants as deed
 use Rattle.bc_events.specs.declared.event.Failure.TheVariants as failure
@@ -88,7 +88,7 @@ module _ {C B : Type 0} (cache_facts : C → DiskFacts) (backing_facts : B → D
         (done_first cache_facts backing_facts (Some (deed.BackingRead first values)) u v read) none,
   )
 
-  pub read_answered : (of : Line) (first : ℕ) (values told : List Value) (u v w : View cache_facts backing_facts)
+  pub read_answered : (of : LineNumber) (first : ℕ) (values told : List Value) (u v w : View cache_facts backing_facts)
       → told ≡ values → Did cache_facts backing_facts (Some (deed.BackingRead first values)) u v
       → Did cache_facts backing_facts (Some (deed.Answer of first told)) v w
       → HasDone cache_facts backing_facts (deed.BackingRead first values ∷ deed.Answer of first values ∷ []) u w
@@ -100,7 +100,7 @@ module _ {C B : Type 0} (cache_facts : C → DiskFacts) (backing_facts : B → D
 
   -- ---- writing
 
-  pub write_failed : (error : StepError) (force : Bool) (of : Line) (first : ℕ) (values : List Value)
+  pub write_failed : (error : StepError) (force : Bool) (of : LineNumber) (first : ℕ) (values : List Value)
       (v w : View cache_facts backing_facts)
       → HasFailedOr cache_facts backing_facts error
       (deed.DeviceFault (failure.BackingWrite first (Some of) values)) v w
@@ -114,10 +114,10 @@ module _ {C B : Type 0} (cache_facts : C → DiskFacts) (backing_facts : B → D
       (why.0, inl (done_first cache_facts backing_facts None v w why.1))
   write_failed step.Memory force of first values v w why = done_first cache_facts backing_facts None v w why
 
-  abbrev write : Line → ℕ → List Value → Deed
+  abbrev write : LineNumber → ℕ → List Value → Deed
   write of first values = deed.BackingWrite first (Some of) values
 
-  pub barrier_failed : (error : StepError) (force : Bool) (of : Line) (first : ℕ) (values : List Value)
+  pub barrier_failed : (error : StepError) (force : Bool) (of : LineNumber) (first : ℕ) (values : List Value)
       (u v w : View cache_facts backing_facts) → force ≡ true
       → Did cache_facts backing_facts (Some (deed.BackingWrite first (Some of) values)) u v
       → HasFailed cache_facts backing_facts error (deed.DeviceFault (failure.Barrier Backing)) v w
@@ -141,7 +141,7 @@ module _ {C B : Type 0} (cache_facts : C → DiskFacts) (backing_facts : B → D
   )
   barrier_failed step.Memory force of first values u v w is wrote why = absurd why
 
-  made_firm : (of : Line) (first : ℕ) (values : List Value) (t u v : View cache_facts backing_facts)
+  made_firm : (of : LineNumber) (first : ℕ) (values : List Value) (t u v : View cache_facts backing_facts)
       → Did cache_facts backing_facts (Some (deed.BackingWrite first (Some of) values)) t u
       → Did cache_facts backing_facts (Some deed.BackingBarrier) u v
       → HasDone cache_facts backing_facts (write of first values ∷ deed.BackingBarrier ∷ []) t v
@@ -149,7 +149,7 @@ module _ {C B : Type 0} (cache_facts : C → DiskFacts) (backing_facts : B → D
       (Some deed.BackingBarrier) t u v
       (done_first cache_facts backing_facts (Some (write of first values)) t u wrote) firm
 
-  pub not_told : (error : StepError) (force : Bool) (of : Line) (first : ℕ) (values : List Value)
+  pub not_told : (error : StepError) (force : Bool) (of : LineNumber) (first : ℕ) (values : List Value)
       (t u v w : View cache_facts backing_facts) → force ≡ true
       → Did cache_facts backing_facts (Some (deed.BackingWrite first (Some of) values)) t u
       → Did cache_facts backing_facts (Some deed.BackingBarrier) u v → IsHalted error w.seen
@@ -166,7 +166,7 @@ module _ {C B : Type 0} (cache_facts : C → DiskFacts) (backing_facts : B → D
   )
   not_told step.Memory force of first values t u v w is wrote firm halted none = absurd halted
 
-  pub forced : (of : Line) (first count : ℕ) (values : List Value) (t u v w : View cache_facts backing_facts)
+  pub forced : (of : LineNumber) (first count : ℕ) (values : List Value) (t u v w : View cache_facts backing_facts)
       → count ≡ length values
       → Did cache_facts backing_facts (Some (deed.BackingWrite first (Some of) values)) t u
       → Did cache_facts backing_facts (Some deed.BackingBarrier) u v
@@ -190,7 +190,7 @@ module _ {C B : Type 0} (cache_facts : C → DiskFacts) (backing_facts : B → D
       ∙ ap (λ (o : Note). o.range) same
 
   -- the last write, since which a barrier was made
-  pub is_last : (of : Line) (first : ℕ) (values : List Value) (t u v : View cache_facts backing_facts)
+  pub is_last : (of : LineNumber) (first : ℕ) (values : List Value) (t u v : View cache_facts backing_facts)
       → IsCoreSeat cache_facts backing_facts t → IsCoreSeat cache_facts backing_facts u
       → Did cache_facts backing_facts (Some (deed.BackingWrite first (Some of) values)) t u
       → Did cache_facts backing_facts (Some deed.BackingBarrier) u v
@@ -205,7 +205,7 @@ module _ {C B : Type 0} (cache_facts : C → DiskFacts) (backing_facts : B → D
         firm = b.3 refl;
       }
 
-  pub was_written : (of : Line) (first : ℕ) (values : List Value) (t u v : View cache_facts backing_facts)
+  pub was_written : (of : LineNumber) (first : ℕ) (values : List Value) (t u v : View cache_facts backing_facts)
       → IsCoreSeat cache_facts backing_facts t → IsCoreSeat cache_facts backing_facts u
       → Did cache_facts backing_facts (Some (deed.BackingWrite first (Some of) values)) t u
       → Did cache_facts backing_facts (Some deed.BackingBarrier) u v
@@ -243,7 +243,7 @@ module _ {C B : Type 0} (cache_facts : C → DiskFacts) (backing_facts : B → D
   answer_stopped (Ok a) first values u v w read why none = tt
   answer_stopped (Err e) first values u v w read why none = read_only e first values u v w read why none
 
-  pub durable_stopped : {A : Type 0} (r : Result A StepError) (force : Bool) (of : Line) (first : ℕ)
+  pub durable_stopped : {A : Type 0} (r : Result A StepError) (force : Bool) (of : LineNumber) (first : ℕ)
       (values : List Value) (t u v w : View cache_facts backing_facts) → force ≡ true
       → Did cache_facts backing_facts (Some (deed.BackingWrite first (Some of) values)) t u
       → Did cache_facts backing_facts (Some deed.BackingBarrier) u v
@@ -253,21 +253,21 @@ module _ {C B : Type 0} (cache_facts : C → DiskFacts) (backing_facts : B → D
   durable_stopped (Err e) force of first values t u v w is wrote firm why none =
       not_told e force of first values t u v w is wrote firm why none
 
-  pub behind_write : (of : Line) (first : ℕ) (values : List Value) (v w : View cache_facts backing_facts)
+  pub behind_write : (of : LineNumber) (first : ℕ) (values : List Value) (v w : View cache_facts backing_facts)
       → IsCoreSeat cache_facts backing_facts v
       → Did cache_facts backing_facts (Some (deed.BackingWrite first (Some of) values)) v w
       → (note cache_facts backing_facts w).range ≡ (note cache_facts backing_facts v).range
   behind_write of first values v w seat did = (note_committed cache_facts backing_facts v w
       (deed.BackingWrite first (Some of) values) seat did.is).range
 
-  pub written_done : (force : Bool) (of : Line) (first : ℕ) (values : List Value) (v w : View cache_facts backing_facts)
+  pub written_done : (force : Bool) (of : LineNumber) (first : ℕ) (values : List Value) (v w : View cache_facts backing_facts)
       → force ≡ false → Did cache_facts backing_facts (Some (deed.BackingWrite first (Some of) values)) v w
       → HasDone cache_facts backing_facts (written force of first values) v w
   written_done force of first values v w is did = subst (λ (b : Bool).
       HasDone cache_facts backing_facts (written b of first values) v w) (sym is)
       (done_first cache_facts backing_facts (Some (deed.BackingWrite first (Some of) values)) v w did)
 
-  pub forced_done : (force : Bool) (of : Line) (first count : ℕ) (values : List Value)
+  pub forced_done : (force : Bool) (of : LineNumber) (first count : ℕ) (values : List Value)
       (t u v w : View cache_facts backing_facts) → force ≡ true → count ≡ length values
       → Did cache_facts backing_facts (Some (deed.BackingWrite first (Some of) values)) t u
       → Did cache_facts backing_facts (Some deed.BackingBarrier) u v

@@ -2,7 +2,7 @@
 use Rattle.std.specs.Prelude.{◌≡◌, ◌+◌, ◌<◌, ◌≤◌, ◌^◌, true}
 use Rattle.bc_disk.specs.Disk.{DiskFacts}
 use Rattle.bc_parts.specs.Seat.{PartsView}
-use Rattle.bc_events.specs.declared.event.Line.{Line}
+use Rattle.bc_events.specs.declared.event.LineNumber.{LineNumber}
 use Rattle.bc_machine.specs.Plain.{worker_of}
 use Rattle.bc_machine.specs.World.{are_plain}
 use Rattle.bc_machine.specs.declared.part.CorePart.{CorePart}
@@ -10,7 +10,7 @@ use Rattle.bc_hand.specs.Seats.{View, Works, empty, note}
 use Rattle.bc_deed.specs.Asked.{size_of}
 use Rattle.bc_job.specs.declared.job.Job.{Job}
 
-abbrev pub line_of : Job → Line
+abbrev pub line_of : Job → LineNumber
 line_of job = record { worker = job.worker; line = job.line }
 
 -- the range is of some sectors, and its end is a number

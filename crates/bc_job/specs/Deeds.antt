@@ -6,7 +6,7 @@ use Rattle.bc_disk.specs.declared.disk.Device.TheVariants.{Backing}
 use Rattle.bc_flight.specs.declared.claim.Share.{Share}
 use Rattle.bc_flight.specs.declared.claim.Share.TheVariants.{Shared, Exclusive}
 use Rattle.bc_events.specs.Columns.{halt_of}
-use Rattle.bc_events.specs.declared.event.Line.{Line}
+use Rattle.bc_events.specs.declared.event.LineNumber.{LineNumber}
 use Rattle.bc_events.specs.declared.event.Event.{Event}
 use Rattle.bc_events.specs.declared.event.Failure.TheVariants as failure
 use Rattle.bc_events.specs.declared.event.Deed.{Deed}
@@ -26,12 +26,12 @@ IsHaltOf _ seen = Unit {0}
 -- ---- reading
 
 -- one read of the backing device, and its answer
-abbrev pub read_deeds : Line → ℕ → ℕ → List Value → List Deed
+abbrev pub read_deeds : LineNumber → ℕ → ℕ → List Value → List Deed
 read_deeds of first count values = under first count Shared
     (deed.BackingRead first values ∷ deed.Answer of first values ∷ [])
 
 -- one read of each of these pieces; the values of all stand one behind the other
-abbrev pub AreReadDeeds : Line → List Piece → List Value → List Deed → Type 0
+abbrev pub AreReadDeeds : LineNumber → List Piece → List Value → List Deed → Type 0
 AreReadDeeds of [] values ds = (values ≡ []) × (ds ≡ [])
 AreReadDeeds of (p ∷ ps) values ds = (own : List Value) × (rest : List Value) × (later : List Deed)
     × (length own ≡ p.count) × (values ≡ own ++ rest)
@@ -53,17 +53,17 @@ ReadStop request.Memory first count ds = HasBegunRead first count ds
 -- ---- writing
 
 -- one write of the backing device; where it is forced, one barrier behind it and the acknowledgement
-abbrev pub written : Bool → Line → ℕ → List Value → List Deed
+abbrev pub written : Bool → LineNumber → ℕ → List Value → List Deed
 written false of first values = deed.BackingWrite first (Some of) values ∷ []
 written true of first values = deed.BackingWrite first (Some of) values ∷ deed.BackingBarrier
     ∷ deed.Durable of first (length values) ∷ []
 
 -- all of it under one claim
-abbrev pub write_deeds : Bool → Line → ℕ → List Value → List Deed
+abbrev pub write_deeds : Bool → LineNumber → ℕ → List Value → List Deed
 write_deeds force of first values = under first (length values) Exclusive (written force of first values)
 
 -- one write of each of these pieces, with its part of the values from `first` on
-abbrev pub writes_deeds : Bool → Line → ℕ → List Value → List Piece → List Deed
+abbrev pub writes_deeds : Bool → LineNumber → ℕ → List Value → List Piece → List Deed
 writes_deeds force of first values [] = []
 writes_deeds force of first values (p ∷ ps) =
     write_deeds force of p.first (piece_of first values p) ++ writes_deeds force of first values ps
@@ -73,14 +73,14 @@ abbrev pub HasClaimedOnly : ℕ → ℕ → List Deed → Type 0
 HasClaimedOnly first count ds = (ds ≡ []) ⊎ (ds ≡ under first count Exclusive [])
 
 -- it was written, and then a halt came before its acknowledgement
-abbrev pub HasWrittenOnly : Line → ℕ → List Value → List Deed → Type 0
+abbrev pub HasWrittenOnly : LineNumber → ℕ → List Value → List Deed → Type 0
 HasWrittenOnly of first values ds =
     (ds ≡ under first (length values) Exclusive (deed.BackingWrite first (Some of) values ∷ []))
     ⊎ (ds ≡ under first (length values) Exclusive
     (deed.BackingWrite first (Some of) values ∷ deed.BackingBarrier ∷ []))
 
 -- what failed: the write, or the barrier behind one that is forced
-abbrev pub HasFailedWrite : Bool → Line → ℕ → List Value → List Deed → Type 0
+abbrev pub HasFailedWrite : Bool → LineNumber → ℕ → List Value → List Deed → Type 0
 HasFailedWrite force of first values ds =
     (ds ≡ under first (length values) Exclusive
     (deed.DeviceFault (failure.BackingWrite first (Some of) values) ∷ []))
@@ -89,7 +89,7 @@ HasFailedWrite force of first values ds =
 
 -- what was done of a piece that wasn't acknowledged, by the refusal. After the write of a piece
 -- that is forced no memory is asked for.
-abbrev pub WriteStop : RequestError → Bool → Line → ℕ → List Value → List Deed → Type 0
+abbrev pub WriteStop : RequestError → Bool → LineNumber → ℕ → List Value → List Deed → Type 0
 WriteStop request.OutOfRange force of first values ds = ⊥
 WriteStop (request.Fault device) force of first values ds =
     (device ≡ Backing) × HasFailedWrite force of first values ds
@@ -99,11 +99,11 @@ WriteStop request.Memory force of first values ds = HasClaimedOnly first (length
 
 -- ---- flushes
 
-abbrev pub flush_deeds : Line → List Deed
+abbrev pub flush_deeds : LineNumber → List Deed
 flush_deeds of = deed.FlushFrom of ∷ deed.BackingBarrier ∷ deed.FlushDone of ∷ []
 
 -- what was done of a flush that wasn't acknowledged, by the refusal: at a fault its one barrier failed
-abbrev pub FlushStop : RequestError → Line → List Deed → Type 0
+abbrev pub FlushStop : RequestError → LineNumber → List Deed → Type 0
 FlushStop request.OutOfRange of ds = ⊥
 FlushStop (request.Fault device) of ds = (device ≡ Backing)
     × (ds ≡ deed.FlushFrom of ∷ deed.DeviceFault (failure.Barrier Backing) ∷ [])

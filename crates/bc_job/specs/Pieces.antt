@@ -7,7 +7,7 @@ use Rattle.bc_flight.specs.declared.claim.Claim.{Claim}
 use Rattle.bc_flight.specs.declared.claim.Share.{Share}
 use Rattle.bc_events.specs.Acts.{is_exclusive}
 use Rattle.bc_events.specs.Columns.{halt_of}
-use Rattle.bc_events.specs.declared.event.Line.{Line}
+use Rattle.bc_events.specs.declared.event.LineNumber.{LineNumber}
 use Rattle.bc_events.specs.declared.event.Failure.TheVariants as failure
 use Rattle.bc_events.specs.declared.event.Deed.TheVariants as deed
 use Rattle.bc_machine.specs.Note.{Note}
@@ -45,14 +45,14 @@ module _ {C B : Type 0} (cache_facts : C → DiskFacts) (backing_facts : B → D
   ReadUnder (error.Halted device) first v w = (halt_of w.seen ≡ Some device) × MayHaveRead first v w
   ReadUnder error.Memory first v w = MayHaveRead first v w
 
-  abbrev pub FailedUnder : Bool → Line → ℕ → List Value → View cache_facts backing_facts
+  abbrev pub FailedUnder : Bool → LineNumber → ℕ → List Value → View cache_facts backing_facts
       → View cache_facts backing_facts → Type 0
   FailedUnder force of first values v w = HasDone cache_facts backing_facts
       (deed.DeviceFault (failure.BackingWrite first (Some of) values) ∷ []) v w
       ⊎ ((force ≡ true) × HasDone cache_facts backing_facts (deed.BackingWrite first (Some of) values
       ∷ deed.DeviceFault (failure.Barrier Backing) ∷ []) v w)
 
-  abbrev pub HaltedUnder : Bool → Line → ℕ → List Value → View cache_facts backing_facts
+  abbrev pub HaltedUnder : Bool → LineNumber → ℕ → List Value → View cache_facts backing_facts
       → View cache_facts backing_facts → Type 0
   HaltedUnder force of first values v w = HasDone cache_facts backing_facts [] v w
       ⊎ ((force ≡ true) × (HasDone cache_facts backing_facts
@@ -61,7 +61,7 @@ module _ {C B : Type 0} (cache_facts : C → DiskFacts) (backing_facts : B → D
       (deed.BackingWrite first (Some of) values ∷ deed.BackingBarrier ∷ []) v w))
 
   -- what was done under the claim of a piece that wasn't acknowledged
-  abbrev pub WriteUnder : StepError → Bool → Line → ℕ → List Value → View cache_facts backing_facts
+  abbrev pub WriteUnder : StepError → Bool → LineNumber → ℕ → List Value → View cache_facts backing_facts
       → View cache_facts backing_facts → Type 0
   WriteUnder (error.Fault device) force of first values v w =
       (device ≡ Backing) × FailedUnder force of first values v w

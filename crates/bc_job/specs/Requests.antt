@@ -3,7 +3,7 @@ use Rattle.std.specs.Prelude.{◌≡◌, ◌+◌, ◌<◌, ◌≤◌, List, ◌+
 use Rattle.bc_model.specs.Sector.{Value}
 use Rattle.bc_model.specs.Pieces.{Piece, pieces, piece_of, ServedUpTo}
 use Rattle.bc_disk.specs.Disk.{DiskFacts}
-use Rattle.bc_events.specs.declared.event.Line.{Line}
+use Rattle.bc_events.specs.declared.event.LineNumber.{LineNumber}
 use Rattle.bc_events.specs.declared.event.Deed.{Deed}
 use Rattle.bc_hand.specs.Seats.{View}
 use Rattle.bc_deed.specs.Flushed.{HasDone}
@@ -80,10 +80,10 @@ module _ {C B : Type 0} (cache_facts : C → DiskFacts) (backing_facts : B → D
       (IsInside job × HasStoppedBy error (IsRefusedWrite error job values) v w)
 
   -- a flush was acknowledged
-  abbrev pub HasFlushedFor : Line → View cache_facts backing_facts → View cache_facts backing_facts
+  abbrev pub HasFlushedFor : LineNumber → View cache_facts backing_facts → View cache_facts backing_facts
       → Type 0
   HasFlushedFor of v w = HasDone cache_facts backing_facts (flush_deeds of) v w
 
-  abbrev pub HasNotFlushed : RequestError → Line → View cache_facts backing_facts
+  abbrev pub HasNotFlushed : RequestError → LineNumber → View cache_facts backing_facts
       → View cache_facts backing_facts → Type 0
   HasNotFlushed error of v w = HasStoppedBy error (FlushStop error of) v w

@@ -3,7 +3,7 @@ ghost use Rattle.std.specs.Prelude.{◌≡◌, ◌+◌, ◌/◌, ◌<◌, ◌≤
 ghost use Rattle.bc_model.specs.Pieces.{piece_in};
 ghost use Rattle.bc_job.specs.Asked.{line_of};
 
-use bc_events::event::Line;
+use bc_events::event::LineNumber;
 
 /// How many sectors a piece has at most. Requests are cut at its multiples.
 pub const PIECE: u64 = 256;
@@ -33,10 +33,10 @@ pub struct Job {
 
 impl Job {
     /// The line.
-    pub fn of(&self) -> Line
+    pub fn of(&self) -> LineNumber
         ensures { result ≡ line_of self.now }
     {
-        Line {
+        LineNumber {
             worker: self.worker,
             line: self.line,
         }

@@ -19,7 +19,7 @@ use bc_deed::claims::{claim, release};
 use bc_deed::promise::promise;
 use bc_deed::said::{answer, durable};
 use bc_disk::disk::Disk;
-use bc_events::event::Line;
+use bc_events::event::LineNumber;
 use bc_flight::claim::{Claim, Share};
 use bc_hand::error::StepError;
 use bc_hand::hand::Hand;
@@ -80,7 +80,7 @@ fn read_under<C: Disk + Drop, B: Disk + Drop, R: Wait, G: Gate>(
     parts: &CoreParts<C, B>,
     seat: &mut CoreSeat<C, B>,
     hand: &mut Hand<C, B>,
-    of: Line,
+    of: LineNumber,
     first: u64,
     into: &mut [u8],
     gate: &G,
@@ -119,7 +119,7 @@ pub(crate) fn read_piece<C: Disk + Drop, B: Disk + Drop, R: Wait, G: Gate>(
     alloc: Global,
     parts: &CoreParts<C, B>,
     seat: &mut CoreSeat<C, B>,
-    of: Line,
+    of: LineNumber,
     first: u64,
     count: u32,
     into: &mut [u8],
@@ -160,7 +160,7 @@ fn write_under<C: Disk + Drop, B: Disk + Drop, R: Wait>(
     parts: &CoreParts<C, B>,
     seat: &mut CoreSeat<C, B>,
     hand: &mut Hand<C, B>,
-    of: Line,
+    of: LineNumber,
     first: u64,
     values: &Values,
     force: bool,
@@ -203,7 +203,7 @@ pub(crate) fn write_piece<C: Disk + Drop, B: Disk + Drop, R: Wait>(
     alloc: Global,
     parts: &CoreParts<C, B>,
     seat: &mut CoreSeat<C, B>,
-    of: Line,
+    of: LineNumber,
     first: u64,
     values: &Values,
     force: bool,

@@ -12,7 +12,7 @@ use crate::error::RequestError;
 use crate::job::{Job, Piece};
 use crate::piece::read_piece;
 use bc_disk::disk::Disk;
-use bc_events::event::Line;
+use bc_events::event::LineNumber;
 use bc_machine::machine::{CoreParts, CoreSeat};
 use bc_model::values::Values;
 use bc_worker::gate::Gate;
@@ -25,7 +25,7 @@ fn read_at<C: Disk + Drop, B: Disk + Drop, R: Wait, G: Gate>(
     alloc: Global,
     parts: &CoreParts<C, B>,
     seat: &mut CoreSeat<C, B>,
-    of: Line,
+    of: LineNumber,
     piece: Piece,
     bytes: &mut [u8],
     place: usize,

@@ -21,7 +21,7 @@ use Rattle.bc_whole.specs.Together.{payload_of, place_of}
 use Rattle.bc_events.specs.Run as core
 use Rattle.bc_events.specs.Run.{acts_or_none}
 use Rattle.bc_events.specs.Columns.{halt_by, halt_after, first_halt}
-use Rattle.bc_events.specs.declared.event.Line.{Line}
+use Rattle.bc_events.specs.declared.event.LineNumber.{LineNumber}
 use Rattle.bc_events.specs.declared.event.Written.{Written}
 use Rattle.bc_events.specs.declared.event.Written.TheVariants as written
 use Rattle.bc_events.specs.declared.event.Failure.{Failure}
@@ -170,7 +170,7 @@ claim_note x i true leaf first count exclusive =
     note_act w.flow y.whole.flow.books y.whole.flow.seats i (Learn (Look leaf))
     ∙ ap (λ o. note_by o (Learn (Look leaf))) (alone_one x i (MakeClaim first count exclusive))
 
-write_note : (x : World) (i : ℕ) (of : Option Line) (first : ℕ) (values : List Value) (plain : Bool)
+write_note : (x : World) (i : ℕ) (of : Option LineNumber) (first : ℕ) (values : List Value) (plain : Bool)
     → routed_by (note_of x i) (route_of of) first values
     ≡ note_after plain (note_of x i) (deed.BackingWrite first of values)
 write_note x i None first values plain = refl

@@ -4,7 +4,7 @@ use Rattle.std.specs.Prelude.{fold}
 use Rattle.bc_disk.specs.Disk.{DiskFacts}
 use Rattle.bc_data.specs.Data as flow
 use Rattle.bc_events.specs.Run.{Opening, IsSeat, line_after}
-use Rattle.bc_events.specs.declared.event.Line.{Line}
+use Rattle.bc_events.specs.declared.event.LineNumber.{LineNumber}
 use Rattle.bc_events.specs.declared.event.Event.{Event}
 use Rattle.bc_machine.specs.declared.part.CorePart.{CorePart}
 use Rattle.bc_machine.specs.World.{World, data_of, is_plain, is_told, are_plain, after, Origin, IsOrigin, IsSeenFrom, IsView, seen_from, opening, CanFollow, IsEnabled}
@@ -28,7 +28,7 @@ pub lines_same : (x z : World) (es : List Event) → z.now.line ≡ x.now.line
     → (fold after z es).now.line ≡ (fold after x es).now.line
 lines_same x z [] is = is
 lines_same x z (e ∷ es) is = lines_same (after x e) (after z e) es
-    (ap (λ (line : ℕ → Option Line). line_after line e.seat e.deed) is)
+    (ap (λ (line : ℕ → Option LineNumber). line_after line e.seat e.deed) is)
 
 -- of a view: its opening says as much of sizes and workers, and whether the run is plain
 pub record IsLike (x y : World) : Type 0 where

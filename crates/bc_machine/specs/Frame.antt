@@ -27,7 +27,7 @@ use Rattle.bc_key.specs.declared.key.Key.{Key}
 use Rattle.bc_events.specs.Keys.{book_keys}
 use Rattle.bc_events.specs.Changes.{regroup, made, dropped}
 use Rattle.bc_events.specs.declared.event.Change.{Change}
-use Rattle.bc_events.specs.declared.event.Line.{Line}
+use Rattle.bc_events.specs.declared.event.LineNumber.{LineNumber}
 use Rattle.bc_events.specs.Writes.{map_some, with_beginning, write_of}
 use Rattle.bc_events.specs.Run as core
 use Rattle.bc_events.specs.Run.{acts_or_none}
@@ -427,7 +427,7 @@ barrier_off OnBacking device off = refl
 barrier_off Notes device off = absurd (cc)
 barrier_off Halts device off = absurd (cc)
 
-insert_off : (c : Column) (leaf : ℕ) (ks : List index.Key) (of : Line) (first : ℕ) (values : List Value)
+insert_off : (c : Column) (leaf : ℕ) (ks : List index.Key) (of : LineNumber) (first : ℕ) (values : List Value)
     (d : Deed) → is_noted d ≡ true → changed d c ≡ false
     → touches (InsertWrite of.line leaf ks first values) c ≡ false
 insert_off Claims leaf ks of first values d on off = refl

@@ -7,7 +7,7 @@ use Rattle.bc_flight.specs.declared.claim.Share.{Share}
 use Rattle.bc_data.specs.Seats.{Seat, no_seat, nothing, noted}
 use Rattle.bc_data.specs.Data as flow
 use Rattle.bc_events.specs.Acts.{is_exclusive}
-use Rattle.bc_events.specs.declared.event.Line.{Line}
+use Rattle.bc_events.specs.declared.event.LineNumber.{LineNumber}
 use Rattle.bc_events.specs.declared.event.Failure.{Failure}
 use Rattle.bc_events.specs.declared.event.Failure.TheVariants as failure
 use Rattle.bc_events.specs.declared.event.Deed.{Deed}

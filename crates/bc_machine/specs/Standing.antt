@@ -38,7 +38,7 @@ use Rattle.bc_machine.specs.declared.part.BucketsPart.{BucketsPart}
 use Rattle.bc_machine.specs.declared.part.CorePart.{CorePart}
 use Rattle.bc_machine.specs.declared.part.CorePart.TheVariants as part
 use Rattle.bc_machine.specs.Containers.{IsInTree, IsTreeLeaf, IsTreeInner, IsSpineOf, IsLeafFor, AreLeavesOf, IsJournalOf, IsBucketFor, AreBucketsOf}
-use Rattle.bc_machine.specs.World.{Side, model, behind, same_device, called, counted, held_after, held_after_failure, Begun, World, is_told, after, data_of, Origin, replay, IsCourseOf, IsOrigin, CanFollow, IsEnabled, is_call_of, touches_flight, lies_in, any_in, change_in, write_in, root_in, fault_in, touches_leaves, changes, claim_in, share_of, seen_from, IsView, InEach, IsFlightOf, FromEach, IsSpine, AreBuckets, IsJournal, AreLeaves, IsCache, IsBackingOf, IsPart, opening}
+use Rattle.bc_machine.specs.World.{Side, model, behind, same_device, called, counted, held_after, held_after_failure, Begun, World, is_told, after, data_of, Origin, replay, IsCourseOf, IsOrigin, CanFollow, IsEnabled, is_call_of, touches_flight, lies_in, any_in, change_in, write_in, root_in, fault_in, touches_leaves, changes, claim_in, share_of, seen_from, IsView, InEach, IsFlightOf, FromEach, IsSpine, AreBuckets, IsJournal, AreLeaves, IsCache, IsBackingOf, StandsAs, opening}
 use Rattle.bc_machine.specs.Frame.{Range, range_of, by_test, Claims, OnBacking, stays_event}
 
 -- ---- claims and devices
@@ -391,7 +391,7 @@ module _ {C B : Type 0} (cache_facts : C → DiskFacts) (backing_facts : B → D
 
   part_stays : (n k : ℕ) (p : CorePart C B) (x : World) (e : Event) → IsEnabled x e → HasCourses x
       → x.begun.leaf_parts ≡ n - 6 → changes n e k ≡ false
-      → IsPart cache_facts backing_facts k p x → IsPart cache_facts backing_facts k p (after x e)
+      → StandsAs cache_facts backing_facts k p x → StandsAs cache_facts backing_facts k p (after x e)
   part_stays n k part.Absent x e on courses count off h = record {
     not_flight = h.not_flight;
     not_backing = h.not_backing;
@@ -422,8 +422,8 @@ module _ {C B : Type 0} (cache_facts : C → DiskFacts) (backing_facts : B → D
       → IsCourse IsEnabled after (opening cache_facts backing_facts start) es
       → IsEnabled (fold after (opening cache_facts backing_facts start) es) e
       → changes (length start) e k ≡ false
-      → IsPart cache_facts backing_facts k p (fold after (opening cache_facts backing_facts start) es)
-      → IsPart cache_facts backing_facts k p
+      → StandsAs cache_facts backing_facts k p (fold after (opening cache_facts backing_facts start) es)
+      → StandsAs cache_facts backing_facts k p
       (after (fold after (opening cache_facts backing_facts start) es) e)
   frames start es k p e run on off h = let x = opening cache_facts backing_facts start in
       part_stays (length start) k p (fold after x es) e on

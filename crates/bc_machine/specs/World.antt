@@ -392,15 +392,15 @@ module _ {C B : Type 0} (cache_facts : C → DiskFacts) (backing_facts : B → D
     pub not_backing : k ≢ 5
     pub plain : is_plain x ≡ true
 
-  abbrev pub IsPart : ℕ → CorePart C B → World → Type 0
-  IsPart k part.Absent x = IsAbsent k x
-  IsPart k (part.Spine sp) x = (k ≡ 0) × IsSpine sp x
-  IsPart k (part.Flight f) x = (k ≡ 1) × IsFlight f x
-  IsPart k (part.Buckets p) x = (k ≡ 2) × AreBuckets p x
-  IsPart k (part.Journal j) x = (k ≡ 3) × IsJournal j x
-  IsPart k (part.Cache c) x = (k ≡ 4) × IsCache c x
-  IsPart k (part.Backing b) x = (k ≡ 5) × IsBacking b x
-  IsPart k (part.Leaves c) x = (6 ≤ k) × AreLeaves (k - 6) c x
+  abbrev pub StandsAs : ℕ → CorePart C B → World → Type 0
+  StandsAs k part.Absent x = IsAbsent k x
+  StandsAs k (part.Spine sp) x = (k ≡ 0) × IsSpine sp x
+  StandsAs k (part.Flight f) x = (k ≡ 1) × IsFlight f x
+  StandsAs k (part.Buckets p) x = (k ≡ 2) × AreBuckets p x
+  StandsAs k (part.Journal j) x = (k ≡ 3) × IsJournal j x
+  StandsAs k (part.Cache c) x = (k ≡ 4) × IsCache c x
+  StandsAs k (part.Backing b) x = (k ≡ 5) × IsBacking b x
+  StandsAs k (part.Leaves c) x = (6 ≤ k) × AreLeaves (k - 6) c x
 
   abbrev pub cache_among : List (CorePart C B) → DiskFacts
   cache_among [] = no_device

@@ -1,7 +1,7 @@
 //! The core as a machine of parts.
 ghost use Rattle.std.specs.Prelude.{◌≡◌, ◌+◌, ℕ};
 ghost use Rattle.bc_events.specs.Columns.{verdict_of, halt_of};
-ghost use Rattle.bc_machine.specs.World.{World, opening, after, IsEnabled, changes, IsPart};
+ghost use Rattle.bc_machine.specs.World.{World, opening, after, IsEnabled, changes, StandsAs};
 ghost use Rattle.bc_machine.specs.Frame.{stays_halted, names_halt};
 ghost use Rattle.bc_machine.specs.Standing.{frames};
 
@@ -39,7 +39,7 @@ impl<C: Disk, B: Disk> Machine for Core<C, B> {
 
     ghost enabled = { IsEnabled };
 
-    ghost stands = { λ k p x. IsPart C.facts B.facts k p x };
+    ghost stands = { λ k p x. StandsAs C.facts B.facts k p x };
 
     ghost changes = { changes };
 

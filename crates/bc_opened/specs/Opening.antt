@@ -37,7 +37,7 @@ pub record IsInnerOf (g : Geometry) (w : Opening) (n : Node) (x : parts.InnerNod
   pub sets : node_sets w.layout w.store.owners w.store.image x.bucket ≡ seen_sets g false n.sets
 
 -- A sound opening of a machine of the pair's devices; the pair is sound, but for its number.
-pub record IsOpeningOf (p : Pair) (v : View) (w : Opening) (x : parts.State) : Type 0 where
+pub record IsSoundOpeningOf (p : Pair) (v : View) (w : Opening) (x : parts.State) : Type 0 where
   pub view : IsView p v
   pub parts : HasSoundParts p v
   pub machine : IsMachineOf v.geometry w

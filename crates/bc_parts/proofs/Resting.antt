@@ -13,7 +13,7 @@ use Rattle.bc_parts.proofs.Interference.{stop-grows}
 
 -- what contracts see of a seat, by its table, its view and what it was told
 abbrev pub as_seat : {P E T : Type 0} → TableId → Knowledge P E → Option T → SeatView P E T
-as_seat t v told = record { run = record { table = t; start = v.start }; first = v.first; end = v.end; seen = v.seen; parts = v.held; promises = v.promises; told = told }
+as_seat t v heard = record { run = record { table = t; start = v.start }; first = v.first; end = v.end; seen = v.seen; parts = v.held; promises = v.promises; heard = heard }
 
 -- the Book's slot is the one behind the parts of the seat's run
 pub last_slot : {P E T : Type 0} (n : ℕ) (v w : SeatView P E T) (p q : PartsView P) → n ≡ length p.run.start → v ≡ w → p ≡ q → w.run ≡ q.run → n ≡ length v.run.start
@@ -69,6 +69,6 @@ module _ {Z P E B T : Type 0} (m : Ghosts Z P E B T) where
   Rests-book me k r last has = let inside = r.parts k has in omega arith
 
   -- the stop that was told is the one that the list made, also when the list has grown
-  pub still_stopped : ((es : List E) (e : E) (s : T) → m.stop es ≡ Some s → m.stop (es ++ e ∷ []) ≡ Some s) → (count first end : ℕ) (parts : List ℕ) (seen es : List E) (told : Option T) → Grows m count first end parts seen es
-      → ((s : T) → told ≡ Some s → m.stop seen ≡ Some s) → (s : T) → told ≡ Some s → m.stop es ≡ Some s
-  still_stopped stays count first end parts seen es told grows stopped s is = stop-grows m stays count first end parts seen es s grows (stopped s is)
+  pub still_stopped : ((es : List E) (e : E) (s : T) → m.stop es ≡ Some s → m.stop (es ++ e ∷ []) ≡ Some s) → (count first end : ℕ) (parts : List ℕ) (seen es : List E) (heard : Option T) → Grows m count first end parts seen es
+      → ((s : T) → heard ≡ Some s → m.stop seen ≡ Some s) → (s : T) → heard ≡ Some s → m.stop es ≡ Some s
+  still_stopped stays count first end parts seen es heard grows stopped s is = stop-grows m stays count first end parts seen es s grows (stopped s is)

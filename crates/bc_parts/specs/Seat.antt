@@ -22,11 +22,11 @@ pub record SeatView (P E T : Type 0) : Type 0 where
   pub seen : List E
   pub parts : List ℕ
   pub promises : ℕ
-  pub told : Option T
+  pub heard : Option T
 
 -- the only seat of a run that begins
 abbrev pub newcomer : {P E T : Type 0} → PartsView P → SeatView P E T
-newcomer p = record { run = p.run; first = 0; end = p.seats; seen = []; parts = []; promises = 0; told = None }
+newcomer p = record { run = p.run; first = 0; end = p.seats; seen = []; parts = []; promises = 0; heard = None }
 
 -- the number is one of the seat's
 abbrev pub HasNumber : {P E T : Type 0} → SeatView P E T → ℕ → Type 0
@@ -51,6 +51,6 @@ coded_parts {P} p = code_by (Run P × ℕ) (coded× (coded_run p) coded_ℕ) (λ
 abbrev pub coded_seat : {P E T : Type 0} → Coded P → Coded E → Coded T → Coded (SeatView P E T)
 coded_seat {P} {E} {T} p e t = code_by (Run P × (ℕ × (ℕ × (List E × (List ℕ × (ℕ × Option T))))))
     (coded× (coded_run p) (coded× coded_ℕ (coded× coded_ℕ (coded× (coded_list e) (coded× (coded_list coded_ℕ) (coded× coded_ℕ (coded_option t)))))))
-    (λ s. (s.run, (s.first, (s.end, (s.seen, (s.parts, (s.promises, s.told)))))))
-    (λ z. record { run = z.0; first = z.1.0; end = z.1.1.0; seen = z.1.1.1.0; parts = z.1.1.1.1.0; promises = z.1.1.1.1.1.0; told = z.1.1.1.1.1.1 })
+    (λ s. (s.run, (s.first, (s.end, (s.seen, (s.parts, (s.promises, s.heard)))))))
+    (λ z. record { run = z.0; first = z.1.0; end = z.1.1.0; seen = z.1.1.1.0; parts = z.1.1.1.1.0; promises = z.1.1.1.1.1.0; heard = z.1.1.1.1.1.1 })
     (λ _. refl)

@@ -83,7 +83,7 @@ impl<M: Machine> Parts<M> {
                 let seat = Seat {
                     place,
                     first: 0,
-                    told: None,
+                    heard: None,
                 };
                 Ok((Parts { table, count }, seat))
             }
@@ -110,11 +110,11 @@ impl<M: Machine> Parts<M> {
         let table = &self.table.shared;
         table.store::<Mark<M>>(&mut seat.place, NOTE, u64::from(at));
         let place = table.split_seat::<Halves<M>>(&mut seat.place);
-        let told = seat.told;
+        let heard = seat.heard;
         Seat {
             place,
             first: at,
-            told,
+            heard,
         }
     }
 
@@ -128,7 +128,7 @@ impl<M: Machine> Parts<M> {
           end = other.end;
           seen = seat.new.seen;
           promises = seat.old.promises + other.promises;
-          told = option_or seat.old.told other.told;
+          heard = option_or seat.old.heard other.heard;
         } }
         ensures later { SeesLater M.Machine seat.old seat.new.seen }
         ensures other { SeesLater M.Machine other seat.new.seen }
@@ -136,12 +136,12 @@ impl<M: Machine> Parts<M> {
         let Seat {
             place,
             first: _,
-            told,
+            heard,
         } = other;
         let table = &self.table.shared;
         table.join_seat::<Halves<M>>(&mut seat.place, place);
         table.load::<Look<M>>(&mut seat.place, COUNT);
-        seat.told = seat.told.or(told);
+        seat.heard = seat.heard.or(heard);
     }
 
     /// Waits until no seat holds the part, and takes it. Its value stands for the state that the
@@ -240,7 +240,7 @@ impl<M: Machine> Parts<M> {
             × (seat.new ≡ record seat.old {
               seen = es ++ event ∷ [];
               promises = seat.old.promises - 1;
-              told = stop;
+              heard = stop;
             })
             × (stop ≡ M.stop (es ++ event ∷ []))) }
         ensures own { OnOk result (AddsOwn M.Machine seat.old event seat.new.seen) }
@@ -249,20 +249,20 @@ impl<M: Machine> Parts<M> {
         // The Book refused it behind such events alone.
         ensures refused { IfErr result (λ stop. SeesLater M.Machine seat.old seat.new.seen
             × (M.verdict seat.new.seen event ≡ Err stop)
-            × (seat.new ≡ record seat.old { seen = seat.new.seen; told = Some stop })) }
+            × (seat.new ≡ record seat.old { seen = seat.new.seen; heard = Some stop })) }
     {
         let table = &self.table.shared;
         let book = take_book(rt, table, &mut seat.place, self.count);
         match M::admits(&book, &event) {
             Ok(()) => {
                 let stop = add(table, &mut seat.place, self.count, book, event);
-                seat.told = stop;
+                seat.heard = stop;
                 Ok(stop)
             }
             Err(stop) => {
                 drop(event);
                 put_back(table, &mut seat.place, self.count, book);
-                seat.told = Some(stop);
+                seat.heard = Some(stop);
                 Err(stop)
             }
         }
@@ -285,7 +285,7 @@ impl<M: Machine> Parts<M> {
         let Seat {
             place,
             first: _,
-            told: _,
+            heard: _,
         } = seat;
         let mut closed = table.close_with(place);
         let mut parts = vector_in::<M>(closed.take(count + 1));

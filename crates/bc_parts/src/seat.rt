@@ -15,7 +15,7 @@ use std::marker::Model;
 pub struct Seat<M: Machine> {
     pub(crate) place: Place<M>,
     pub(crate) first: u32,
-    pub(crate) told: Option<M::Stop>,
+    pub(crate) heard: Option<M::Stop>,
 }
 
 impl<M: Machine> Model for Seat<M> {
@@ -35,12 +35,12 @@ impl<M: Machine> Model for Seat<M> {
       seen = s.place.me.0.seen;
       parts = s.place.me.0.held;
       promises = s.place.me.0.promises;
-      told = s.told;
+      heard = s.heard;
     } };
 
     ghost invariant = { λ s. Rests M.Machine s.place.me
         × (s.first ≡ s.place.me.0.first)
-        × ForSome s.told (λ t. M.stop s.place.me.0.seen ≡ Some t) };
+        × ForSome s.heard (λ t. M.stop s.place.me.0.seen ≡ Some t) };
 }
 
 impl<M: Machine> Seat<M> {
@@ -54,10 +54,10 @@ impl<M: Machine> Seat<M> {
 
     /// The stop that a commit of this seat answered, or of one that was joined to it, or `None`. It
     /// is the one that the events made which the seat has seen.
-    pub fn told(&self) -> Option<M::Stop>
-        ensures told { result ≡ self.now.told }
+    pub fn heard(&self) -> Option<M::Stop>
+        ensures heard { result ≡ self.now.heard }
         ensures stopped { ForSome result (λ s. M.stop self.now.seen ≡ Some s) }
     {
-        self.told
+        self.heard
     }
 }

@@ -354,14 +354,14 @@ fn a_refused_commit_changes_nothing(rt: HostRuntime) -> Result<(), Fail> {
     let (counters, log) = match Parts::<Counters>::new(alloc, counters, log, 1) {
         Ok((parts, mut seat)) => {
             assert!(rt; parts.promise(&rt, &mut seat, 3).is_ok());
-            assert_eq!(rt; seat.told(), None);
+            assert_eq!(rt; seat.heard(), None);
             let first = end(&rt, &parts, &mut seat);
             assert_eq!(rt; first, Ok(Some(0)));
             assert_eq!(rt; parts.meet(&mut seat), 1);
             let second = end(&rt, &parts, &mut seat);
             assert_eq!(rt; second, Err(0));
             assert_eq!(rt; parts.meet(&mut seat), 1);
-            assert_eq!(rt; seat.told(), Some(0));
+            assert_eq!(rt; seat.heard(), Some(0));
             parts.close(seat)
         }
         Err(NotMade { parts: _, book: _ }) => return Err("no memory")?,

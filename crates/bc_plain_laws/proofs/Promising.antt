@@ -21,7 +21,7 @@ use Rattle.bc_machine.specs.declared.part.CorePart.TheVariants as part
 use Rattle.bc_machine.specs.Plain.{no_parts}
 use Rattle.bc_machine.specs.World.{World, behind, data_of, is_told, is_some_image, image_of, cache_among, are_plain, data_among, opening, IsBackingOf, IsBacking}
 use Rattle.bc_hand.specs.Seats.{core as machine}
-use Rattle.bc_plain_laws.specs.Promises.{Survives, IsStable, IsOutside, IsUntouched}
+use Rattle.bc_plain_laws.specs.Promises.{Survives, LeavesLastWrites, IsOutside, IsUntouched}
 use Rattle.bc_plain_laws.specs.Laws.{HasHistory, EndsFirmly, IsPlainRun, last, data_offset, data_size, LawHistory, LawLegal, LawSurvives, LawStable, LawOutside, Promises, LawPromises}
 use Rattle.bc_plain_laws.proofs.Following.{told_events, opening_events, offset_events, ahead_events, now_events, follows}
 use Rattle.bc_plain_laws.proofs.Entries.{entries_run}
@@ -164,7 +164,7 @@ module _ {C B : Type 0} (cache_facts : C → DiskFacts) (backing_facts : B → D
     pub survives : Survives offset held (entries_of es) after_
     survives = (legal, λ left can s. allowed (λ s. left (offset + s)) (data_left left can) s)
 
-    pub is_stable : EndsFirmly es → IsStable offset held (entries_of es) after_
+    pub is_stable : EndsFirmly es → LeavesLastWrites offset held (entries_of es) after_
     is_stable firm left can s = stable firm (λ s. left (offset + s)) (data_left left can) s
 
     outside : (image : Image) (values : ℕ → List Value)

@@ -8,7 +8,7 @@ use Rattle.bc_parts.specs.Machine.{IsRun}
 use Rattle.bc_data.specs.Example.{zero_value, one_value}
 use Rattle.bc_flight.specs.declared.claim.Share.TheVariants.{Exclusive}
 use Rattle.bc_events.specs.Columns.{entries_of}
-use Rattle.bc_events.specs.declared.event.Line.{Line}
+use Rattle.bc_events.specs.declared.event.LineNumber.{LineNumber}
 use Rattle.bc_events.specs.declared.event.Deed.{Deed}
 use Rattle.bc_events.specs.declared.event.Deed.TheVariants.{Claim, BackingWrite, BackingBarrier, Answer}
 use Rattle.bc_events.specs.declared.event.Event.{Event}
@@ -16,7 +16,7 @@ use Rattle.bc_machine.specs.declared.part.BackingPart.{BackingPart}
 use Rattle.bc_machine.specs.declared.part.CorePart.TheVariants as part
 use Rattle.bc_machine.specs.World.{no_device, opening, IsBacking}
 use Rattle.bc_hand.specs.Seats.{core}
-use Rattle.bc_plain_laws.specs.Promises.{IsStable}
+use Rattle.bc_plain_laws.specs.Promises.{LeavesLastWrites}
 use Rattle.bc_plain_laws.specs.Laws.{EndsFirmly, IsPlainRun, last}
 
 -- ---- devices
@@ -74,7 +74,7 @@ kept = record {
 
 -- ---- runs
 
-abbrev pub a_line : Line
+abbrev pub a_line : LineNumber
 a_line = record { worker = 1; line = 3 }
 
 -- by the seat of the first worker
@@ -113,7 +113,7 @@ pub record LawRuns : Type 0 where
 -- nothing, whatever is said may be a run.
 pub record LawTeeth : Type 0 where
   pub run : HasRun fresh undoable a_write
-  pub unstable : IsStable 0 fresh.held (entries_of a_write) (shown_facts undoable) → ⊥
+  pub unstable : LeavesLastWrites 0 fresh.held (entries_of a_write) (shown_facts undoable) → ⊥
   pub backing : BackingPart Shown
   pub told : backing.disk ≡ fresh
   pub course : IsRun (core untold shown_facts)

@@ -15,7 +15,7 @@ use Rattle.bc_machine.specs.declared.part.CorePart.{CorePart}
 use Rattle.bc_machine.specs.declared.part.CorePart.TheVariants as part
 use Rattle.bc_machine.specs.World.{World, data_of, are_plain, data_among, opening, IsBacking}
 use Rattle.bc_hand.specs.Seats.{core}
-use Rattle.bc_plain_laws.specs.Promises.{Survives, IsStable, IsUntouched}
+use Rattle.bc_plain_laws.specs.Promises.{Survives, LeavesLastWrites, IsUntouched}
 
 -- the state has the history of these events, by workers, and their halt
 pub record HasHistory (x : World) (es : List Event) : Type 0 where
@@ -73,7 +73,7 @@ module _ {C B : Type 0} (cache_facts : C → DiskFacts) (backing_facts : B → D
 
   abbrev pub LawStable : Type 0
   LawStable = AlwaysLeft (λ ps es held after_. EndsFirmly es
-      → IsStable (data_offset ps) held (entries_of es) after_)
+      → LeavesLastWrites (data_offset ps) held (entries_of es) after_)
 
   abbrev pub LawOutside : Type 0
   LawOutside = AlwaysLeft (λ ps es held after_.
@@ -88,7 +88,7 @@ module _ {C B : Type 0} (cache_facts : C → DiskFacts) (backing_facts : B → D
   pub record Promises (backing : BackingPart B) (es : List Event) (held : Image)
       (after_ : DiskFacts) : Type 0 where
     pub survives : Survives backing.offset held (entries_of es) after_
-    pub stable : EndsFirmly es → IsStable backing.offset held (entries_of es) after_
+    pub stable : EndsFirmly es → LeavesLastWrites backing.offset held (entries_of es) after_
     pub outside : IsUntouched backing.offset backing.size held after_
 
   -- from what the beginning and the end of the run say, with nothing to be unfolded

@@ -14,8 +14,8 @@ Survives offset held entries after_ = IsLegal (λ s. held (offset + s)) (reverse
     → Allowed (λ s. held (offset + s)) (reverse entries) s (left (offset + s)))
 
 -- whatever a crash leaves now shows each sector's last write
-abbrev pub IsStable : ℕ → Image → List Entry → DiskFacts → Type 0
-IsStable offset held entries after_ = (left : Image) → after_.may_leave left → (s : ℕ)
+abbrev pub LeavesLastWrites : ℕ → Image → List Entry → DiskFacts → Type 0
+LeavesLastWrites offset held entries after_ = (left : Image) → after_.may_leave left → (s : ℕ)
     → left (offset + s) ≡ now (λ s. held (offset + s)) (reverse entries) s
 
 -- the sector lies before the data, or behind them

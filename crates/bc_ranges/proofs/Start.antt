@@ -27,7 +27,7 @@ use Rattle.bc_remains.specs.Means.{Means}
 use Rattle.bc_remains.proofs.Keys.{leaf_keys}
 use Rattle.bc_remains.proofs.Next.{means}
 use Rattle.bc_whole.specs.State.{Opening}
-use Rattle.bc_opened.specs.Opening.{IsInnerOf, IsLeafOf, IsOpeningOf}
+use Rattle.bc_opened.specs.Opening.{IsInnerOf, IsLeafOf, IsSoundOpeningOf}
 use Rattle.bc_ranges.specs.Made.{Frame, IsGoodEntry}
 use Rattle.bc_ranges.specs.Laws.{frame_of}
 use Rattle.bc_ranges.proofs.Lists.{out_reverse}
@@ -101,7 +101,7 @@ module _ (g : Geometry) (im : Image) where
 
 -- ---- an opening
 
-module _ (p : Pair) (v : View) (w : Opening) (x : parts.State) (on : IsOpeningOf p v w x) where
+module _ (p : Pair) (v : View) (w : Opening) (x : parts.State) (on : IsSoundOpeningOf p v w x) where
   reads : IsReading v.geometry w.store.image v.reading
   reads = subst (λ (i : Image). IsReading v.geometry i v.reading) (sym (on.sound.whole.image ∙ on.cache)) on.view.reading
 

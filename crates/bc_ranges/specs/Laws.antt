@@ -14,7 +14,7 @@ use Rattle.bc_facts.specs.Torn.{NoTornRecord}
 use Rattle.bc_whole.specs.State.{Opening}
 use Rattle.bc_known.specs.Acts.{Event}
 use Rattle.bc_known.specs.Run.{IsRun, run, start}
-use Rattle.bc_opened.specs.Opening.{IsOpeningOf}
+use Rattle.bc_opened.specs.Opening.{IsSoundOpeningOf}
 use Rattle.bc_ranges.specs.Made.{Frame, AreWellMade}
 
 -- what of a pair each run leaves as it is
@@ -28,7 +28,7 @@ frame_of p v = record {
 -- a run from an opening of a pair; what it makes is made well, and no torn record matched by chance
 pub record IsRunOf (p : Pair) (v : View) (w : Opening) (x : parts.State) (next_seq : ℕ)
     (es : List Event) : Type 0 where
-  pub opening : IsOpeningOf p v w x
+  pub opening : IsSoundOpeningOf p v w x
   pub course : IsRun w (start w x next_seq) es
   pub made : AreWellMade (frame_of p v) w (start w x next_seq) es
   pub no_torn : NoTornRecord v.geometry w.store.image

@@ -24,7 +24,7 @@ use Rattle.bc_known.specs.Run as machine
 use Rattle.bc_events.specs.Run.{machine_events, run, start}
 use Rattle.bc_events.proofs.Machine.{law_machine}
 use Rattle.bc_events.proofs.Names.{law_workers}
-use Rattle.bc_opened.specs.Opening.{IsOpeningOf, IsLeafOf, IsInnerOf}
+use Rattle.bc_opened.specs.Opening.{IsSoundOpeningOf, IsLeafOf, IsInnerOf}
 use Rattle.bc_opening.specs.Choices.{Choices}
 use Rattle.bc_opening.specs.Read.{inner_of, is_leaf, leaf_of, height_of}
 use Rattle.bc_opening.proofs.Chosen.{law_choices}
@@ -98,7 +98,7 @@ module _ (p : Pair) (v : View) (layout : Layout) (c : Choices) (w : whole.Openin
       let back_is : back g (counted g bucket) ≡ bucket = omega (arith, at, low, is) in
       (o.0.opening.books.fixed (counted g bucket)).1 (inr (inl (subst (λ (q : ℕ). PointsInto g r.newest.item.uuid_bucket q) (sym back_is) into)))
 
-  pub opened : IsOpeningOf p v w x
+  pub opened : IsSoundOpeningOf p v w x
   opened = record {
     view = o.0.view;
     parts = o.0.parts;

@@ -13,7 +13,7 @@ use Rattle.bc_whole.specs.State as whole
 use Rattle.bc_events.specs.Run.{Opening, State, IsRun, history_of, machine_events, run, start}
 use Rattle.bc_events.specs.Laws.{HaveWorkers}
 use Rattle.bc_events.specs.declared.event.Event.{Event}
-use Rattle.bc_opened.specs.Opening.{IsOpeningOf}
+use Rattle.bc_opened.specs.Opening.{IsSoundOpeningOf}
 use Rattle.bc_opening.specs.Choices.{Choices, MayBeChosen}
 use Rattle.bc_opening.specs.Opening.{IsOpenedAs}
 use Rattle.bc_ranges.specs.Laws.{frame_of}
@@ -28,7 +28,7 @@ IsOpenedBy p v layout c w x = IsOpenedAs p v layout c w x × MayBeChosen v.geome
 abbrev pub LawOpened : Type 0
 LawOpened =
     (p : Pair) (v : View) (layout : Layout) (c : Choices) (w : whole.Opening) (x : parts.State)
-    → IsOpenedBy p v layout c w x → IsOpeningOf p v w x
+    → IsOpenedBy p v layout c w x → IsSoundOpeningOf p v w x
 
 -- A run of events on a sound pair, opened by some choices; what its acts bring is well made, no torn
 -- record matched by chance, and its seats have workers of their own.

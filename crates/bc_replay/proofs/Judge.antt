@@ -17,7 +17,7 @@ use Rattle.bc_prio.specs.Chain.{IsPlace}
 use Rattle.bc_disk.specs.Chain.{sets_in_chain}
 use Rattle.bc_record.specs.Places.{bucket_at}
 use Rattle.bc_walk.specs.Rule.{Rule}
-use Rattle.bc_walk.specs.Walk.{IsTaken}
+use Rattle.bc_walk.specs.Walk.{IsVisited}
 use Rattle.bc_walk.specs.declared.visit.Visit.{Visit}
 use Rattle.bc_walk.specs.declared.visit.Visit.TheVariants as visits
 use Rattle.bc_replay.specs.declared.error.OpenError.{OpenError}
@@ -54,7 +54,7 @@ pointer_is key ptr is = go (cases_lt 0 key.count)
 pub points_place : (g : Geometry) (key : Key) (b : ℕ) → PointsIntoData g key → PointsInto g key b → IsPlace g b
 points_place g key b into (ptr, is, at) = let p = pointer_is key ptr is in subst (IsPlace g) (ap (λ (q : Ptr). bucket_at g q.offset) p.1 ∙ at) (into 0 p.0).bucket
 
-pub taken_place : (g : Geometry) (root : Bool) (seen : List Visit) (b : ℕ) → TellTrue g root seen → IsTaken g seen b → IsPlace g b
+pub taken_place : (g : Geometry) (root : Bool) (seen : List Visit) (b : ℕ) → TellTrue g root seen → IsVisited g seen b → IsPlace g b
 taken_place g root [] b told taken = absurd taken
 taken_place g root (visits.Met level from key ∷ seen) b told (inl here) = points_place g key b told.0.ptrs here
 taken_place g root (visits.Met level from key ∷ seen) b told (inr later) = taken_place g false seen b told.1 later

@@ -31,7 +31,7 @@ use Rattle.bc_super.specs.declared.cache.CacheSuper.{CacheSuper}
 use Rattle.bc_walk.specs.Rule.{Rule}
 use Rattle.bc_walk.specs.Seen.{found_of}
 use Rattle.bc_walk.specs.Tree.{IsTree, visit_of}
-use Rattle.bc_walk.specs.Walk.{IsTaken, MeetsIn, IsIndexSearch}
+use Rattle.bc_walk.specs.Walk.{IsVisited, MeetsIn, IsIndexSearch}
 use Rattle.bc_walk.specs.declared.visit.Visit.{Visit}
 use Rattle.bc_walk.proofs.Trees.{is_tree}
 use Rattle.bc_replay.specs.declared.uses.Use.{Use}
@@ -110,12 +110,12 @@ kinds_apart a b apart same = apart (sym (same_number a) ∙ ap numbered same ∙
 
 -- ---- the nodes of a tree
 
-taken_nodes : (g : Geometry) (nodes : List Node) (b : ℕ) → IsTaken g (map visit_of nodes) b → Any (λ n. PointsInto g n.key b) nodes
+taken_nodes : (g : Geometry) (nodes : List Node) (b : ℕ) → IsVisited g (map visit_of nodes) b → Any (λ n. PointsInto g n.key b) nodes
 taken_nodes g [] b taken = absurd taken
 taken_nodes g (n ∷ ns) b (inl here) = (0, n, omega arith, refl, here)
 taken_nodes g (n ∷ ns) b (inr later) = let m = taken_nodes g ns b later in let low = m.2 in (suc m.0, m.1, omega (arith, low), m.3, m.4)
 
-nodes_taken : (g : Geometry) (nodes : List Node) (b : ℕ) → Any (λ n. PointsInto g n.key b) nodes → IsTaken g (map visit_of nodes) b
+nodes_taken : (g : Geometry) (nodes : List Node) (b : ℕ) → Any (λ n. PointsInto g n.key b) nodes → IsVisited g (map visit_of nodes) b
 nodes_taken g [] b (k, n, low, is, here) = absurd (omega (arith, low))
 nodes_taken g (m ∷ ns) b (zero, n, low, is, here) = inl (subst (λ (x : Node). PointsInto g x.key b) (sym is) here)
 nodes_taken g (m ∷ ns) b (suc k, n, low, is, here) = inr (nodes_taken g ns b (k, n, omega (arith, low), is, here))

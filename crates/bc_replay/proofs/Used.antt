@@ -22,7 +22,7 @@ use Rattle.bc_key.specs.declared.ptr.Ptr.{Ptr}
 use Rattle.bc_node.specs.Leaf.{AreLastOfAll}
 use Rattle.bc_prio.specs.Chain.{IsPlace}
 use Rattle.bc_record.specs.Places.{bucket_at}
-use Rattle.bc_walk.specs.Walk.{IsTaken}
+use Rattle.bc_walk.specs.Walk.{IsVisited}
 use Rattle.bc_walk.specs.declared.visit.Visit.{Visit}
 use Rattle.bc_walk.specs.declared.visit.Visit.TheVariants as visits
 use Rattle.bc_replay.specs.declared.uses.Use.{Use}
@@ -70,7 +70,7 @@ module _ (g : Geometry) where
 
   -- ---- the nodes
 
-  pub nodes_marked : (seen : List Visit) (b : ℕ) → IsTaken g seen b → Contains (flat_map (visit_marks g) seen) (mark uses.Node b)
+  pub nodes_marked : (seen : List Visit) (b : ℕ) → IsVisited g seen b → Contains (flat_map (visit_marks g) seen) (mark uses.Node b)
   nodes_marked [] b taken = absurd taken
   nodes_marked (visits.Met level from key ∷ seen) b (inl here) = Contains-append_left (key_marks g uses.Node key) (flat_map (visit_marks g) seen) (mark uses.Node b) (key_marked uses.Node key b here)
   nodes_marked (visits.Met level from key ∷ seen) b (inr later) = Contains-append_right (key_marks g uses.Node key) (flat_map (visit_marks g) seen) (mark uses.Node b) (nodes_marked seen b later)
@@ -79,12 +79,12 @@ module _ (g : Geometry) where
   nodes_marked (visits.Barred key ∷ seen) b (inl here) = absurd here
   nodes_marked (visits.Barred key ∷ seen) b (inr later) = nodes_marked seen b later
 
-  pub marked_nodes : (seen : List Visit) (k : Use) (b : ℕ) → Contains (flat_map (visit_marks g) seen) (mark k b) → (uses.Node ≡ k) × IsTaken g seen b
+  pub marked_nodes : (seen : List Visit) (k : Use) (b : ℕ) → Contains (flat_map (visit_marks g) seen) (mark k b) → (uses.Node ≡ k) × IsVisited g seen b
   marked_nodes [] k b c = absurd (in_none (mark k b) c)
   marked_nodes (visits.Met level from key ∷ seen) k b c = go (λ later. marked_nodes seen k b later) (Contains-append_cases (key_marks g uses.Node key) (flat_map (visit_marks g) seen) (mark k b) c)
     where
-      go : (Contains (flat_map (visit_marks g) seen) (mark k b) → (uses.Node ≡ k) × IsTaken g seen b) → Contains (key_marks g uses.Node key) (mark k b) ⊎ Contains (flat_map (visit_marks g) seen) (mark k b)
-          → (uses.Node ≡ k) × IsTaken g (visits.Met level from key ∷ seen) b
+      go : (Contains (flat_map (visit_marks g) seen) (mark k b) → (uses.Node ≡ k) × IsVisited g seen b) → Contains (key_marks g uses.Node key) (mark k b) ⊎ Contains (flat_map (visit_marks g) seen) (mark k b)
+          → (uses.Node ≡ k) × IsVisited g (visits.Met level from key ∷ seen) b
       go more (inl here) = let one = marked_key uses.Node key k b here in (one.0, inl one.1)
       go more (inr later) = let rest = more later in (rest.0, inr rest.1)
   marked_nodes (visits.Again key ∷ seen) k b c = let rest = marked_nodes seen k b c in (rest.0, inr rest.1)

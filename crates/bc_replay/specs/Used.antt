@@ -8,7 +8,7 @@ use Rattle.bc_image.specs.Shown.{is_live}
 use Rattle.bc_key.specs.Key.{place_at}
 use Rattle.bc_key.specs.declared.key.Key.{Key}
 use Rattle.bc_record.specs.Places.{bucket_at}
-use Rattle.bc_walk.specs.Walk.{IsTaken}
+use Rattle.bc_walk.specs.Walk.{IsVisited}
 use Rattle.bc_walk.specs.declared.visit.Visit.{Visit}
 use Rattle.bc_walk.specs.declared.visit.Visit.TheVariants as visits
 use Rattle.bc_replay.specs.declared.uses.Use.{Use}
@@ -34,7 +34,7 @@ IsUse h uses.Super bucket = bucket < h.geometry.first_bucket
 IsUse h uses.Journal bucket = (h.geometry.first_bucket ≤ bucket) × (bucket < h.geometry.first_bucket + h.geometry.journal)
 IsUse h uses.Priority bucket = Contains h.gens.chain bucket
 IsUse h uses.Uuid bucket = PointsInto h.geometry h.uuid_bucket bucket
-IsUse h uses.Node bucket = IsTaken h.geometry h.seen bucket
+IsUse h uses.Node bucket = IsVisited h.geometry h.seen bucket
 IsUse h uses.Data bucket = (sector : ℕ) × (key : Key) × LiesIn h sector key bucket
 
 -- a walk came to a node of this bucket that it had read before

@@ -6,7 +6,7 @@ use Rattle.bc_script.specs.declared.line.Line.{Line}
 use Rattle.bc_script.specs.declared.script.TraceError.{TraceError}
 use Rattle.bc_script.specs.declared.script.TraceError.TheVariants.{Script, Fault, Memory}
 use Rattle.std.specs.Prelude.{Result, Ok, Err, MatchResult, IfOk, IfErr}
-use Rattle.bc_script.specs.Trace.{IsTaken, IsCause, IsWhole, SpellAll, lines_of}
+use Rattle.bc_script.specs.Trace.{TakesAtMost, IsCause, IsWhole, SpellAll, lines_of}
 use Rattle.bc_script.specs.Draft.{IsDraft, IsSoFar, Stops, IsAfter, bytes_read}
 use Rattle.std.proofs.lemmas.Bool.{cases_lt}
 
@@ -36,7 +36,7 @@ reads_on taken n lines now phase then_ part rest slice bytes a b c le same on to
     (all.0, all.1, all.2, on x z (subst P (m ∙ ap (λ (bs : List ℕ). bs ++ z) (sym same)) r.3)))
 
 pub taken_then : (taken n most : ℕ) (lines : List Line) (phase : ℕ) (part slice : List ℕ) (a b c : Option (List ℕ)) → n ≤ length slice → taken + n ≤ most
-    → BothToldText (Reads taken lines phase part) a b → BothToldText (IsMoved n slice) b c → BothToldText (IsTaken most) a c
+    → BothToldText (Reads taken lines phase part) a b → BothToldText (IsMoved n slice) b c → BothToldText (TakesAtMost most) a c
 taken_then taken n most lines phase part slice a b c le few told moved = both_then a b c told moved (λ x y z r m.
     let all = more_taken taken n slice x y z r.0 le r.1 r.2 m in
     (all.0, all.1, let len = all.2 in omega arith))

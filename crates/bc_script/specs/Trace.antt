@@ -80,12 +80,12 @@ pub record IsFirstRefused (text : List ℕ) (e : ScriptError) : Type 0 where
   pub line : e.line ≡ suc (length before)
 
 -- so much of the old text was taken at most
-abbrev pub IsTaken : ℕ → List ℕ → List ℕ → Type 0
-IsTaken most old new = (taken : List ℕ) × (old ≡ taken ++ new) × (length taken ≤ most)
+abbrev pub TakesAtMost : ℕ → List ℕ → List ℕ → Type 0
+TakesAtMost most old new = (taken : List ℕ) × (old ≡ taken ++ new) × (length taken ≤ most)
 
 -- why no script was read
 abbrev pub IsCause : StreamFacts → StreamFacts → TraceError → Type 0
-IsCause old new (Script e) = BothToldText (λ text left. IsFirstRefused text e × IsTaken (81 * e.line + 4095) text left) old.text new.text × (new.faults ≡ old.faults)
+IsCause old new (Script e) = BothToldText (λ text left. IsFirstRefused text e × TakesAtMost (81 * e.line + 4095) text left) old.text new.text × (new.faults ≡ old.faults)
 IsCause old new Fault = HasRisen old.faults new.faults
 IsCause old new Memory = new.faults ≡ old.faults
 

@@ -1,7 +1,7 @@
 //! Reads a trace from a source.
 ghost use Rattle.std.specs.Prelude.{IfOk, IfErr};
 ghost use Rattle.bc_disk.specs.Stream.{BothToldText};
-ghost use Rattle.bc_script.specs.Trace.{IsTrace, IsWhole, IsCause, IsTaken};
+ghost use Rattle.bc_script.specs.Trace.{IsTrace, IsWhole, IsCause, TakesAtMost};
 
 use crate::draft::Draft;
 use crate::script::{Script, TraceError};
@@ -28,7 +28,7 @@ pub fn read_trace<S: Source>(alloc: Global, source: &mut S) -> Result<Script, Tr
     ensures whole { IfOk result (IsWhole (S.facts source.old) (S.facts source.new)) }
     // The line is the first that is refused; the source failed in this call.
     ensures cause { IfErr result (IsCause (S.facts source.old) (S.facts source.new)) }
-    ensures taken { BothToldText (IsTaken 21233665)
+    ensures taken { BothToldText (TakesAtMost 21233665)
         (S.facts source.old).text (S.facts source.new).text }
 {
     let mut draft = Draft::new(alloc)?;

@@ -43,7 +43,7 @@ module _ {Z P E B T : Type 0} (m : Ghosts Z P E B T) where
     own = b.own ∙ a.own;
     since = since_both u v (state_seen m w) a.same still a.since b.since;
     grown = grown_both m u v w a.same.first a.same.end a.grown b.grown;
-    told = λ none. a.told (b.told none);
+    heard = λ none. a.heard (b.heard none);
   }
 
   pub committed_behind : (u v : SeatView P E T) (e : E) (w : SeatView P E T)
@@ -58,7 +58,7 @@ module _ {Z P E B T : Type 0} (m : Ghosts Z P E B T) where
     may = b.may;
     state = b.state;
     grown = grown_both m u v w a.same.first a.same.end a.grown b.grown;
-    told = b.told;
+    heard = b.heard;
   }
 
   -- who gave parts back has seen the same
@@ -72,19 +72,19 @@ module _ {Z P E B T : Type 0} (m : Ghosts Z P E B T) where
       ∙ ap (λ l. events_by m w.first l) seen
 
   pub waited_given : (v w x : SeatView P E T) → Waited m v w → Same m w x → x.seen ≡ w.seen
-      → x.told ≡ w.told → x.promises ≡ w.promises → Waited m v x
-  waited_given v w x a same seen told promises = record {
+      → x.heard ≡ w.heard → x.promises ≡ w.promises → Waited m v x
+  waited_given v w x a same seen heard promises = record {
     same = same_both v w x a.same same;
     promises = promises ∙ a.promises;
     own = own_alike w x same seen ∙ a.own;
     since = subst (Since m v) (sym (seen_alike w x same seen)) a.since;
     grown = grown_given m v w x seen a.grown;
-    told = λ none. a.told (sym told ∙ none);
+    heard = λ none. a.heard (sym heard ∙ none);
   }
 
   pub committed_given : (v : SeatView P E T) (e : E) (w x : SeatView P E T) → Committed m v e w
-      → Same m w x → x.seen ≡ w.seen → x.told ≡ w.told → x.promises ≡ w.promises → Committed m v e x
-  committed_given v e w x a same seen told promises = record {
+      → Same m w x → x.seen ≡ w.seen → x.heard ≡ w.heard → x.promises ≡ w.promises → Committed m v e x
+  committed_given v e w x a same seen heard promises = record {
     same = same_both v w x a.same same;
     promises = ap (λ n. n + 1) promises ∙ a.promises;
     own = own_alike w x same seen ∙ a.own;
@@ -93,5 +93,5 @@ module _ {Z P E B T : Type 0} (m : Ghosts Z P E B T) where
     may = a.may;
     state = seen_alike w x same seen ∙ a.state;
     grown = grown_given m v w x seen a.grown;
-    told = told ∙ a.told ∙ ap (λ l. m.stop l) (sym seen);
+    heard = heard ∙ a.heard ∙ ap (λ l. m.stop l) (sym seen);
   }

@@ -128,20 +128,20 @@ module _ {Z P E B T : Type 0} (m : Ghosts Z P E B T) where
 
   pub waited_later : (v w : SeatView P E T) → IsSeat m v → SeesLater m v w.seen → w.run ≡ v.run
       → w.first ≡ v.first → w.end ≡ v.end → w.promises ≡ v.promises
-      → (w.told ≡ None → v.told ≡ None) → Waited m v w
-  waited_later v w seat sees run first_is end_is promises told = let live = seat.live in record {
+      → (w.heard ≡ None → v.heard ≡ None) → Waited m v w
+  waited_later v w seat sees run first_is end_is promises heard = let live = seat.live in record {
     same = record { run = run; first = first_is; end = end_is };
     promises = promises;
     own = ap (λ n. events_by m n w.seen) first_is ∙ sees.own v.first (omega arith) live;
     since = since_later v w sees run;
     grown = grown_later v w sees;
-    told = told;
+    heard = heard;
   }
 
   -- nothing was seen since
   pub waited_not : (v w : SeatView P E T) → w.run ≡ v.run → w.first ≡ v.first → w.end ≡ v.end
-      → w.promises ≡ v.promises → w.seen ≡ v.seen → w.told ≡ v.told → Waited m v w
-  waited_not v w run first_is end_is promises seen told = record {
+      → w.promises ≡ v.promises → w.seen ≡ v.seen → w.heard ≡ v.heard → Waited m v w
+  waited_not v w run first_is end_is promises seen heard = record {
     same = record { run = run; first = first_is; end = end_is };
     promises = promises;
     own = ap (λ n. events_by m n w.seen) first_is ∙ ap (λ l. events_by m v.first l) seen;
@@ -153,12 +153,12 @@ module _ {Z P E B T : Type 0} (m : Ghosts Z P E B T) where
       foreign = λ k d low. absurd (omega (arith, low));
     };
     grown = grown_not v w seen;
-    told = λ none. sym told ∙ none;
+    heard = λ none. sym heard ∙ none;
   }
 
   pub committed_at : (v w : SeatView P E T) (e : E) (es : List E) (t : Option T)
       → AtCommit m v e es → m.enabled (state_after m v.run.start es) e → 0 < v.promises
-      → w ≡ record v { seen = es ++ e ∷ []; promises = v.promises - 1; told = t }
+      → w ≡ record v { seen = es ++ e ∷ []; promises = v.promises - 1; heard = t }
       → t ≡ m.stop (es ++ e ∷ []) → AddsOwn m v e w.seen → Committed m v e w
   committed_at v w e es t at may some is stop own =
       let first_is : w.first ≡ v.first = ap (λ (x : SeatView P E T). x.first) is in
@@ -177,7 +177,7 @@ module _ {Z P E B T : Type 0} (m : Ghosts Z P E B T) where
         state = ap (λ (x : SeatView P E T). state_seen m x) is
             ∙ state_after-push m v.run.start es e;
         grown = grown_commit v w e es at (ap (λ (x : SeatView P E T). x.seen) is) own;
-        told = ap (λ (x : SeatView P E T). x.told) is ∙ stop
+        heard = ap (λ (x : SeatView P E T). x.heard) is ∙ stop
             ∙ ap (λ l. m.stop l) (sym (ap (λ (x : SeatView P E T). x.seen) is));
       }
 

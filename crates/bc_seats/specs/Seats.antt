@@ -61,7 +61,7 @@ module _ {Z P E B T : Type 0} (m : Ghosts Z P E B T) where
     pub since : Since v (state_seen w)
     pub grown : Grown v w
     -- it forgot no stop that it was told of
-    pub told : w.told ≡ None → v.told ≡ None
+    pub heard : w.heard ≡ None → v.heard ≡ None
 
   -- it committed this event, behind some events of others, and nothing else
   pub record Committed (v : SeatView P E T) (e : E) (w : SeatView P E T) : Type 0 where
@@ -74,7 +74,7 @@ module _ {Z P E B T : Type 0} (m : Ghosts Z P E B T) where
     pub state : state_seen w ≡ m.after before e
     pub grown : Grown v w
     -- it was told of the stop that the events have made then
-    pub told : w.told ≡ m.stop w.seen
+    pub heard : w.heard ≡ m.stop w.seen
 
   -- it holds what it held, and that stands still, but for these parts
   pub record Kept (v w : SeatView P E T) (changed : ℕ → Bool) : Type 0 where

@@ -20,7 +20,7 @@ pub fn take<M: Machine, R: Wait>(rt: &R, parts: &Parts<M>, seat: &mut Seat<M>, p
     ensures seat { IsSeat M.Machine seat.new }
     ensures parts { seat.new.parts ≡ part ∷ seat.old.parts }
     ensures waited { Waited M.Machine seat.old seat.new }
-    ensures told { seat.new.told ≡ seat.old.told }
+    ensures heard { seat.new.heard ≡ seat.old.heard }
     ensures value { M.stands part result (state_seen M.Machine seat.new) }
 {
     parts.take(rt, seat, part)
@@ -37,7 +37,7 @@ pub fn give<M: Machine>(parts: &Parts<M>, seat: &mut Seat<M>, part: u32, value: 
     ensures parts { seat.new.parts ≡ without part seat.old.parts }
     ensures waited { Waited M.Machine seat.old seat.new }
     ensures seen { seat.new.seen ≡ seat.old.seen }
-    ensures told { seat.new.told ≡ seat.old.told }
+    ensures heard { seat.new.heard ≡ seat.old.heard }
 {
     parts.give(seat, part, value);
 }
@@ -66,7 +66,7 @@ pub fn promise<M: Machine, R: Wait>(
     ensures kept { Kept M.Machine seat.old seat.new (λ _. false) }
     ensures went { Went M.Machine seat.old [] seat.new }
     ensures since { Since M.Machine seat.old (state_seen M.Machine seat.new) }
-    ensures told { seat.new.told ≡ seat.old.told }
+    ensures heard { seat.new.heard ≡ seat.old.heard }
     ensures ok { OnOk result (seat.new.promises ≡ seat.old.promises + events) }
     ensures err { OnErr result (seat.new.promises ≡ seat.old.promises) }
 {

@@ -8,7 +8,7 @@ use Rattle.bc_model.specs.declared.history.Entry.TheVariants as entry
 use Rattle.bc_disk.specs.Disk.{DiskFacts}
 use Rattle.bc_disk.specs.declared.disk.Device.{Device}
 use Rattle.bc_disk.specs.declared.disk.Device.TheVariants as device
-use Rattle.bc_events.specs.declared.event.Line.{Line}
+use Rattle.bc_events.specs.declared.event.LineNumber.{LineNumber}
 use Rattle.bc_events.specs.declared.event.Deed.{Deed}
 use Rattle.bc_hand.specs.Seats.{IsCoreSeat}
 use Rattle.bc_hand.proofs.Knowing.{View}
@@ -32,13 +32,13 @@ use Rattle.bc_serve.proofs.Stopping.{claimed_only, failed_entries, flush_stop, r
 
 -- ---- writing
 
-writes_entries : (of : Line) (first : ℕ) (values : List Value) (ps : List Piece)
+writes_entries : (of : LineNumber) (first : ℕ) (values : List Value) (ps : List Piece)
     → entries_by (writes_deeds false of first values ps) ≡ writes_of of.worker of.line first values ps
 writes_entries of first values [] = refl
 writes_entries of first values (p ∷ ps) = ap (λ (es : List Entry).
     entry.Write of.worker of.line p.first (piece_of first values p) ∷ es) (writes_entries of first values ps)
 
-forced_entries : (of : Line) (stamp first count : ℕ) (ps : List Piece) → AllOwn stamp first count ps
+forced_entries : (of : LineNumber) (stamp first count : ℕ) (ps : List Piece) → AllOwn stamp first count ps
     → entries_by (writes_deeds true of first (patterns stamp first count) ps)
     ≡ forced_writes of.worker of.line stamp ps
 forced_entries of stamp first count [] own = refl
@@ -53,13 +53,13 @@ forced_entries of stamp first count (p ∷ ps) own =
     ∙ ap (λ (es : List Entry). entry.Write of.worker of.line p.first (patterns stamp p.first p.count)
     ∷ entry.Durable of.worker of.line p.first p.count ∷ es) (forced_entries of stamp first count ps own.1)
 
-writes_failed : (force : Bool) (of : Line) (first : ℕ) (values : List Value) (ps : List Piece)
+writes_failed : (force : Bool) (of : LineNumber) (first : ℕ) (values : List Value) (ps : List Piece)
     → has_failed (writes_deeds force of first values ps) ≡ false
 writes_failed force of first values [] = refl
 writes_failed false of first values (p ∷ ps) = writes_failed false of first values ps
 writes_failed true of first values (p ∷ ps) = writes_failed true of first values ps
 
-writes_calls : (force : Bool) (of : Line) (first : ℕ) (values : List Value) (ps : List Piece)
+writes_calls : (force : Bool) (of : LineNumber) (first : ℕ) (values : List Value) (ps : List Piece)
     → CallsBacking (writes_deeds force of first values ps)
 writes_calls force of first values [] = tt
 writes_calls false of first values (p ∷ ps) = (tt, (refl, (tt, writes_calls false of first values ps)))
@@ -71,7 +71,7 @@ abbrev stamped : Bool → ℕ → ℕ → ℕ → List Piece → List Entry
 stamped false worker line stamp ps = writes worker line stamp ps
 stamped true worker line stamp ps = forced_writes worker line stamp ps
 
-stamped_entries : (force : Bool) (of : Line) (stamp first count : ℕ) (values : List Value) (ps : List Piece)
+stamped_entries : (force : Bool) (of : LineNumber) (stamp first count : ℕ) (values : List Value) (ps : List Piece)
     → values ≡ patterns stamp first count → AllOwn stamp first count ps
     → entries_by (writes_deeds force of first values ps) ≡ stamped force of.worker of.line stamp ps
 stamped_entries false of stamp first count values ps is own =
@@ -94,7 +94,7 @@ may_try device.Cache is stamp p tried h = absurd (cc)
 may_try device.Backing is stamp p tried h = inr h
 
 -- a refused line of writing: what its last piece left
-last_written : (error : RequestError) (force : Bool) (of : Line) (size first count stamp : ℕ)
+last_written : (error : RequestError) (force : Bool) (of : LineNumber) (size first count stamp : ℕ)
     (served : List Piece) (refused : Piece) (values : List Value) (last : List Deed) (entries : List Entry)
     → values ≡ patterns stamp refused.first refused.count → first + count ≤ size
     → ServedUpTo first count served refused → WriteStop error force of refused.first values last
@@ -200,12 +200,12 @@ last_written request.Memory true of size first count stamp served refused values
 
 -- ---- reading
 
-pub record AreAnswered (of : Line) (ps : List Piece) (values : List Value) (ds : List Deed) : Type 0 where
+pub record AreAnswered (of : LineNumber) (ps : List Piece) (values : List Value) (ds : List Deed) : Type 0 where
   pub reads : AreReads of.worker of.line ps values (entries_by ds)
   pub failed : has_failed ds ≡ false
   pub calls : CallsBacking ds
 
-pub all_read : (of : Line) (ps : List Piece) (values : List Value) (ds : List Deed)
+pub all_read : (of : LineNumber) (ps : List Piece) (values : List Value) (ds : List Deed)
     → AreReadDeeds of ps values ds → AreAnswered of ps values ds
 all_read of [] values ds h = record {
   reads = (h.0, ap entries_by h.1);
@@ -414,7 +414,7 @@ module _ {C B : Type 0} (cache_facts : C → DiskFacts) (backing_facts : B → D
   begun_serves (request.Halted d) worker line entries other h = h
   begun_serves request.Memory worker line entries other h = h
 
-  never_outside : (error : RequestError) (of : Line) (ds : List Deed)
+  never_outside : (error : RequestError) (of : LineNumber) (ds : List Deed)
       → Rattle.bc_job.specs.Deeds.FlushStop error of ds → error ≡ request.OutOfRange → ⊥
   never_outside error of ds stop is = subst (λ (e : RequestError). Rattle.bc_job.specs.Deeds.FlushStop e of ds) is stop
 

@@ -11,22 +11,22 @@ use Rattle.bc_hand.specs.Seats.{by}
 use Rattle.bc_deed.specs.Begun.{opening_parts}
 use Rattle.bc_script.specs.declared.answer.Answer.{Answer}
 use Rattle.bc_script.specs.declared.line.Line.{Line}
-use Rattle.bc_serve.specs.Run.{AreServedBy, HasRun, own}
+use Rattle.bc_serve.specs.Run.{AreServedBy, HasRun, events_by}
 use Rattle.bc_serve.specs.declared.closing.Closing.{Closing}
 use Rattle.bc_serve.proofs.Failing.{AreOfBacking, calls_join, calls_map, failed_in, rises}
 use Rattle.bc_serve.proofs.Whole.{closed_entries}
 
 -- the lines call the backing device alone
 pub calls_lines : (size i number : ℕ) (ls : List Line) (answers : List Answer) (before last : List Event)
-    → AreServedBy size i number ls answers before last → AreOfBacking (own i before)
-    → AreOfBacking (own i last)
-calls_lines size i number [] [] before last served of = subst (λ (es : List Event). AreOfBacking (own i es))
+    → AreServedBy size i number ls answers before last → AreOfBacking (events_by i before)
+    → AreOfBacking (events_by i last)
+calls_lines size i number [] [] before last served of = subst (λ (es : List Event). AreOfBacking (events_by i es))
     (sym served) of
 calls_lines size i number [] (b ∷ others) before last served of = absurd served
 calls_lines size i number (x ∷ ls) [] before last served of = absurd served
 calls_lines size i number (x ∷ ls) (b ∷ others) before last served of =
     calls_lines size i (suc number) ls others (before ++ served.0) last served.3
-    (subst AreOfBacking (sym served.2.its) (calls_join (own i before) (map (by i) served.1) of
+    (subst AreOfBacking (sym served.2.its) (calls_join (events_by i before) (map (by i) served.1) of
     (calls_map i served.1 served.2.calls)))
 
 module _ {C B : Type 0} (cache_facts : C → DiskFacts) (backing_facts : B → DiskFacts)

@@ -12,7 +12,7 @@ use Rattle.bc_events.specs.declared.event.Event.{Event}
 use Rattle.bc_machine.specs.World.{Side, World, after, called}
 use Rattle.bc_hand.specs.Seats.{by}
 use Rattle.bc_serve.specs.Causes.{CallsBacking, IsOfBacking, has_failed, is_failed}
-use Rattle.bc_serve.specs.Run.{own}
+use Rattle.bc_serve.specs.Run.{events_by}
 
 -- ---- lists of events
 
@@ -63,13 +63,13 @@ pub failed_right : (xs ys : List Event) → failed_in ys ≡ true → failed_in 
 failed_right [] ys is = is
 failed_right (x ∷ xs) ys is = or_right (is_failed (call_by x.deed)) (failed_in (xs ++ ys)) (failed_right xs ys is)
 
--- what a seat's own events tell, all tell
-pub failed_own : (i : ℕ) (es : List Event) → failed_in (own i es) ≡ true → failed_in es ≡ true
+-- what a seat's events_by events tell, all tell
+pub failed_own : (i : ℕ) (es : List Event) → failed_in (events_by i es) ≡ true → failed_in es ≡ true
 failed_own i [] is = is
 failed_own i (e ∷ es) is = by_test e.seat i
-    (λ b. failed_in (if b then e ∷ own i es else own i es) ≡ true
+    (λ b. failed_in (if b then e ∷ events_by i es else events_by i es) ≡ true
     → (is_failed (call_by e.deed) || failed_in es) ≡ true)
-    (λ same here. or_mono (is_failed (call_by e.deed)) (failed_in (own i es)) (failed_in es) (failed_own i es) here)
+    (λ same here. or_mono (is_failed (call_by e.deed)) (failed_in (events_by i es)) (failed_in es) (failed_own i es) here)
     (λ other here. or_right (is_failed (call_by e.deed)) (failed_in es) (failed_own i es here)) is
 
 -- ---- halts

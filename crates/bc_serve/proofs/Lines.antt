@@ -15,7 +15,7 @@ use Rattle.bc_script.specs.declared.answer.Answer.{Answer}
 use Rattle.bc_script.specs.declared.line.Line.{Line}
 use Rattle.bc_script.proofs.Marks.{is_served, one_more}
 use Rattle.bc_serve.specs.Causes.{HasAnswered, entries_by}
-use Rattle.bc_serve.specs.Run.{AreServedBy, HaveAnswered, IsServedBy, own}
+use Rattle.bc_serve.specs.Run.{AreServedBy, HaveAnswered, IsServedBy, events_by}
 use Rattle.bc_serve.proofs.Lists.{calls_both, entries_both}
 
 one_line_more : (size i number at : ℕ) (ls : List Line) (answers : List Answer) (before mid more : List Event)
@@ -68,8 +68,8 @@ module _ {C B : Type 0} (cache_facts : C → DiskFacts) (backing_facts : B → D
   line_by size number l a u v w ds before h =
       let first : v.first ≡ u.first = before.same.first in
       let last : w.first ≡ u.first = h.done.same.first ∙ first in record {
-        its = ap (λ n. own n w.seen) (sym last) ∙ h.done.own
-            ∙ ap (λ n. own n v.seen ++ map (by n) h.deeds) first;
+        its = ap (λ n. events_by n w.seen) (sym last) ∙ h.done.own
+            ∙ ap (λ n. events_by n v.seen ++ map (by n) h.deeds) first;
         serves = h.serves;
         caused = h.caused;
         calls = h.calls;

@@ -19,7 +19,7 @@ use Rattle.bc_hand.proofs.Knowing.{View, m}
 use Rattle.bc_deed.specs.Begun.{HasBegun, HasJoined}
 use Rattle.bc_deed.specs.Flushed.{HasDone}
 use Rattle.bc_plain_laws.specs.Laws.{EndsFirmly, Promises}
-use Rattle.bc_plain_laws.specs.Promises.{IsStable, IsUntouched, Survives}
+use Rattle.bc_plain_laws.specs.Promises.{LeavesLastWrites, IsUntouched, Survives}
 use Rattle.bc_plain_laws.proofs.Promising.{law_promises}
 use Rattle.bc_script.specs.Served.{Served}
 use Rattle.bc_script.specs.declared.answer.Answer.{Answer}
@@ -133,9 +133,9 @@ module _ {C B : Type 0} (cache_facts : C → DiskFacts) (backing_facts : B → D
       }
 
   pub stable : how ≡ closing.Done → IfTold (backing_facts backing.disk).holds
-      (λ held. IsStable backing.offset held pass.entries.items (backing_facts left.disk))
+      (λ held. LeavesLastWrites backing.offset held pass.entries.items (backing_facts left.disk))
   stable is = where_told (backing_facts backing.disk).holds _ _ (λ held h.
-      subst (λ (es : List Entry). IsStable backing.offset held es (backing_facts left.disk)) (sym c.history)
+      subst (λ (es : List Entry). LeavesLastWrites backing.offset held es (backing_facts left.disk)) (sym c.history)
       (h.stable (firm is))) promised
 
   pub outside : IfTold (backing_facts backing.disk).holds

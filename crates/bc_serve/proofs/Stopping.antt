@@ -4,7 +4,7 @@ use Rattle.bc_model.specs.Sector.{Value}
 use Rattle.bc_model.specs.declared.history.Entry.TheVariants as entry
 use Rattle.bc_disk.specs.declared.disk.Device.TheVariants.{Backing}
 use Rattle.bc_flight.specs.declared.claim.Share.TheVariants.{Shared, Exclusive}
-use Rattle.bc_events.specs.declared.event.Line.{Line}
+use Rattle.bc_events.specs.declared.event.LineNumber.{LineNumber}
 use Rattle.bc_events.specs.declared.event.Failure.TheVariants as failure
 use Rattle.bc_events.specs.declared.event.Deed.{Deed}
 use Rattle.bc_events.specs.declared.event.Deed.TheVariants as deed
@@ -71,26 +71,26 @@ claimed_only first count ds (inr is) = quiet_as ds (under first count Exclusive 
     (record { entries = refl; failed = refl; calls = (tt, (tt, tt)) })
 
 -- the write stands, and its acknowledgement doesn't
-pub record IsOnlyWrite (of : Line) (first : ℕ) (values : List Value) (ds : List Deed) : Type 0 where
+pub record IsOnlyWrite (of : LineNumber) (first : ℕ) (values : List Value) (ds : List Deed) : Type 0 where
   pub entries : entries_by ds ≡ entry.Write of.worker of.line first values ∷ []
   pub failed : has_failed ds ≡ false
   pub calls : CallsBacking ds
 
-pub written_only : (of : Line) (first : ℕ) (values : List Value) (ds : List Deed)
+pub written_only : (of : LineNumber) (first : ℕ) (values : List Value) (ds : List Deed)
     → HasWrittenOnly of first values ds → IsOnlyWrite of first values ds
 written_only of first values ds (inl is) = subst (IsOnlyWrite of first values) (sym is)
     (record { entries = refl; failed = refl; calls = (tt, (refl, (tt, tt))) })
 written_only of first values ds (inr is) = subst (IsOnlyWrite of first values) (sym is)
     (record { entries = refl; failed = refl; calls = (tt, (refl, (refl, (tt, tt)))) })
 
-pub failed_entries : (force : Bool) (of : Line) (first : ℕ) (values : List Value) (ds : List Deed)
+pub failed_entries : (force : Bool) (of : LineNumber) (first : ℕ) (values : List Value) (ds : List Deed)
     → HasFailedWrite force of first values ds
     → (entries_by ds ≡ entry.Tried first values ∷ [])
     ⊎ ((force ≡ true) × (entries_by ds ≡ entry.Write of.worker of.line first values ∷ []))
 failed_entries force of first values ds (inl is) = inl (ap entries_by is)
 failed_entries force of first values ds (inr (on, is)) = inr (on, ap entries_by is)
 
-failed_write : (device : _) (force : Bool) (of : Line) (first : ℕ) (values : List Value) (seen : List Event)
+failed_write : (device : _) (force : Bool) (of : LineNumber) (first : ℕ) (values : List Value) (seen : List Event)
     (ds : List Deed) → device ≡ Backing → HasFailedWrite force of first values ds
     → IsStop (request.Fault device) seen ds
 failed_write device force of first values seen ds back (inl is) = stop_as (request.Fault device) seen ds
@@ -101,7 +101,7 @@ failed_write device force of first values seen ds back (inr (on, is)) = stop_as 
     ∷ deed.DeviceFault (failure.Barrier Backing) ∷ [])) is
     (record { caused = (back, refl); calls = (tt, (refl, (refl, (tt, tt)))) })
 
-pub write_stop : (error : RequestError) (force : Bool) (of : Line) (first : ℕ) (values : List Value)
+pub write_stop : (error : RequestError) (force : Bool) (of : LineNumber) (first : ℕ) (values : List Value)
     (seen : List Event) (ds : List Deed) → WriteStop error force of first values ds → IsHaltOf error seen
     → IsStop error seen ds
 write_stop request.OutOfRange force of first values seen ds stop halted = absurd stop
@@ -120,15 +120,15 @@ write_stop request.Memory force of first values seen ds stop halted =
 -- ---- flushes
 
 -- at most its beginning stands
-pub record IsBegun (of : Line) (error : RequestError) (seen : List Event) (ds : List Deed) : Type 0 where
+pub record IsBegun (of : LineNumber) (error : RequestError) (seen : List Event) (ds : List Deed) : Type 0 where
   pub entries : (entries_by ds ≡ []) ⊎ (entries_by ds ≡ entry.FlushFrom of.worker of.line ∷ [])
   pub stop : IsStop error seen ds
 
-begun_as : (of : Line) (error : RequestError) (seen : List Event) (ds es : List Deed) → ds ≡ es
+begun_as : (of : LineNumber) (error : RequestError) (seen : List Event) (ds es : List Deed) → ds ≡ es
     → IsBegun of error seen es → IsBegun of error seen ds
 begun_as of error seen ds es is begun = subst (IsBegun of error seen) (sym is) begun
 
-pub flush_stop : (error : RequestError) (of : Line) (seen : List Event) (ds : List Deed)
+pub flush_stop : (error : RequestError) (of : LineNumber) (seen : List Event) (ds : List Deed)
     → FlushStop error of ds → IsHaltOf error seen → IsBegun of error seen ds
 flush_stop request.OutOfRange of seen ds stop halted = absurd stop
 flush_stop (request.Fault device) of seen ds stop halted = begun_as of (request.Fault device) seen ds

@@ -21,14 +21,14 @@ use Rattle.bc_serve.specs.Closed.{ClosedBy}
 use Rattle.bc_serve.specs.declared.closing.Closing.{Closing}
 
 -- the events of the seat i
-abbrev pub own : ℕ → List Event → List Event
-own i es = filter (λ e. e.seat == i) es
+abbrev pub events_by : ℕ → List Event → List Event
+events_by i es = filter (λ e. e.seat == i) es
 
 -- The seat i served the line of this number with these deeds, which are all of its own between two
 -- points of the run; by the second it had answered.
 pub record IsServedBy (size i number : ℕ) (l : Line) (answer : Answer) (before seen : List Event)
     (ds : List Deed) : Type 0 where
-  pub its : own i seen ≡ own i before ++ map (by i) ds
+  pub its : events_by i seen ≡ events_by i before ++ map (by i) ds
   pub serves : ServesLine size number l answer (entries_by ds)
   pub caused : IsCaused answer seen ds
   pub calls : CallsBacking ds
@@ -67,7 +67,7 @@ module _ {C B : Type 0} (cache_facts : C → DiskFacts) (backing_facts : B → D
         (state_after (core cache_facts backing_facts) (opening_parts flight backing) events)
     pub served : Served backing.size lines answers pass.entries.items
     pub seen : List Event
-    pub alone : seen ≡ own 16 seen
+    pub alone : seen ≡ events_by 16 seen
     pub by_line : AreServedBy backing.size 16 1 lines answers [] seen
     pub last : List Deed
     pub closing : events ≡ seen ++ map (by 0) last

@@ -42,7 +42,7 @@ pub fn close<C: Disk + Drop, B: Disk + Drop, R: Wait>(
         return Closing::Memory;
     };
     match backing_barrier(rt, parts, seat, &mut hand) {
-        Ok(()) => match seat.told() {
+        Ok(()) => match seat.heard() {
             None => Closing::Done,
             Some(device) => Closing::Halted(device),
         },

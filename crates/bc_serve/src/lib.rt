@@ -3,5 +3,5 @@
 #![tactic(auto)]
 
 pub mod closing;
-pub mod running;
-pub mod serving;
+pub mod in_order;
+pub mod whole_run;

@@ -28,7 +28,7 @@ use Rattle.bc_spine.specs.declared.leaf.LeafRange.{LeafRange}
 use Rattle.bc_walk.proofs.Nodes.{told_so}
 use Rattle.bc_walk.specs.Seen.{IsNodeIn}
 use Rattle.bc_walk.specs.Walk.{IsNodeFault}
-use Rattle.bc_slots.specs.Filling.{HasCome, IsTaken}
+use Rattle.bc_slots.specs.Filling.{HasCome, TakesLeaf}
 use Rattle.bc_slots.specs.Parts.{HasNodeKey, IsLeafCause, IsPartsCause}
 use Rattle.bc_slots.specs.Places.{has_keys}
 
@@ -115,7 +115,7 @@ reloaded_back g range more d e leaf kept so = record {
   added = so.added;
 }
 
-pub taken_back : (g : Geometry) (range : LeafRange) (keys : List Numbered) (d e : DiskFacts) (old new : NodeCache) (filled filled' : ℕ) → IsKept d e → IsTaken g range keys e old new filled filled' → IsTaken g range keys d old new filled filled'
+pub taken_back : (g : Geometry) (range : LeafRange) (keys : List Numbered) (d e : DiskFacts) (old new : NodeCache) (filled filled' : ℕ) → IsKept d e → TakesLeaf g range keys e old new filled filled' → TakesLeaf g range keys d old new filled filled'
 taken_back g range [] d e old new filled filled' kept took = took
 taken_back g range (key ∷ keys) d e old new filled filled' kept took = record {
   leaf = took.leaf;
@@ -126,11 +126,11 @@ taken_back g range (key ∷ keys) d e old new filled filled' kept took = record 
 
 -- ---- one leaf
 
-pub taken_nothing : (g : Geometry) (range : LeafRange) (keys : List Numbered) (d : DiskFacts) (part : NodeCache) (filled : ℕ) → (length keys == 0) ≡ true → IsTaken g range keys d part part filled filled
+pub taken_nothing : (g : Geometry) (range : LeafRange) (keys : List Numbered) (d : DiskFacts) (part : NodeCache) (filled : ℕ) → (length keys == 0) ≡ true → TakesLeaf g range keys d part part filled filled
 taken_nothing g range [] d part filled none = (refl, refl)
 taken_nothing g range (key ∷ keys) d part filled none = absurd (grind arith)
 
-pub taken_one : (g : Geometry) (range : LeafRange) (keys : List Numbered) (d : DiskFacts) (old new : NodeCache) (filled filled' : ℕ) → (length keys == 0) ≡ false → HasCome g range keys d old new filled filled' → IsTaken g range keys d old new filled filled'
+pub taken_one : (g : Geometry) (range : LeafRange) (keys : List Numbered) (d : DiskFacts) (old new : NodeCache) (filled filled' : ℕ) → (length keys == 0) ≡ false → HasCome g range keys d old new filled filled' → TakesLeaf g range keys d old new filled filled'
 taken_one g range [] d old new filled filled' some come = absurd (cc)
 taken_one g range (key ∷ keys) d old new filled filled' some come = come
 

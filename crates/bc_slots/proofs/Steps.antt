@@ -10,8 +10,8 @@ use Rattle.bc_disk.specs.declared.geometry.Geometry.{Geometry}
 use Rattle.bc_pending.specs.declared.numbered.Numbered.{Numbered}
 use Rattle.bc_reload.specs.Reload.{IsReloaded}
 use Rattle.bc_spine.specs.declared.leaf.LeafRange.{LeafRange}
-use Rattle.bc_slots.specs.Filling.{HasCome, IsEmpty, IsTaken}
-use Rattle.bc_slots.specs.Parts.{AreFilled, AreParts, IsOpened, IsPart}
+use Rattle.bc_slots.specs.Filling.{HasCome, IsEmpty, TakesLeaf}
+use Rattle.bc_slots.specs.Parts.{AreFilled, AreParts, IsOpened, IsLeafPart}
 use Rattle.bc_slots.specs.Places.{has_keys, is_in, numbers_in}
 use Rattle.bc_slots.proofs.Filled.{filled_at, filled_put, filled_rest}
 use Rattle.bc_slots.proofs.Passed.{passed, passed_all, passed_below, passed_each, passed_few, passed_no, passed_yes}
@@ -127,10 +127,10 @@ module _ (g : Geometry) (leaves : List LeafRange) (pending : List (List Numbered
       }
 
   taken : (part i : ℕ) (old new : NodeCache) (filled filled' : ℕ) (range : LeafRange) → i < length pending → i % count ≡ part → To part i old filled
-      → slice_get leaves i ≡ Some range → range.number ≡ i → IsTaken g range (get_or pending i []) d old new filled filled' → To part (i + 1) new filled'
+      → slice_get leaves i ≡ Some range → range.number ≡ i → TakesLeaf g range (get_or pending i []) d old new filled filled' → To part (i + 1) new filled'
   taken part i old new filled filled' range low same so there number took = go (get_or pending i []) refl took
     where
-      go : (keys : List Numbered) → get_or pending i [] ≡ keys → IsTaken g range keys d old new filled filled' → To part (i + 1) new filled'
+      go : (keys : List Numbered) → get_or pending i [] ≡ keys → TakesLeaf g range keys d old new filled filled' → To part (i + 1) new filled'
       go [] is took =
           subst (λ (c : NodeCache). To part (i + 1) c filled') (sym took.0)
           (subst (λ n. To part (i + 1) old n) (sym took.1) (stays part i old filled low (keyless pending count part i (ap has_keys is)) so))
@@ -138,7 +138,7 @@ module _ (g : Geometry) (leaves : List LeafRange) (pending : List (List Numbered
           comes part i old new filled filled' range low (in_part pending count part i (ap has_keys is) same) so there number
           (subst (λ (keys : List Numbered). HasCome g range keys d old new filled filled') (sym is) took)
 
-  ends : (part i : ℕ) (cache : NodeCache) (filled : ℕ) → length pending ≤ i → To part i cache filled → IsPart g leaves pending count d part cache
+  ends : (part i : ℕ) (cache : NodeCache) (filled : ℕ) → length pending ≤ i → To part i cache filled → IsLeafPart g leaves pending count d part cache
   ends part i cache filled all so =
       let whole : before part i ≡ numbers_in pending count part = passed_all (is_in pending count part) (length pending) i all in
       let enough = so.enough in
@@ -179,7 +179,7 @@ module _ (g : Geometry) (leaves : List LeafRange) (pending : List (List Numbered
       (subst (λ k. IsFilledTo g leaves pending count d at i (get_or parts at old) k) (sym n_is) (so.part at old inside))
 
   pub all_next : (i at : ℕ) (parts : List NodeCache) (filled : List ℕ) (old new : NodeCache) (n n' : ℕ) (range : LeafRange) → i < length pending → i % count ≡ at → at < count → old ≡ get_or parts at old → n ≡ get_or filled at 0
-      → slice_get leaves i ≡ Some range → range.number ≡ i → IsTaken g range (get_or pending i []) d old new n n' → AreFilledTo g leaves pending count d i parts filled
+      → slice_get leaves i ≡ Some range → range.number ≡ i → TakesLeaf g range (get_or pending i []) d old new n n' → AreFilledTo g leaves pending count d i parts filled
       → AreFilledTo g leaves pending count d (i + 1) (set parts at new) (set filled at n')
   all_next i at parts filled old new n n' range low same inside old_is n_is there number took so = record {
     many = length-set parts at new ∙ so.many;

@@ -41,9 +41,9 @@ pub record HasCome (g : Geometry) (range : LeafRange) (keys : List Numbered) (d 
   pub more : filled' ≡ filled + 1
 
 -- a leaf without keys isn't read
-abbrev pub IsTaken : Geometry → LeafRange → List Numbered → DiskFacts → NodeCache → NodeCache → ℕ → ℕ → Type 0
-IsTaken g range [] d old new filled filled' = (new ≡ old) × (filled' ≡ filled)
-IsTaken g range (key ∷ keys) d old new filled filled' =
+abbrev pub TakesLeaf : Geometry → LeafRange → List Numbered → DiskFacts → NodeCache → NodeCache → ℕ → ℕ → Type 0
+TakesLeaf g range [] d old new filled filled' = (new ≡ old) × (filled' ≡ filled)
+TakesLeaf g range (key ∷ keys) d old new filled filled' =
     HasCome g range (key ∷ keys) d old new filled filled'
 
 -- how many calls were made then: one more where the leaf was read

@@ -7,7 +7,7 @@ use Rattle.bc_disk.specs.declared.geometry.Geometry.{Geometry}
 use Rattle.bc_pending.specs.declared.numbered.Numbered.{Numbered}
 use Rattle.bc_pending.specs.Pieces.{ArePending}
 use Rattle.bc_spine.specs.declared.leaf.LeafRange.{LeafRange}
-use Rattle.bc_slots.specs.Parts.{AreOfLeaves, IsOpened, IsPart}
+use Rattle.bc_slots.specs.Parts.{AreOfLeaves, IsOpened, IsLeafPart}
 use Rattle.bc_slots.specs.Places.{has_keys, is_in, numbers_in}
 
 -- one slot of the part has the leaf, and no other
@@ -24,7 +24,7 @@ abbrev pub EachHasOne : DiskFacts → Type 0
 EachHasOne d =
     (g : Geometry) (leaves : List LeafRange) (pending : List (List Numbered)) (count : ℕ)
     (part number : ℕ) (cache : NodeCache)
-    → IsPart g leaves pending count d part cache → number < length pending
+    → IsLeafPart g leaves pending count d part cache → number < length pending
     → has_keys (slice_index_or pending number []) ≡ true → number % count ≡ part
     → HasOne g leaves pending d number cache
 
@@ -33,7 +33,7 @@ abbrev pub NoOther : DiskFacts → Type 0
 NoOther d =
     (g : Geometry) (leaves : List LeafRange) (pending : List (List Numbered)) (count : ℕ)
     (part slot : ℕ) (cached : Cached) (cache : NodeCache)
-    → IsPart g leaves pending count d part cache
+    → IsLeafPart g leaves pending count d part cache
     → slice_get cache.slots slot ≡ Some (Some cached)
     → (is_in pending count part cached.number ≡ true)
     × IsOpened g leaves pending d cached.number cached
@@ -43,7 +43,7 @@ abbrev pub FourMore : DiskFacts → Type 0
 FourMore d =
     (g : Geometry) (leaves : List LeafRange) (pending : List (List Numbered)) (count : ℕ)
     (part : ℕ) (cache : NodeCache)
-    → IsPart g leaves pending count d part cache
+    → IsLeafPart g leaves pending count d part cache
     → length cache.slots ≡ length (numbers_in pending count part) + 4
 
 -- those behind the leaves are empty, so that another leaf may come
@@ -51,7 +51,7 @@ abbrev pub LastFourEmpty : DiskFacts → Type 0
 LastFourEmpty d =
     (g : Geometry) (leaves : List LeafRange) (pending : List (List Numbered)) (count : ℕ)
     (part slot : ℕ) (cache : NodeCache)
-    → IsPart g leaves pending count d part cache
+    → IsLeafPart g leaves pending count d part cache
     → length (numbers_in pending count part) ≤ slot → slot < length cache.slots
     → slice_get cache.slots slot ≡ Some None
 
@@ -59,14 +59,14 @@ abbrev pub SomeCanGo : DiskFacts → Type 0
 SomeCanGo d =
     (g : Geometry) (leaves : List LeafRange) (pending : List (List Numbered)) (count : ℕ)
     (part : ℕ) (cache : NodeCache)
-    → IsPart g leaves pending count d part cache → ¬ (NoneCanGo cache.slots)
+    → IsLeafPart g leaves pending count d part cache → ¬ (NoneCanGo cache.slots)
 
 -- where the journal has no keys, each part has four empty slots
 abbrev pub NoneOpened : DiskFacts → Type 0
 NoneOpened d =
     (g : Geometry) (leaves : List LeafRange) (pending : List (List Numbered)) (count : ℕ)
     (part : ℕ) (cache : NodeCache)
-    → IsPart g leaves pending count d part cache → All (λ keys. keys ≡ []) pending
+    → IsLeafPart g leaves pending count d part cache → All (λ keys. keys ≡ []) pending
     → cache.slots ≡ replicate 4 None
 
 -- the keys that leaves get of the journal lie in their ranges

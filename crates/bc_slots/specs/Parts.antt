@@ -40,7 +40,7 @@ AreFilled P (number ∷ numbers) rest (Some cached ∷ slots) =
     P number cached × AreFilled P numbers rest slots
 
 -- a part, of so many: its leaves of which the journal has keys, in their order, and four empty slots
-pub record IsPart (g : Geometry) (leaves : List LeafRange) (pending : List (List Numbered))
+pub record IsLeafPart (g : Geometry) (leaves : List LeafRange) (pending : List (List Numbered))
     (count : ℕ) (d : DiskFacts) (part : ℕ) (cache : NodeCache) : Type 0 where
   pub geometry : cache.geometry ≡ g
   pub slots : AreFilled (IsOpened g leaves pending d) (numbers_in pending count part) 4 cache.slots
@@ -50,7 +50,7 @@ pub record AreParts (g : Geometry) (leaves : List LeafRange) (pending : List (Li
     (count : ℕ) (d : DiskFacts) (parts : List NodeCache) : Type 0 where
   pub each : length parts ≡ count
   pub part : (p : ℕ) (cache : NodeCache) → p < count
-      → IsPart g leaves pending count d p (slice_index_or parts p cache)
+      → IsLeafPart g leaves pending count d p (slice_index_or parts p cache)
 
 -- some key that names the leaf is one of a node
 abbrev pub HasNodeKey : Geometry → LeafRange → Type 0

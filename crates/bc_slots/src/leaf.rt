@@ -6,7 +6,7 @@ ghost use Rattle.bc_node.specs.Loading.{good};
 ghost use Rattle.bc_regrow.specs.Held.{open_node};
 ghost use Rattle.bc_reload.specs.Reload.{FitsRange, IsReloaded};
 ghost use Rattle.bc_replay.specs.Causes.{RisesWith};
-ghost use Rattle.bc_slots.specs.Filling.{IsTaken, calls_with};
+ghost use Rattle.bc_slots.specs.Filling.{TakesLeaf, calls_with};
 ghost use Rattle.bc_slots.specs.Parts.{IsLeafCause};
 ghost use Rattle.bc_slots.specs.Places.{has_keys};
 
@@ -74,7 +74,7 @@ pub fn take_leaf<C: Disk>(
     requires few { filled.old + 1 < 2 ^ 32 }
     requires empty { slice_get part.old.slots filled.old ≡ Some None }
     requires new { Misses part.old.slots range.now.number }
-    ensures taken { IfOk result (λ _. IsTaken g.now range.now keys.now (C.facts cache.old)
+    ensures taken { IfOk result (λ _. TakesLeaf g.now range.now keys.now (C.facts cache.old)
         part.old part.new filled.old filled.new) }
     ensures refused { IfErr result (IsLeafCause g.now range.now (C.facts cache.old)) }
     ensures keys { IfErr result (λ _. has_keys keys.now ≡ true) }

@@ -7,7 +7,7 @@ use Rattle.bc_image.specs.Sound.{IsSoundButForItsNumber}
 use Rattle.bc_facts.specs.Torn.{NoTornRecord}
 use Rattle.bc_events.specs.Run.{Opening, IsRun, machine_events, run, start}
 use Rattle.bc_events.specs.declared.event.Event.{Event}
-use Rattle.bc_opened.specs.Opening.{IsOpeningOf}
+use Rattle.bc_opened.specs.Opening.{IsSoundOpeningOf}
 use Rattle.bc_ranges.specs.Made.{AreWellMade}
 use Rattle.bc_ranges.specs.Laws.{frame_of}
 use Rattle.bc_sound.specs.Laws.{IsLeftOf, IsSoundAgain}
@@ -16,7 +16,7 @@ use Rattle.bc_sound.specs.Laws.{IsLeftOf, IsSoundAgain}
 -- matched by chance.
 pub record AreEventsOf (p : Pair) (v : View) (w : Opening) (x : parts.State) (next_seq : ℕ)
     (es : List Event) : Type 0 where
-  pub opening : IsOpeningOf p v w.machine x
+  pub opening : IsSoundOpeningOf p v w.machine x
   pub course : IsRun w (start w x next_seq) es
   pub made : AreWellMade (frame_of p v) w.machine (start w x next_seq).machine
       (machine_events w (start w x next_seq) es)

@@ -5,7 +5,7 @@ use Rattle.bc_disk.specs.Disk.{DiskFacts}
 use Rattle.bc_disk.specs.Stream.{StreamFacts, BothToldText}
 use Rattle.bc_disk.specs.declared.disk.Device.{Device}
 use Rattle.bc_disk.specs.declared.disk.Device.TheVariants as device
-use Rattle.bc_script.specs.Trace.{IsCause as IsScriptCause, IsFirstRefused, IsTaken}
+use Rattle.bc_script.specs.Trace.{IsCause as IsScriptCause, IsFirstRefused, TakesAtMost}
 use Rattle.bc_script.specs.declared.script.ScriptError.{ScriptError}
 use Rattle.bc_script.specs.declared.script.TraceError.{TraceError}
 use Rattle.bc_script.specs.declared.script.TraceError.TheVariants as trace
@@ -33,7 +33,7 @@ use Rattle.bc_top.proofs.Settled.{next_risen}
 pub never_refused : (source left : StreamFacts) (e : ScriptError) → SpellsTrace source → IsScriptCause source left (trace.Script e) → ⊥
 never_refused source left e spells cause = by source.text left.text spells.1 cause.0
   where
-    by : (a b : Option (List ℕ)) → a ≡ Some spells.0 → BothToldText (λ text left. IsFirstRefused text e × IsTaken (81 * e.line + 4095) text left) a b → ⊥
+    by : (a b : Option (List ℕ)) → a ≡ Some spells.0 → BothToldText (λ text left. IsFirstRefused text e × TakesAtMost (81 * e.line + 4095) text left) a b → ⊥
     by None b is both = absurd (cc)
     by (Some text) None is both = absurd both
     by (Some text) (Some rest) is both =

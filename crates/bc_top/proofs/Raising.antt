@@ -10,7 +10,7 @@ use Rattle.bc_script.specs.declared.answer.Answer.TheVariants.{Silent, Done, Run
 use Rattle.bc_script.specs.declared.answer.Refusal.TheVariants as refusal
 use Rattle.bc_script.specs.declared.line.Line.{Line}
 use Rattle.bc_serve.specs.Closed.{ClosedBy}
-use Rattle.bc_serve.specs.Run.{AreServedBy, IsServedBy, own}
+use Rattle.bc_serve.specs.Run.{AreServedBy, IsServedBy, events_by}
 use Rattle.bc_serve.specs.declared.closing.Closing.{Closing}
 use Rattle.bc_serve.specs.declared.closing.Closing.TheVariants as closing
 use Rattle.bc_serve.proofs.Failing.{failed_in, failed_left, failed_map, failed_own, failed_right, halt_failed}
@@ -30,7 +30,7 @@ answer_failed size i number l (Refused refusal.JournalEnd) before seen ds served
 answer_failed size i number l (Refused (refusal.Node bucket why)) before seen ds served is = absurd (cc)
 answer_failed size i number l (Refused (refusal.Fault d)) before seen ds served is =
     failed_own i seen (subst (λ (es : List Event). failed_in es ≡ true) (sym served.its)
-    (failed_right (own i before) (map (by i) ds) (failed_map i ds ∙ served.caused.1)))
+    (failed_right (events_by i before) (map (by i) ds) (failed_map i ds ∙ served.caused.1)))
 answer_failed size i number l (Refused (refusal.Halted d)) before seen ds served is =
     halt_failed seen d served.caused.0
 answer_failed size i number l (Refused refusal.Memory) before seen ds served is = absurd (cc)

@@ -8,7 +8,7 @@ use Rattle.bc_output.specs.declared.status.Status.{Status}
 use Rattle.bc_output.specs.declared.status.Status.TheVariants as statuses
 use Rattle.bc_machine.specs.declared.part.BackingPart.{BackingPart}
 use Rattle.bc_model.specs.Sector.{Image}
-use Rattle.bc_plain_laws.specs.Promises.{IsStable, IsUntouched, Survives}
+use Rattle.bc_plain_laws.specs.Promises.{LeavesLastWrites, IsUntouched, Survives}
 use Rattle.bc_script.specs.Trace.{IsTrace, IsWhole}
 use Rattle.bc_script.specs.declared.answer.Answer.{Answer}
 use Rattle.bc_script.specs.declared.line.Line.{Line}
@@ -35,7 +35,7 @@ HasSurvived old new pass = OverHeld old (λ s image.
 -- It shows each sector's last write.
 abbrev pub HasSettled : DiskFacts → DiskFacts → Pass → Type 0
 HasSettled old new pass = OverHeld old (λ s image.
-    IsStable s.data_offset image pass.entries.items new)
+    LeavesLastWrites s.data_offset image pass.entries.items new)
 
 -- Before the data and behind them the device is as it was.
 abbrev pub HasSpared : DiskFacts → DiskFacts → Type 0

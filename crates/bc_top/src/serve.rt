@@ -27,7 +27,7 @@ use bc_output::status::Status;
 use bc_replay::Survey;
 use bc_script::line::Line;
 use bc_script::trace::read_trace;
-use bc_serve::running::run_trace;
+use bc_serve::whole_run::run_trace;
 use bc_super::backing::BackingSuper;
 use bc_worker::gate::NoGate;
 use std::alloc::Global;

@@ -14,7 +14,7 @@ use Rattle.bc_node.specs.declared.error.NodeError.{NodeError}
 use Rattle.bc_set.specs.declared.set.Set.{Set}
 use Rattle.bc_walk.specs.declared.error.WalkError.TheVariants as errors
 use Rattle.bc_walk.specs.declared.visit.Visit.{Visit}
-use Rattle.bc_walk.specs.Walk.{Found, Way, IsTaken, IsMetAgain, IsNew, IsWhole, IsStep, GoesOn, AreSearches, IsSearch, IsIndexSearch, with_node, nothing}
+use Rattle.bc_walk.specs.Walk.{Found, Way, IsVisited, IsMetAgain, IsNew, IsWhole, IsStep, GoesOn, AreSearches, IsSearch, IsIndexSearch, with_node, nothing}
 use Rattle.bc_walk.specs.Walk.IsStep.{barred, again, faulty, met}
 use Rattle.bc_walk.proofs.OneFault.{one_fault, no_fault}
 
@@ -22,7 +22,7 @@ pub one_place : (g : Geometry) (key : Key) (a b : ℕ) → PointsInto g key a �
 one_place g key a b p q = sym p.2 ∙ ap (λ (x : Ptr). bucket_at g x.offset) (some_same p.0 q.0 (sym p.1 ∙ q.1)) ∙ q.2
 
 not_both : (g : Geometry) (seen : List Visit) (key : Key) (bucket : ℕ) → IsMetAgain g seen key → IsNew g seen key bucket → ⊥
-not_both g seen key bucket p q = q.free (subst (λ n. IsTaken g seen n) (one_place g key p.bucket bucket p.place q.place) p.taken)
+not_both g seen key bucket p q = q.free (subst (λ n. IsVisited g seen n) (one_place g key p.bucket bucket p.place q.place) p.taken)
 
 abbrev IsOne : (Found → Way → Type 0) → Type 0
 IsOne goes = (old : Found) (a b : Way) → goes old a → goes old b → a ≡ b

@@ -20,7 +20,7 @@ use Rattle.bc_walk.specs.declared.error.WalkError.TheVariants as errors
 use Rattle.bc_walk.specs.declared.visit.Visit.{Visit}
 use Rattle.bc_walk.specs.declared.visit.Visit.TheVariants as visits
 use Rattle.bc_walk.specs.Tree.{AreMet, AreApart, IsTree, visit_of}
-use Rattle.bc_walk.specs.Walk.{Found, Way, IsTaken, IsNew, IsWhole, IsStep, GoesOn, AreSearches, IsSearch, IsIndexSearch, nothing, with_visit, with_node}
+use Rattle.bc_walk.specs.Walk.{Found, Way, IsVisited, IsNew, IsWhole, IsStep, GoesOn, AreSearches, IsSearch, IsIndexSearch, nothing, with_visit, with_node}
 use Rattle.bc_walk.specs.Walk.IsStep.{barred, again, faulty, met}
 use Rattle.bc_walk.proofs.Flags.{taken_or, taken_before, taken_last}
 use Rattle.bc_walk.proofs.Nodes.{node_in}
@@ -54,10 +54,10 @@ fresh_keys : (g : Geometry) (seen : List Visit) (nodes : List Node) → Fresh g 
 fresh_keys g seen [] p = All-nil (λ n. IsNodeKey g n.key)
 fresh_keys g seen (n ∷ nodes) p = All-cons (λ n. IsNodeKey g n.key) n nodes p.1.1.proper (fresh_keys g (seen ++ visit_of n ∷ []) nodes p.2)
 
-later_apart : (g : Geometry) (m : Node) (seen : List Visit) (nodes : List Node) → ((b : ℕ) → PointsInto g m.key b → IsTaken g seen b) → Fresh g seen nodes → All (AreApart g m) nodes
+later_apart : (g : Geometry) (m : Node) (seen : List Visit) (nodes : List Node) → ((b : ℕ) → PointsInto g m.key b → IsVisited g seen b) → Fresh g seen nodes → All (AreApart g m) nodes
 later_apart g m seen [] taken p = All-nil (AreApart g m)
 later_apart g m seen (n ∷ nodes) taken p =
-    All-cons (AreApart g m) n nodes (λ b x y. p.1.1.free (subst (λ k. IsTaken g seen k) (one_place g n.key b p.1.0 y p.1.1.place) (taken b x)))
+    All-cons (AreApart g m) n nodes (λ b x y. p.1.1.free (subst (λ k. IsVisited g seen k) (one_place g n.key b p.1.0 y p.1.1.place) (taken b x)))
     (later_apart g m (seen ++ visit_of n ∷ []) nodes (λ b x. taken_before g seen (visit_of n) b (taken b x)) p.2)
 
 fresh_apart : (g : Geometry) (seen : List Visit) (nodes : List Node) → Fresh g seen nodes → AllPairs (AreApart g) nodes
@@ -66,7 +66,7 @@ fresh_apart g seen (n ∷ nodes) p =
     AllPairs-cons (AreApart g) n nodes (later_apart g n (seen ++ visit_of n ∷ []) nodes (λ b x. taken_last g seen (visit_of n) b x) p.2) (fresh_apart g (seen ++ visit_of n ∷ []) nodes p.2)
 
 abbrev IsFree : Geometry → List Visit → Node → Type 0
-IsFree g seen n = (b : ℕ) → PointsInto g n.key b → IsTaken g seen b → ⊥
+IsFree g seen n = (b : ℕ) → PointsInto g n.key b → IsVisited g seen b → ⊥
 
 fresh_of : (g : Geometry) (seen : List Visit) (nodes : List Node) → All KeepsRange nodes → All (λ n. IsNodeKey g n.key) nodes → AllPairs (AreApart g) nodes → All (IsFree g seen) nodes → Fresh g seen nodes
 fresh_of g seen [] ranges keys apart free = tt

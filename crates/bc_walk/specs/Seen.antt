@@ -11,7 +11,7 @@ use Rattle.bc_walk.specs.declared.error.WalkError.{WalkError}
 use Rattle.bc_walk.specs.declared.error.WalkError.TheVariants as errors
 use Rattle.bc_walk.specs.declared.visit.Visit.{Visit}
 use Rattle.bc_walk.specs.declared.visit.Visit.TheVariants as visits
-use Rattle.bc_walk.specs.Walk.{Found, Way, IsIndexSearch, IsMetAgain, IsNew, IsTaken}
+use Rattle.bc_walk.specs.Walk.{Found, Way, IsIndexSearch, IsMetAgain, IsNew, IsVisited}
 
 -- the key is that of a node in this bucket
 pub record IsNodeIn (g : Geometry) (key : Key) (bucket : ℕ) : Type 0 where
@@ -22,7 +22,7 @@ pub record IsNodeIn (g : Geometry) (key : Key) (bucket : ℕ) : Type 0 where
 -- a flag for each bucket says whether a node was met in it
 pub record AreFlags (g : Geometry) (seen : List Visit) (taken : List Bool) : Type 0 where
   pub each : length taken ≡ g.nbuckets
-  pub tells : (bucket : ℕ) → bucket < g.nbuckets → MatchBool (slice_index_or taken bucket false) (IsTaken g seen bucket) (¬ (IsTaken g seen bucket))
+  pub tells : (bucket : ℕ) → bucket < g.nbuckets → MatchBool (slice_index_or taken bucket false) (IsVisited g seen bucket) (¬ (IsVisited g seen bucket))
 
 abbrev pub found_of : List Visit → List Key → Found
 found_of visits keys = record { visits = visits; keys = keys }

@@ -34,21 +34,21 @@ MeetsIn g bucket (visits.Met level from key) = PointsInto g key bucket
 MeetsIn g bucket (visits.Barred key) = ⊥
 MeetsIn g bucket (visits.Again key) = ⊥
 
-abbrev pub IsTaken : Geometry → List Visit → ℕ → Type 0
-IsTaken g [] bucket = ⊥
-IsTaken g (visit ∷ seen) bucket = MeetsIn g bucket visit ⊎ IsTaken g seen bucket
+abbrev pub IsVisited : Geometry → List Visit → ℕ → Type 0
+IsVisited g [] bucket = ⊥
+IsVisited g (visit ∷ seen) bucket = MeetsIn g bucket visit ⊎ IsVisited g seen bucket
 
 -- the key is that of a node in this bucket, which was met before, or wasn't
 pub record IsMetAgain (g : Geometry) (seen : List Visit) (key : Key) : Type 0 where
   pub proper : IsNodeKey g key
   pub bucket : ℕ
   pub place : PointsInto g key bucket
-  pub taken : IsTaken g seen bucket
+  pub taken : IsVisited g seen bucket
 
 pub record IsNew (g : Geometry) (seen : List Visit) (key : Key) (bucket : ℕ) : Type 0 where
   pub proper : IsNodeKey g key
   pub place : PointsInto g key bucket
-  pub free : ¬ (IsTaken g seen bucket)
+  pub free : ¬ (IsVisited g seen bucket)
 
 -- the node of a level that a key points to, whose range begins at a sector, has this fault
 abbrev pub IsNodeFault : Geometry → Image → ℕ → ℕ → Key → NodeError → Type 0

@@ -25,7 +25,7 @@ returns-clause-ok g c = map_ok c.barrier_in-done.result (λ did.
     did_between g.C.Disk.facts g.B.Disk.facts (Some deed.BackingBarrier) c.args.seat.now
     c.borrow_backing-backing.new.seat c.barrier_in-done.new.seat c.return_backing.new.seat
     c.borrow_backing-backing.ensures.still c.borrow_backing-backing.ensures.waited did c.return_backing.ensures.waited
-    c.return_backing.ensures.seen c.return_backing.ensures.told c.return_backing.ensures.works.seat)
+    c.return_backing.ensures.seen c.return_backing.ensures.heard c.return_backing.ensures.works.seat)
     c.barrier_in-done.ensures.ok
 
 pub returns-clause-err : goal.returns-clause-err
@@ -33,5 +33,5 @@ returns-clause-err g c = map_if_err c.barrier_in-done.result (λ e h.
     failed_between g.C.Disk.facts g.B.Disk.facts e (deed.DeviceFault (failure.Barrier device.Backing))
     c.args.seat.now c.borrow_backing-backing.new.seat c.barrier_in-done.new.seat c.return_backing.new.seat
     c.borrow_backing-backing.ensures.still c.borrow_backing-backing.ensures.waited h c.return_backing.ensures.waited
-    c.return_backing.ensures.seen c.return_backing.ensures.told c.return_backing.ensures.works.seat)
+    c.return_backing.ensures.seen c.return_backing.ensures.heard c.return_backing.ensures.works.seat)
     c.barrier_in-done.ensures.err

@@ -49,7 +49,7 @@ returns-clause-ok g c = map_ok c.read_in-done.result (λ did.
     (Some (deed.BackingRead c.args.first (values_of c.read_in-done.new.into))) c.args.seat.now
     c.borrow_backing-backing.new.seat c.read_in-done.new.seat c.return_backing.new.seat
     c.borrow_backing-backing.ensures.still c.borrow_backing-backing.ensures.waited did
-    c.return_backing.ensures.waited c.return_backing.ensures.seen c.return_backing.ensures.told
+    c.return_backing.ensures.waited c.return_backing.ensures.seen c.return_backing.ensures.heard
     c.return_backing.ensures.works.seat)
     c.read_in-done.ensures.ok
 
@@ -58,7 +58,7 @@ returns-clause-err g c = map_if_err c.read_in-done.result (λ e h.
     failed_or_between g.C.Disk.facts g.B.Disk.facts e (deed.DeviceFault (failure.Read device.Backing))
     c.args.seat.now c.borrow_backing-backing.new.seat c.read_in-done.new.seat c.return_backing.new.seat
     c.borrow_backing-backing.ensures.still c.borrow_backing-backing.ensures.waited h
-    c.return_backing.ensures.waited c.return_backing.ensures.seen c.return_backing.ensures.told
+    c.return_backing.ensures.waited c.return_backing.ensures.seen c.return_backing.ensures.heard
     c.return_backing.ensures.works.seat)
     c.read_in-done.ensures.err
 

@@ -56,7 +56,7 @@ returns-clause-ok g c = map_ok c.write_in-done.result (λ did.
     (Some (deed.BackingWrite c.args.first (Some c.args.of) c.in-Ok.values)) c.args.seat.now
     c.borrow_backing-backing.new.seat c.write_in-done.new.seat c.return_backing.new.seat
     c.borrow_backing-backing.ensures.still c.borrow_backing-backing.ensures.waited did
-    c.return_backing.ensures.waited c.return_backing.ensures.seen c.return_backing.ensures.told
+    c.return_backing.ensures.waited c.return_backing.ensures.seen c.return_backing.ensures.heard
     c.return_backing.ensures.works.seat))
     c.write_in-done.ensures.ok
 
@@ -69,6 +69,6 @@ returns-clause-err g c = map_if_err c.write_in-done.result (λ e h.
     (deed.DeviceFault (failure.BackingWrite c.args.first (Some c.args.of) c.in-Ok.values))
     c.args.seat.now c.borrow_backing-backing.new.seat c.write_in-done.new.seat c.return_backing.new.seat
     c.borrow_backing-backing.ensures.still c.borrow_backing-backing.ensures.waited h
-    c.return_backing.ensures.waited c.return_backing.ensures.seen c.return_backing.ensures.told
+    c.return_backing.ensures.waited c.return_backing.ensures.seen c.return_backing.ensures.heard
     c.return_backing.ensures.works.seat))
     c.write_in-done.ensures.err

@@ -22,7 +22,7 @@ called-requires-clause-may g c =
     ap (λ (vs : List Value). length vs) values ∙ length_values_of c.read.new.into
     ∙ ap (λ n. n / 512) c.read.auto.into in
     may_read g.C.Disk.facts g.B.Disk.facts v c.args.backing.now c.args.first c.from_sectors-values.result
-    c.requires.seat c.requires.untold c.requires.holds c.requires.backing c.requires.looked
+    c.requires.seat c.requires.unheard c.requires.holds c.requires.backing c.requires.looked
     (subst (λ n. IsWithin (note g.C.Disk.facts g.B.Disk.facts v).range c.args.first n) (sym count) c.requires.covered)
     (subst (λ (vs : List Value). IsRead (c.args.backing.now.offset + c.args.first) vs
     (g.B.Disk.facts c.args.backing.now.disk)) (sym values) c.in-Ok.ensures.ok)

@@ -9,13 +9,13 @@ use Rattle.bc_deed.proofs.backing.write_in.Goals as goal
 
 pub called-requires-clause-may : goal.called-requires-clause-may
 called-requires-clause-may g c = may_write g.C.Disk.facts g.B.Disk.facts c.args.seat.now c.args.first
-    c.args.of c.args.values c.requires.seat c.requires.untold c.requires.line
+    c.args.of c.args.values c.requires.seat c.requires.unheard c.requires.line
     (plain_by g.C.Disk.facts g.B.Disk.facts c.args.parts.now c.args.seat.now c.requires.run c.requires.plain)
     c.requires.some c.requires.may
 
 pub called-requires-in-Err-clause-may : goal.called-requires-in-Err-clause-may
 called-requires-in-Err-clause-may g c = may_fail_write g.C.Disk.facts g.B.Disk.facts c.args.seat.now
-    c.args.first c.args.of c.args.values c.requires.seat c.requires.untold c.requires.line
+    c.args.first c.args.of c.args.values c.requires.seat c.requires.unheard c.requires.line
     (plain_by g.C.Disk.facts g.B.Disk.facts c.args.parts.now c.args.seat.now c.requires.run c.requires.plain)
     c.requires.some c.requires.may
 

@@ -27,7 +27,7 @@ returns-clause-ok g c = map_if_ok c.claim_in-done.result (λ done h.
     claimed_between g.C.Disk.facts g.B.Disk.facts done c.args.first c.args.count c.args.share c.args.seat.now
     c.borrow_flight-flight.new.seat c.claim_in-done.new.seat c.return_flight.new.seat
     c.borrow_flight-flight.ensures.still c.borrow_flight-flight.ensures.waited h
-    c.return_flight.ensures.waited c.return_flight.ensures.seen c.return_flight.ensures.told
+    c.return_flight.ensures.waited c.return_flight.ensures.seen c.return_flight.ensures.heard
     c.return_flight.ensures.works.seat)
     c.claim_in-done.ensures.ok
 
@@ -36,6 +36,6 @@ returns-clause-err g c = map_if_err c.claim_in-done.result (λ e h.
     halted_between g.C.Disk.facts g.B.Disk.facts e c.args.seat.now
     c.borrow_flight-flight.new.seat c.claim_in-done.new.seat c.return_flight.new.seat
     c.borrow_flight-flight.ensures.still c.borrow_flight-flight.ensures.waited h
-    c.return_flight.ensures.waited c.return_flight.ensures.seen c.return_flight.ensures.told
+    c.return_flight.ensures.waited c.return_flight.ensures.seen c.return_flight.ensures.heard
     c.return_flight.ensures.works.seat)
     c.claim_in-done.ensures.err

@@ -24,5 +24,5 @@ pub returns-clause-did : goal.returns-clause-did
 returns-clause-did g c = did_between g.C.Disk.facts g.B.Disk.facts (Some deed.Release) c.args.seat.now
     c.borrow_flight-flight.new.seat c.release_in.new.seat c.return_flight.new.seat
     c.borrow_flight-flight.ensures.still c.borrow_flight-flight.ensures.waited c.release_in.ensures.did
-    c.return_flight.ensures.waited c.return_flight.ensures.seen c.return_flight.ensures.told
+    c.return_flight.ensures.waited c.return_flight.ensures.seen c.return_flight.ensures.heard
     c.return_flight.ensures.works.seat

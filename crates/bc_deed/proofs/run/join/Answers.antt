@@ -8,7 +8,7 @@ returns-clause-works g c = let is = c.join.ensures.seat in
     works_joined g.C.Disk.facts g.B.Disk.facts c.args.parts.now c.args.seat.now c.args.other c.join.new.seat
     c.requires.works c.requires.other (ap (λ (x : SeatView _ _ _). x.run) is)
     (ap (λ (x : SeatView _ _ _). x.first) is) (ap (λ (x : SeatView _ _ _). x.end) is) c.requires.next
-    (ap (λ (x : SeatView _ _ _). x.parts) is) (ap (λ (x : SeatView _ _ _). x.told) is) c.join.ensures.later
+    (ap (λ (x : SeatView _ _ _). x.parts) is) (ap (λ (x : SeatView _ _ _). x.heard) is) c.join.ensures.later
 
 pub returns-clause-joined : goal.returns-clause-joined
 returns-clause-joined g c = let is = c.join.ensures.seat in

@@ -2,7 +2,7 @@ use Rattle.std.proofs.Common.{◌≡◌, ℕ, ◌+◌, ◌-◌, ◌*◌, ◌/◌
 use Rattle.bc_model.specs.Sector.{Value, sectors}
 use Rattle.bc_model.specs.Pieces.{Piece, piece_in, pieces_from}
 use Rattle.bc_events.specs.declared.event.Deed.{Deed}
-use Rattle.bc_events.specs.declared.event.Line.{Line}
+use Rattle.bc_events.specs.declared.event.LineNumber.{LineNumber}
 use Rattle.bc_deed.specs.Flushed.{HasDone}
 use Rattle.bc_deed.proofs.Sequence.{done_both}
 use Rattle.bc_job.specs.Asked.{line_of}
@@ -94,7 +94,7 @@ loop-number-preserved g c =
             (subst (λ n. HasDone g.C.Disk.facts g.B.Disk.facts
             (read_deeds (line_of job) c.piece-piece.result.first n own)
             c.loop-number.seat c.read_at.new.seat) c.piece-piece.ensures.count
-            (subst (λ (of : Line). HasDone g.C.Disk.facts g.B.Disk.facts
+            (subst (λ (of : LineNumber). HasDone g.C.Disk.facts g.B.Disk.facts
             (read_deeds of c.piece-piece.result.first c.piece-piece.result.count own)
             c.loop-number.seat c.read_at.new.seat) c.of.ensures now_.3))),
       ),

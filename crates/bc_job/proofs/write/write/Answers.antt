@@ -3,7 +3,7 @@ use Rattle.std.proofs.lemmas.Bool.{ltb-false}
 use Rattle.bc_model.specs.Sector.{Value}
 use Rattle.bc_model.specs.Pieces.{Piece, piece_in, pieces_from, piece_of}
 use Rattle.bc_events.specs.declared.event.Deed.{Deed}
-use Rattle.bc_events.specs.declared.event.Line.{Line}
+use Rattle.bc_events.specs.declared.event.LineNumber.{LineNumber}
 use Rattle.bc_deed.specs.Flushed.{HasDone}
 use Rattle.bc_deed.proofs.Sequence.{done_both}
 use Rattle.bc_job.specs.Asked.{line_of}
@@ -54,7 +54,7 @@ returns-in-Err-clause-err g c =
     (part_is p job.first c.args.values.now c.in-Ok.part c.piece-piece.result.first c.piece-piece.result.count
     c.in-Ok.ensures c.piece-piece.ensures.first c.piece-piece.ensures.count)
     c.loop-number.invariant.1
-    (subst (λ (of : Line). HasStoppedBy g.C.Disk.facts g.B.Disk.facts c.in-Err.error
+    (subst (λ (of : LineNumber). HasStoppedBy g.C.Disk.facts g.B.Disk.facts c.in-Err.error
     (WriteStop c.in-Err.error job.force of c.piece-piece.result.first c.in-Ok.part)
     c.loop-number.seat c.write_piece.new.seat) c.of.ensures c.in-Err.ensures.err)
 
@@ -73,7 +73,7 @@ loop-number-preserved g c =
           (sym more)
           (done_both g.C.Disk.facts g.B.Disk.facts _ _ c.args.seat.now c.loop-number.seat c.write_piece.new.seat
           c.loop-number.invariant.1
-          (subst (λ (of : Line). HasDone g.C.Disk.facts g.B.Disk.facts
+          (subst (λ (of : LineNumber). HasDone g.C.Disk.facts g.B.Disk.facts
           (write_deeds job.force of c.piece-piece.result.first c.in-Ok.part) c.loop-number.seat
           c.write_piece.new.seat) c.of.ensures c.in-Ok-write_piece.ensures.ok)),
     )

@@ -37,7 +37,7 @@ returns-in-Err-clause-err g c = let h = c.in-Err.ensures.refused in
     waited_later g.M.Machine c.args.seat.now c.commit.new.seat c.requires.seat h.0
     (ap (λ (x : SeatView _ _ _). x.run) is) (ap (λ (x : SeatView _ _ _). x.first) is)
     (ap (λ (x : SeatView _ _ _). x.end) is) (ap (λ (x : SeatView _ _ _). x.promises) is)
-    (λ none. absurd (cc (none, ap (λ (x : SeatView _ _ _). x.told) is)))
+    (λ none. absurd (cc (none, ap (λ (x : SeatView _ _ _). x.heard) is)))
 
 pub returns-in-Err-clause-kept : goal.returns-in-Err-clause-kept
 returns-in-Err-clause-kept g c = let h = c.in-Err.ensures.refused in

@@ -8,4 +8,4 @@ returns-clause-waited g c = let is = c.give.ensures in
     waited_not g.M.Machine c.args.seat.now c.give.new.seat
     (ap (λ (x : SeatView _ _ _). x.run) is) (ap (λ (x : SeatView _ _ _). x.first) is)
     (ap (λ (x : SeatView _ _ _). x.end) is) (ap (λ (x : SeatView _ _ _). x.promises) is)
-    (ap (λ (x : SeatView _ _ _). x.seen) is) (ap (λ (x : SeatView _ _ _). x.told) is)
+    (ap (λ (x : SeatView _ _ _). x.seen) is) (ap (λ (x : SeatView _ _ _). x.heard) is)

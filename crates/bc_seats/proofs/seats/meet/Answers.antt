@@ -8,7 +8,7 @@ returns-clause-waited g c = let is = c.meet.ensures.seat in
     waited_later g.M.Machine c.args.seat.now c.meet.new.seat c.requires.seat c.meet.ensures.later
     (ap (λ (x : SeatView _ _ _). x.run) is) (ap (λ (x : SeatView _ _ _). x.first) is)
     (ap (λ (x : SeatView _ _ _). x.end) is) (ap (λ (x : SeatView _ _ _). x.promises) is)
-    (λ none. sym (ap (λ (x : SeatView _ _ _). x.told) is) ∙ none)
+    (λ none. sym (ap (λ (x : SeatView _ _ _). x.heard) is) ∙ none)
 
 pub returns-clause-kept : goal.returns-clause-kept
 returns-clause-kept g c = let is = c.meet.ensures.seat in

@@ -12,7 +12,7 @@ returns-in-None-clause-closed g c = (
   deed.BackingBarrier ∷ [],
   done_then g.C.Disk.facts g.B.Disk.facts [] (Some deed.BackingBarrier) c.args.seat.now c.promise.new.seat
       c.backing_barrier.new.seat c.in-Ok.ensures.done c.in-Ok-backing_barrier.ensures.ok,
-  (refl, sym c.in-Ok-backing_barrier.ensures.ok.is.told ∙ sym c.told.ensures.told ∙ c.in-None.is),
+  (refl, sym c.in-Ok-backing_barrier.ensures.ok.is.heard ∙ sym c.heard.ensures.heard ∙ c.in-None.is),
 )
 
 pub returns-in-Ok-backing_barrier-clause-closed : goal.returns-in-Ok-backing_barrier-clause-closed
@@ -20,7 +20,7 @@ returns-in-Ok-backing_barrier-clause-closed g c = (
   deed.BackingBarrier ∷ [],
   done_then g.C.Disk.facts g.B.Disk.facts [] (Some deed.BackingBarrier) c.args.seat.now c.promise.new.seat
       c.backing_barrier.new.seat c.in-Ok.ensures.done c.in-Ok-backing_barrier.ensures.ok,
-  (inr refl, sym c.in-Ok-backing_barrier.ensures.ok.is.told ∙ sym c.told.ensures.told ∙ c.in-Some.is),
+  (inr refl, sym c.in-Ok-backing_barrier.ensures.ok.is.heard ∙ sym c.heard.ensures.heard ∙ c.in-Some.is),
 )
 
 pub returns-in-Err-Fault-clause-closed : goal.returns-in-Err-Fault-clause-closed

@@ -11,7 +11,7 @@ use Rattle.bc_replay.proofs.Pairs.{passed_on}
 use Rattle.bc_spine.specs.declared.leaf.LeafRange.{LeafRange}
 use Rattle.bc_spine.proofs.Rows.{counted_at}
 use Rattle.bc_super.specs.Writing.{count_after}
-use Rattle.bc_slots.specs.Filling.{IsTaken, calls_with}
+use Rattle.bc_slots.specs.Filling.{TakesLeaf, calls_with}
 use Rattle.bc_slots.specs.Parts.{IsPartsCause}
 use Rattle.bc_slots.specs.Places.{has_keys, readings}
 use Rattle.bc_slots.proofs.Calls.{readings_next}
@@ -160,7 +160,7 @@ loop-i-preserved g c =
     let same_keys = c.as_slice-keys.ensures ∙ c.index-pending-i.is ∙ get_or_default pending i item [] within in
     let calls : (g.C.Disk.facts c.take_leaf.new.cache).calls ≡ count_after (readings (take (i + 1) pending)) d.calls =
     c.in_ok-take_leaf.ensures.calls ∙ ap (λ (ks : List Numbered). calls_with ks e.calls) same_keys ∙ ap (calls_with (get_or pending i [])) c.loop-i.invariant.calls ∙ sym (readings_next pending i d.calls within) in
-    let here = subst (λ (ks : List Numbered). IsTaken c.args.g.now range ks d old c.take_leaf.new.part n c.take_leaf.new.filled) same_keys took in
+    let here = subst (λ (ks : List Numbered). TakesLeaf c.args.g.now range ks d old c.take_leaf.new.part n c.take_leaf.new.filled) same_keys took in
     record {
       filled = all_next c.args.g.now leaves pending count d i at parts filled old c.take_leaf.new.part n c.take_leaf.new.filled range within same below c.index_mut-part.ensures.value next_is there number here so;
       kept = kept_both d e (g.C.Disk.facts c.take_leaf.new.cache) c.loop-i.invariant.kept c.in_ok-take_leaf.ensures.kept;

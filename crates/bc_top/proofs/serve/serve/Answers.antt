@@ -2,7 +2,7 @@ use Rattle.std.proofs.Common.{◌≡◌, inl, inr, List, sym, ap, ◌∙◌, sub
 use Rattle.bc_disk.specs.Device.{HasRisen}
 use Rattle.bc_disk.specs.Disk.{DiskFacts, IfTold}
 use Rattle.bc_machine.specs.declared.part.BackingPart.{BackingPart}
-use Rattle.bc_plain_laws.specs.Promises.{IsStable, IsUntouched, Survives}
+use Rattle.bc_plain_laws.specs.Promises.{LeavesLastWrites, IsUntouched, Survives}
 use Rattle.bc_script.specs.declared.line.Line.{Line}
 use Rattle.bc_script.specs.declared.answer.Answer.{Answer}
 use Rattle.bc_super.specs.Super.{data_sectors}
@@ -91,7 +91,7 @@ returns-in-Ok-run_trace-clause-run g c =
       survives = told_before old old.holds d.holds s (λ s image. Survives s.data_offset image
           outcome.pass.entries.items (g.B.Disk.facts outcome.backing.disk)) is.holds reads
           c.in-Ok-run_trace.ensures.survives;
-      stable = λ zero. told_before old old.holds d.holds s (λ s image. IsStable s.data_offset image
+      stable = λ zero. told_before old old.holds d.holds s (λ s image. LeavesLastWrites s.data_offset image
           outcome.pass.entries.items (g.B.Disk.facts outcome.backing.disk)) is.holds reads
           (c.in-Ok-run_trace.ensures.stable (closed_whole c.report.result c.deref-in-Ok-run_trace.result.now
           outcome.closing (g.K.Sink.facts c.args.out.now) (g.K.Sink.facts c.report.new.out) c.report.ensures zero));

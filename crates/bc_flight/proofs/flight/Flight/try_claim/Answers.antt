@@ -2,7 +2,7 @@ use Rattle.std.proofs.Common.{◌≡◌, List, ◌<◌, sym, ◌∙◌, subst, a
 use Rattle.std.specs.Prelude.{All, None}
 use Rattle.bc_flight.specs.declared.claim.Claim.{Claim}
 use Rattle.bc_flight.specs.Claims.{conflicts_any}
-use Rattle.bc_flight.specs.Flight.{InFlight, IsRanged, IsInOrder, IsTaken, claim_at, claim_of}
+use Rattle.bc_flight.specs.Flight.{InFlight, IsRanged, IsInOrder, HasConflict, claim_at, claim_of}
 use Rattle.bc_flight.proofs.Ordered.{ranged, room_for, in_order_more, taken}
 use Rattle.bc_flight.proofs.flight.Flight.try_claim.Goals as goal
 
@@ -34,4 +34,4 @@ pub returns-then-conflicts_with-clause-taken : goal.returns-then-conflicts_with-
 returns-then-conflicts_with-clause-taken c =
     let claim = claim_at c.args.seat c.args.first c.args.count c.args.share in
     let found = subst (λ (cs : List Claim). c.conflicts_with.result ≡ conflicts_any claim cs) c.deref.ensures.value c.conflicts_with.ensures in
-    subst (λ (f : InFlight). IsTaken claim f.claims) c.self.view_is (taken c.self.inside.seats claim c.self.inside.claims.items c.self.invariant.0 (sym found ∙ c.if-conflicts_with.true))
+    subst (λ (f : InFlight). HasConflict claim f.claims) c.self.view_is (taken c.self.inside.seats claim c.self.inside.claims.items c.self.invariant.0 (sym found ∙ c.if-conflicts_with.true))

@@ -14,7 +14,7 @@ use Rattle.bc_parts.proofs.parts.Parts.commit.Given.{Over}
 at_commit : (g : Over) → (c : In-Ok g) → AtCommit g.M.Machine c.args.seat.now c.args.event c.take_book-book.new.place.me.0.seen
 at_commit g c = let m = g.M.Machine in let place = c.seat.inside.place in let es = c.take_book-book.new.place.me.0.seen in
     let admitted = ap (λ l. m.verdict l c.args.event) (sym c.take_book-book.ensures.events) ∙ sym c.in-Ok.ensures in
-    subst (λ v. AtCommit m v c.args.event es) c.seat.view_is (AtCommit-later m (as_seat place.table_id place.me.0 c.seat.inside.told) c.args.event es c.take_book-book.ensures.later admitted)
+    subst (λ v. AtCommit m v c.args.event es) c.seat.view_is (AtCommit-later m (as_seat place.table_id place.me.0 c.seat.inside.heard) c.args.event es c.take_book-book.ensures.later admitted)
 
 pub add-stop-requires-clause-enabled : goal.add-stop-requires-clause-enabled
 add-stop-requires-clause-enabled g c = let m = g.M.Machine in let es = c.take_book-book.new.place.me.0.seen in
@@ -29,7 +29,7 @@ invariant_of-seat g c = let m = g.M.Machine in let me = c.seat.inside.place.me i
     let last = last_slot k _ _ _ _ c.self.invariant.0 c.seat.view_is c.self.view_is c.requires.run in (
       Rests-returning m me c.add-stop.new.place.me k w rests last rests.live rests.whole refl refl is,
       c.seat.invariant.1 ∙ sym (ap (λ new. new.0.first) is),
-      (λ s told. ap (λ new. m.stop new.0.seen) is ∙ (ap (λ z. m.stop (z.0.seen ++ c.args.event ∷ [])) (sym c.take_book-book.ensures.emptied) ∙ (sym c.add-stop.ensures.stop ∙ told))),
+      (λ s heard. ap (λ new. m.stop new.0.seen) is ∙ (ap (λ z. m.stop (z.0.seen ++ c.args.event ∷ [])) (sym c.take_book-book.ensures.emptied) ∙ (sym c.add-stop.ensures.stop ∙ heard))),
     )
 
 pub invariant_of-seat-in-Err : goal.invariant_of-seat-in-Err
@@ -40,7 +40,7 @@ invariant_of-seat-in-Err g c = let m = g.M.Machine in let me = c.seat.inside.pla
     let refused = ap (λ l. m.verdict l c.args.event) (sym c.take_book-book.ensures.events) ∙ sym c.in-Err.ensures in (
       Rests-returning m me c.put_back.new.place.me k (taking me.0 k book.seen book.owed) rests last rests.live rests.whole refl refl is,
       c.seat.invariant.1 ∙ sym (ap (λ new. new.0.first) is),
-      (λ s told. ap (λ new. m.stop new.0.seen) is ∙ (g.met.M.Machine.names book.seen c.args.event c.in-Err.stop refused ∙ told)),
+      (λ s heard. ap (λ new. m.stop new.0.seen) is ∙ (g.met.M.Machine.names book.seen c.args.event c.in-Err.stop refused ∙ heard)),
     )
 
 pub returns-in-Ok-clause-ok : goal.returns-in-Ok-clause-ok
@@ -54,7 +54,7 @@ returns-in-Ok-clause-ok g c = let place = c.seat.inside.place in let me = place.
       ap (λ t. as_seat t c.add-stop.new.place.me.0 stop) (c.add-stop.ensures.table.0 ∙ c.take_book-book.ensures.table.0)
           ∙ (ap (λ z. as_seat place.table_id z.0 stop) is
           ∙ (ap (λ hs. as_seat place.table_id (record me.0 { seen = book.seen ++ c.args.event ∷ []; held = hs; promises = me.0.promises - 1 }) stop) back
-          ∙ ap (λ (v : SeatView _ _ _). record v { seen = book.seen ++ c.args.event ∷ []; promises = v.promises - 1; told = stop }) c.seat.view_is)),
+          ∙ ap (λ (v : SeatView _ _ _). record v { seen = book.seen ++ c.args.event ∷ []; promises = v.promises - 1; heard = stop }) c.seat.view_is)),
       c.add-stop.ensures.stop,
     )
 
@@ -78,12 +78,12 @@ returns-in-Err-clause-refused g c = let m = g.M.Machine in let place = c.seat.in
     let last = last_slot k _ _ _ _ c.self.invariant.0 c.seat.view_is c.self.view_is c.requires.run in
     let back = without-taken k me.0.held (Rests-book m me k c.seat.invariant.0 last) in
     let later = subst (λ v. SeesLater m v book.seen) c.seat.view_is c.take_book-book.ensures.later in
-    let told = Some c.in-Err.stop in (
+    let heard = Some c.in-Err.stop in (
       subst (SeesLater m c.args.seat.now) (sym seen) later,
       ap (λ l. m.verdict l c.args.event) seen ∙ refused,
-      ap (λ t. as_seat t c.put_back.new.place.me.0 told) (c.put_back.ensures.table.0 ∙ c.take_book-book.ensures.table.0)
-          ∙ (ap (λ z. as_seat place.table_id z.0 told) is
-          ∙ (ap (λ hs. as_seat place.table_id (record me.0 { seen = book.seen; held = hs }) told) back
-          ∙ (ap (λ (v : SeatView _ _ _). record v { seen = book.seen; told = told }) c.seat.view_is
-          ∙ ap (λ es. record c.args.seat.now { seen = es; told = told }) (sym seen)))),
+      ap (λ t. as_seat t c.put_back.new.place.me.0 heard) (c.put_back.ensures.table.0 ∙ c.take_book-book.ensures.table.0)
+          ∙ (ap (λ z. as_seat place.table_id z.0 heard) is
+          ∙ (ap (λ hs. as_seat place.table_id (record me.0 { seen = book.seen; held = hs }) heard) back
+          ∙ (ap (λ (v : SeatView _ _ _). record v { seen = book.seen; heard = heard }) c.seat.view_is
+          ∙ ap (λ es. record c.args.seat.now { seen = es; heard = heard }) (sym seen)))),
     )

@@ -33,11 +33,11 @@ invariant_of-seat g c = let m = g.M.Machine in let me = c.seat.inside.place.me i
     let is = c.clear.ensures.given ∙ ap (λ z. (giving z.0 c.args.part, [])) (c.fill.ensures.filled ∙ ap (λ z. (z.0, (c.args.part, Some (Part c.args.value)) ∷ [])) (c.load.ensures.2 c.args.part refl)) in (
       Rests-giving m me c.clear.new.place.me c.args.part c.seat.invariant.0 is,
       c.seat.invariant.1 ∙ sym (ap (λ new. new.0.first) is),
-      subst (λ es. (s : _) → c.seat.inside.told ≡ Some s → m.stop es ≡ Some s) (sym (ap (λ new. new.0.seen) is)) c.seat.invariant.2,
+      subst (λ es. (s : _) → c.seat.inside.heard ≡ Some s → m.stop es ≡ Some s) (sym (ap (λ new. new.0.seen) is)) c.seat.invariant.2,
     )
 
 pub returns : goal.returns
-returns g c = let place = c.seat.inside.place in let told = c.seat.inside.told in
+returns g c = let place = c.seat.inside.place in let heard = c.seat.inside.heard in
     let table = c.clear.ensures.table.0 ∙ (c.fill.ensures.table.0 ∙ c.load.ensures.0) in
     let is = c.clear.ensures.given ∙ ap (λ z. (giving z.0 c.args.part, [])) (c.fill.ensures.filled ∙ ap (λ z. (z.0, (c.args.part, Some (Part c.args.value)) ∷ [])) (c.load.ensures.2 c.args.part refl)) in
-    ap (λ t. as_seat t c.clear.new.place.me.0 told) table ∙ (ap (λ me. as_seat place.table_id me.0 told) is ∙ ap (λ (w : SeatView _ _ _). record w { parts = without c.args.part w.parts }) c.seat.view_is)
+    ap (λ t. as_seat t c.clear.new.place.me.0 heard) table ∙ (ap (λ me. as_seat place.table_id me.0 heard) is ∙ ap (λ (w : SeatView _ _ _). record w { parts = without c.args.part w.parts }) c.seat.view_is)

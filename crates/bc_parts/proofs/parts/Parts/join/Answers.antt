@@ -28,8 +28,8 @@ invariant_of-seat g c = let m = g.M.Machine in let me = c.seat.inside.place.me i
     let beside : Grows m (length v.start) v.middle w.end [] w.seen seen = subst (λ z. z.0.middle < z.0.end → Grows m (length z.0.start) z.0.middle z.0.end [] z.0.beside seen) joined (λ l. (looked.beside l).grows) (omega (arith, a, b, next, whole)) in (
       Rests-joining m me c.load.new.seat.me w seen c.seat.invariant.0 (omega (arith, a, b, next)) is,
       c.seat.invariant.1 ∙ sym (ap (λ new. new.0.first) is),
-      (λ s told. told_either (λ t. m.stop seen ≡ Some t) c.seat.inside.told c.other.inside.told
-          (still_stopped m g.met.M.Machine.stays (length v.start) v.first v.middle v.held v.seen seen c.seat.inside.told later c.seat.invariant.2)
-          (still_stopped m g.met.M.Machine.stays (length v.start) v.middle w.end [] w.seen seen c.other.inside.told beside c.other.invariant.2)
-          s (sym c.or-seat-inside.ensures ∙ told)),
+      (λ s heard. told_either (λ t. m.stop seen ≡ Some t) c.seat.inside.heard c.other.inside.heard
+          (still_stopped m g.met.M.Machine.stays (length v.start) v.first v.middle v.held v.seen seen c.seat.inside.heard later c.seat.invariant.2)
+          (still_stopped m g.met.M.Machine.stays (length v.start) v.middle w.end [] w.seen seen c.other.inside.heard beside c.other.invariant.2)
+          s (sym c.or-seat-inside.ensures ∙ heard)),
     )

@@ -12,5 +12,5 @@ pub invariant_of-seat : goal.invariant_of-seat
 invariant_of-seat g c = let m = g.M.Machine in let me = c.seat.inside.place.me in let looked = c.load.ensures.2 in (
   Rests-looking m me c.load.new.seat.me c.load.new.seat.me.0.seen c.seat.invariant.0 looked.is,
   c.seat.invariant.1 ∙ sym (ap (λ new. new.0.first) looked.is),
-  still_stopped m g.met.M.Machine.stays (length me.0.start) me.0.first me.0.middle me.0.held me.0.seen c.load.new.seat.me.0.seen c.seat.inside.told looked.later.grows c.seat.invariant.2,
+  still_stopped m g.met.M.Machine.stays (length me.0.start) me.0.first me.0.middle me.0.held me.0.seen c.load.new.seat.me.0.seen c.seat.inside.heard looked.later.grows c.seat.invariant.2,
 )

@@ -20,19 +20,19 @@ invariant_of-seat g c = let m = g.M.Machine in let me = c.seat.inside.place.me i
     let last = last_slot k _ _ _ _ c.self.invariant.0 c.seat.view_is c.self.view_is c.requires.run in (
       Rests-returning m me c.put_back.new.place.me k (promising (taking me.0 k book.seen book.owed) more) rests last rests.live rests.whole refl refl is,
       c.seat.invariant.1 ∙ sym (ap (λ new. new.0.first) is),
-      subst (λ es. (s : _) → c.seat.inside.told ≡ Some s → m.stop es ≡ Some s) (sym (ap (λ new. new.0.seen) is))
-          (still_stopped m g.met.M.Machine.stays (length me.0.start) me.0.first me.0.end me.0.held me.0.seen book.seen c.seat.inside.told c.take_book-book.ensures.later.grows c.seat.invariant.2),
+      subst (λ es. (s : _) → c.seat.inside.heard ≡ Some s → m.stop es ≡ Some s) (sym (ap (λ new. new.0.seen) is))
+          (still_stopped m g.met.M.Machine.stays (length me.0.start) me.0.first me.0.end me.0.held me.0.seen book.seen c.seat.inside.heard c.take_book-book.ensures.later.grows c.seat.invariant.2),
     )
 
 pub returns-clause-seat : goal.returns-clause-seat
-returns-clause-seat g c = let place = c.seat.inside.place in let me = place.me in let k = c.self.inside.count in let more = c.from.result in let told = c.seat.inside.told in
+returns-clause-seat g c = let place = c.seat.inside.place in let me = place.me in let k = c.self.inside.count in let more = c.from.result in let heard = c.seat.inside.heard in
     let book = c.take_book-book.new.place.me.0 in
     let is = c.put_back.ensures.given ∙ (ap (λ z. (giving z.0 k, [])) c.store.ensures.2 ∙ ap (λ z. (giving (promising z.0 more) k, [])) c.take_book-book.ensures.emptied) in
     let last = last_slot k _ _ _ _ c.self.invariant.0 c.seat.view_is c.self.view_is c.requires.run in
     let back = without-taken k me.0.held (Rests-book g.M.Machine me k c.seat.invariant.0 last) in
-    ap (λ t. as_seat t c.put_back.new.place.me.0 told) (c.put_back.ensures.table.0 ∙ (c.store.ensures.0 ∙ c.take_book-book.ensures.table.0))
-    ∙ (ap (λ z. as_seat place.table_id z.0 told) is
-    ∙ (ap (λ hs. as_seat place.table_id (record me.0 { seen = book.seen; held = hs; promises = me.0.promises + more }) told) back
+    ap (λ t. as_seat t c.put_back.new.place.me.0 heard) (c.put_back.ensures.table.0 ∙ (c.store.ensures.0 ∙ c.take_book-book.ensures.table.0))
+    ∙ (ap (λ z. as_seat place.table_id z.0 heard) is
+    ∙ (ap (λ hs. as_seat place.table_id (record me.0 { seen = book.seen; held = hs; promises = me.0.promises + more }) heard) back
     ∙ (ap (λ (v : SeatView _ _ _). record v { seen = book.seen; promises = v.promises + more }) c.seat.view_is
     ∙ (ap (λ es. record c.args.seat.now { seen = es; promises = c.args.seat.now.promises + more }) (sym (ap (λ new. new.0.seen) is))
     ∙ ap (λ n. record c.args.seat.now { seen = c.put_back.new.place.me.0.seen; promises = c.args.seat.now.promises + n }) (c.from.ensures ∙ c.granted-granted.ensures)))))

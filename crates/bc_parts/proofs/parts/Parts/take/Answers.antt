@@ -25,6 +25,6 @@ invariant_of-seat g c = let m = g.M.Machine in let me = c.seat.inside.place.me i
     let is = c.load.ensures.2 ∙ (ap (λ z. (laying z.0, rest z.1)) c.lift-cargo.ensures.emptied ∙ ap (λ v. (laying v, [])) takes.view) in (
       Rests-taking m me c.load.new.seat.me c.args.part c.claim.new.place.me.0.seen c.claim.new.place.me.0.owed c.seat.invariant.0 (let inside = c.requires.part in omega (arith, same, inside)) is,
       c.seat.invariant.1 ∙ sym (ap (λ new. new.0.first) is),
-      subst (λ es. (s : _) → c.seat.inside.told ≡ Some s → m.stop es ≡ Some s) (sym (ap (λ new. new.0.seen) is))
-          (still_stopped m g.met.M.Machine.stays (length me.0.start) me.0.first me.0.end me.0.held me.0.seen c.claim.new.place.me.0.seen c.seat.inside.told takes.later.grows c.seat.invariant.2),
+      subst (λ es. (s : _) → c.seat.inside.heard ≡ Some s → m.stop es ≡ Some s) (sym (ap (λ new. new.0.seen) is))
+          (still_stopped m g.met.M.Machine.stays (length me.0.start) me.0.first me.0.end me.0.held me.0.seen c.claim.new.place.me.0.seen c.seat.inside.heard takes.later.grows c.seat.invariant.2),
     )

@@ -9,7 +9,7 @@ use Rattle.bc_script.specs.declared.line.Line.{Line}
 use Rattle.bc_script.specs.declared.line.Line.TheVariants.{Silent}
 use Rattle.bc_serve.specs.Run.{HaveAnswered}
 use Rattle.bc_serve.proofs.Lines.{more_answered, none_answered}
-use Rattle.bc_serve.proofs.serving.serve_lines.Goals as goal
+use Rattle.bc_serve.proofs.in_order.serve_lines.Goals as goal
 
 pub loop-index-init : goal.loop-index-init
 loop-index-init g c = (

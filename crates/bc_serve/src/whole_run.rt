@@ -3,14 +3,14 @@ ghost use Rattle.std.specs.Prelude.{◌≡◌, ◌+◌, ◌<◌, ◌≤◌, ◌^
 ghost use Rattle.bc_events.specs.declared.event.Event.{Event};
 ghost use Rattle.bc_disk.specs.Disk.{StandsFor, IfTold};
 ghost use Rattle.bc_disk.specs.Stands.{settled_model};
-ghost use Rattle.bc_plain_laws.specs.Promises.{IsStable, IsUntouched, Survives};
+ghost use Rattle.bc_plain_laws.specs.Promises.{LeavesLastWrites, IsUntouched, Survives};
 ghost use Rattle.bc_script.specs.Answer.{IsPrintable};
 ghost use Rattle.bc_script.specs.Proper.{IsLine};
 ghost use Rattle.bc_serve.specs.Run.{HasRun};
 ghost use Rattle.bc_serve.specs.declared.closing.Closing.TheVariants as closings;
 
 use crate::closing::{Closing, close};
-use crate::serving::serve_lines;
+use crate::in_order::serve_lines;
 use bc_book::pass::Pass;
 use bc_deed::run::{Ended, begin, end, join, split};
 use bc_disk::disk::Disk;
@@ -55,7 +55,7 @@ pub fn run_trace<C: Disk + Drop, B: Disk + Drop, R: Wait, G: Gate>(
         Survives backing.offset image o.pass.entries.items (B.facts o.backing.disk))) }
     ensures stable { IfOk result (λ o. o.closing ≡ closings.Done
         → IfTold (B.facts backing.disk).holds (λ image.
-        IsStable backing.offset image o.pass.entries.items (B.facts o.backing.disk))) }
+        LeavesLastWrites backing.offset image o.pass.entries.items (B.facts o.backing.disk))) }
     ensures outside { IfOk result (λ o. IfTold (B.facts backing.disk).holds (λ image.
         IsUntouched backing.offset backing.size image (B.facts o.backing.disk))) }
 {

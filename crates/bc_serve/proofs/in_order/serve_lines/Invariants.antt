@@ -3,7 +3,7 @@ use Rattle.std.specs.Prelude.{All, vec_capacity}
 use Rattle.bc_job.specs.Asked.{IsIdle}
 use Rattle.bc_script.specs.Answer.{IsPrintable}
 use Rattle.bc_serve.specs.Run.{HaveAnswered}
-use Rattle.bc_serve.proofs.serving.serve_lines.Given as goal
+use Rattle.bc_serve.proofs.in_order.serve_lines.Given as goal
 
 -- the lines so far are served
 abbrev pub invariant-loop-index : goal.invariant-loop-index

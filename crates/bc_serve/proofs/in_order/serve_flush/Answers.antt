@@ -1,7 +1,7 @@
 use Rattle.std.proofs.Common.{sym, subst}
 use Rattle.bc_script.specs.declared.answer.Answer.{Answer}
 use Rattle.bc_serve.proofs.Answering.{FlushServes, flush_done, flush_refused}
-use Rattle.bc_serve.proofs.serving.serve_flush.Goals as goal
+use Rattle.bc_serve.proofs.in_order.serve_flush.Goals as goal
 
 pub returns-in-Ok-clause-serves : goal.returns-in-Ok-clause-serves
 returns-in-Ok-clause-serves g c = flush_done g.C.Disk.facts g.B.Disk.facts c.args.seat.now c.flush.new.seat

@@ -4,7 +4,7 @@ use Rattle.bc_script.specs.declared.line.Line.{Line}
 use Rattle.bc_script.specs.declared.answer.Answer.TheVariants.{Silent, Done}
 use Rattle.bc_script.specs.Served.{ServesAction, ServesLine}
 use Rattle.bc_job.proofs.Looping.{done_none}
-use Rattle.bc_serve.proofs.serving.serve_line.Goals as goal
+use Rattle.bc_serve.proofs.in_order.serve_line.Goals as goal
 
 pub returns-in_default-clause-serves : goal.returns-in_default-clause-serves
 returns-in_default-clause-serves g c = record {

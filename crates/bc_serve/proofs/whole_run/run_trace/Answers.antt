@@ -1,5 +1,5 @@
 use Rattle.bc_serve.proofs.Ran.{has_run, outside, stable, survives}
-use Rattle.bc_serve.proofs.running.run_trace.Goals as goal
+use Rattle.bc_serve.proofs.whole_run.run_trace.Goals as goal
 
 pub returns-clause-run : goal.returns-clause-run
 returns-clause-run g c = (

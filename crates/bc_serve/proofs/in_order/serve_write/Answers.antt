@@ -5,7 +5,7 @@ use Rattle.bc_model.specs.Values.{patterns}
 use Rattle.bc_script.specs.declared.answer.Answer.{Answer}
 use Rattle.bc_serve.proofs.Stamps.{length_patterns}
 use Rattle.bc_serve.proofs.Answering.{WriteServes, outside_writing, write_done, write_refused, write_short}
-use Rattle.bc_serve.proofs.serving.serve_write.Goals as goal
+use Rattle.bc_serve.proofs.in_order.serve_write.Goals as goal
 
 pub returns-then-is_outside-clause-serves : goal.returns-then-is_outside-clause-serves
 returns-then-is_outside-clause-serves g c = outside_writing g.C.Disk.facts g.B.Disk.facts c.args.seat.now
