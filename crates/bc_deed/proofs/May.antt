@@ -410,7 +410,7 @@ module _ {C B : Type 0} (cache_facts : C → DiskFacts) (backing_facts : B → D
       own = refl;
       since = record { others = []; is = refl; follow = tt; foreign = λ k d lt. absurd (omega (arith, lt)) };
       grown = record { more = []; seen = sym (append-nil v.seen); rest = λ n low high. refl };
-      told = λ none. none;
+      heard = λ none. none;
     };
     seat = seat;
   }

@@ -22,7 +22,7 @@ use Rattle.bc_events.specs.declared.event.Event.{Event}
 use Rattle.bc_book.specs.declared.book.Book.{Book}
 use Rattle.bc_machine.specs.declared.machine.Core.{Core}
 use Rattle.bc_machine.specs.declared.part.CorePart.{CorePart}
-use Rattle.bc_machine.specs.World.{World, data_of, is_plain, is_told, are_plain, opening, after, IsView, InEach, IsEnabled, StandsAs}
+use Rattle.bc_machine.specs.World.{World, Origin, IsSeenFrom, data_of, is_plain, is_told, are_plain, opening, after, IsView, InEach, IsEnabled, StandsAs}
 use Rattle.bc_machine.specs.Frame.{by_test}
 use Rattle.bc_machine.specs.Standing.{frames, in_each}
 use Rattle.bc_machine.specs.Note.{Note, no_note, note_of, note_by, note_after, IsFirmer}
@@ -175,14 +175,16 @@ module _ {C B : Type 0} (cache_facts : C → DiskFacts) (backing_facts : B → D
 
   pub at_deed : (v : View) (d : Deed) (x y : World) → IsCoreSeat cache_facts backing_facts v
       → (since : Since m v x) → verdict_of (v.seen ++ since.others) (by v.first d) ≡ Ok tt → IsView x y
+      → (is_plain x ≡ false → (o : Origin) × IsSeenFrom o x y)
       → AtDeed cache_facts backing_facts v d x y
-  at_deed v d x y seat since is view =
+  at_deed v d x y seat since is view from =
       let es = v.seen ++ since.others in
       let there = subst (λ (z : World). IsView z y) (state_is v x since) view in
       let like = view_like x y view in
       let alike = opening_seen v x since ∙ sym (opening_stays (opened v) v.seen) in record {
         since = since;
         view = view;
+        from = from;
         note = note_since v x y seat.seat.live since view;
         line = ap (λ (f : ℕ → Option LineNumber). f v.first) (line_view v es y there
             ∙ ap (λ (z : World). z.now.line) (sym (state_is v x since)))
@@ -203,7 +205,7 @@ module _ {C B : Type 0} (cache_facts : C → DiskFacts) (backing_facts : B → D
       → verdict_of (v.seen ++ since.others) (by v.first d) ≡ Ok tt → IsEnabled x (by v.first d)
   may_commit v d x seat may since is = may_happen x (by v.first d)
       (lt-ltb v.first 320 (let live = seat.seat.live in let most = seat.numbers in omega arith))
-      (λ y view told. may x y (at_deed v d x y seat since is view) told)
+      (λ y view from told. may x y (at_deed v d x y seat since is view from) told)
 
   -- ---- behind a step
 

@@ -14,7 +14,7 @@ use Rattle.bc_book.specs.declared.book.Book.{Book}
 use Rattle.bc_machine.specs.declared.machine.Core.{Core}
 use Rattle.bc_machine.specs.declared.part.BackingPart.{BackingPart}
 use Rattle.bc_machine.specs.declared.part.CorePart.{CorePart}
-use Rattle.bc_machine.specs.World.{World, data_of, is_told, are_plain, opening, after, IsView, InEach, CanFollow, IsEnabled, changes, StandsAs, IsSpine, AreLeaves, IsFlight, AreBuckets, IsJournal, IsCache, IsBacking}
+use Rattle.bc_machine.specs.World.{World, Origin, IsSeenFrom, data_of, is_plain, is_told, are_plain, opening, after, IsView, InEach, CanFollow, IsEnabled, changes, StandsAs, IsSpine, AreLeaves, IsFlight, AreBuckets, IsJournal, IsCache, IsBacking}
 use Rattle.bc_machine.specs.Note.{Note, note_of, note_by, note_after, IsFirmer}
 use Rattle.bc_machine.specs.Bare.{IsBareRun}
 use Rattle.bc_hand.specs.declared.hand.Hand.{Hand}
@@ -123,10 +123,11 @@ module _ {C B : Type 0} (cache_facts : C → DiskFacts) (backing_facts : B → D
     pub bare : IsBareRun (world v)
 
   -- What the seat knows of a state x in which its deed may be committed, seen as y: as events alone
-  -- make it, or as it is from an opening of the core.
+  -- make it, or as it is from an opening of the core, as a run with a cache always is.
   pub record AtDeed (v : View) (d : Deed) (x y : World) : Type 0 where
     pub since : Since core v x
     pub view : IsView x y
+    pub from : is_plain x ≡ false → (o : Origin) × IsSeenFrom o x y
     pub note : IsFirmer (note v) (note_of y v.first)
     pub line : y.now.line v.first ≡ (world v).now.line v.first
     pub late : v.heard ≡ None → (data_of y).late v.first ≡ false

@@ -65,21 +65,22 @@ bare_view x y h (inr (o, seen)) = λ told plain.
     true_false : (b : Bool) → b ≡ true → b ≡ false → ⊥
     true_false b t f = cc
 
--- what may follow in each view may happen
+-- What may follow in each view may happen. A run with a cache is seen from an opening.
 pub may_happen : (x : World) (e : Event) → IsSeat e.seat
-    → ((y : World) → IsView x y → is_told y ≡ true → CanFollow y e) → IsEnabled x e
+    → ((y : World) → IsView x y → (is_plain x ≡ false → (o : Origin) × IsSeenFrom o x y)
+    → is_told y ≡ true → CanFollow y e) → IsEnabled x e
 may_happen x e seat each = record {
   seat = seat;
-  allowed = λ told plain. each x (inl refl) told;
-  follows = λ o is course. each (seen_from o x) (inr (
-    o,
-    record {
-      is = refl;
-      origin = is;
-      course = course;
-    },
-  )) is.told;
+  allowed = λ told plain. each x (inl refl) (λ off. absurd (true_false (is_plain x) plain off)) told;
+  follows = λ o is course. let seen : IsSeenFrom o x (seen_from o x) = record {
+    is = refl;
+    origin = is;
+    course = course;
+  } in each (seen_from o x) (inr (o, seen)) (λ _. (o, seen)) is.told;
 }
+  where
+    true_false : (b : Bool) → b ≡ true → b ≡ false → ⊥
+    true_false b t f = cc
 
 -- ---- as a run begins
 

@@ -104,6 +104,7 @@ origin_before x e o h = record {
   cache = h.cache;
   backing = h.backing;
   sound = h.sound;
+  slots = h.slots;
   begun = h.begun;
 }
 

@@ -40,7 +40,7 @@ use Rattle.bc_events.specs.declared.event.Event.{Event}
 use Rattle.bc_shares.specs.Shares.{books_of, journal_share}
 use Rattle.bc_shares.specs.Touched.{touches_journal, touches_buckets, touches_spine, NamesItsChange}
 use Rattle.bc_machine.specs.Plain.{bare_opening, no_parts}
-use Rattle.bc_machine.specs.Containers.{IsSpineOf, AreBucketsOf, IsJournalOf, AreLeavesOf}
+use Rattle.bc_machine.specs.Containers.{IsInTree, IsSpineOf, AreBucketsOf, IsJournalOf, AreLeavesOf}
 use Rattle.bc_machine.specs.declared.part.BackingPart.{BackingPart}
 use Rattle.bc_machine.specs.declared.part.BucketsPart.{BucketsPart}
 use Rattle.bc_machine.specs.declared.part.CorePart.{CorePart}
@@ -184,6 +184,11 @@ pub record HasBegun (b : Begun) (o : Origin) : Type 0 where
       (IsJournalOf (journal_share (start o.opening o.parts o.next_seq).machine))
   pub leaves : AreLeafParts o.opening o.parts b.leaf_parts 0 b.leaves
 
+-- the keys of each sector are in the leaf of the tree that has it
+abbrev pub AreInSlots : Opening → parts.State → Type 0
+AreInSlots w st = (k s : ℕ) → IsInTree (st.leaves k).role → parts.InRange (st.leaves k) s
+    → w.machine.flow.books.leaf s ≡ k
+
 -- A sound opening of both devices as they were when the run began, with these parts in memory.
 pub record IsOrigin (x : World) (o : Origin) : Type 0 where
   pub with_cache : is_plain x ≡ false
@@ -194,6 +199,7 @@ pub record IsOrigin (x : World) (o : Origin) : Type 0 where
   pub cache : (s : ℕ) → o.opening.machine.flow.cache s ≡ x.opening.machine.flow.cache s
   pub backing : (s : ℕ) → o.opening.machine.flow.backing s ≡ x.opening.machine.flow.backing s
   pub sound : IsSound o.opening.machine o.parts
+  pub slots : AreInSlots o.opening o.parts
   pub begun : HasBegun x.begun o
 
 -- The state of a run is seen as its events alone make it, and as it is from each such opening from

@@ -63,7 +63,7 @@ pub failed_right : (xs ys : List Event) → failed_in ys ≡ true → failed_in 
 failed_right [] ys is = is
 failed_right (x ∷ xs) ys is = or_right (is_failed (call_by x.deed)) (failed_in (xs ++ ys)) (failed_right xs ys is)
 
--- what a seat's events_by events tell, all tell
+-- what a seat's own events tell, all tell
 pub failed_own : (i : ℕ) (es : List Event) → failed_in (events_by i es) ≡ true → failed_in es ≡ true
 failed_own i [] is = is
 failed_own i (e ∷ es) is = by_test e.seat i

@@ -72,10 +72,11 @@ touches_leaf k (deed.Install change come gone) = among_leaves k change
 touches_leaf k (deed.DeviceFault x) = fault_touches_leaf k x
 touches_leaf k d = false
 
--- An install names each leaf that leaves or comes.
+-- An install names each leaf that leaves or comes, and says of no other that it comes.
 pub record NamesChange (st : parts.State) (c : Change) : Type 0 where
   pub gone : (k : ℕ) → (st.leaves k).role ≡ Leaving → has c.gone.items k ≡ true
   pub come : (k : ℕ) → (st.leaves k).role ≡ Coming → has c.come.items k ≡ true
+  pub only : (k : ℕ) → has c.come.items k ≡ true → (st.leaves k).role ≡ Coming
 
 abbrev pub NamesItsChange : parts.State → Deed → Type 0
 NamesItsChange st (deed.Install change come gone) = NamesChange st change
