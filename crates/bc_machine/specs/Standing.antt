@@ -142,7 +142,7 @@ HasCourses x = (o : Origin) → IsOrigin x o → IsCourseOf o x.log
 
 course_event : (x : World) (e : Event) → IsEnabled x e → HasCourses x → HasCourses (after x e)
 course_event x e on h = λ o is. let before = origin_before x e o is in
-    ((on.follows o before (h o before)).enabled, h o before)
+    (on.follows o before (h o before), h o before)
 
 pub courses : (x : World) (es : List Event) → HasCourses x → IsCourse IsEnabled after x es
     → HasCourses (fold after x es)
@@ -180,7 +180,7 @@ pub replay_runs : (o : Origin) (es : List Event) → IsCourseOf o es
 replay_runs o [] on = tt
 replay_runs o (e ∷ es) on = runs_behind o.opening (core.start o.opening o.parts o.next_seq)
     (oldest_first es) (e ∷ []) (replay_runs o es on.1)
-    (subst (λ st. core.IsEnabled o.opening st e) (replay_is o es) on.0, tt)
+    (subst (λ st. core.IsEnabled o.opening st e) (replay_is o es) on.0.enabled, tt)
 
 happens : (x : World) (o : Origin) (e : Event) → IsOrigin x o → IsCourseOf o x.log
     → core.IsEnabled o.opening (replay o x.log) e

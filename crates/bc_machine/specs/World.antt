@@ -160,10 +160,16 @@ abbrev pub replay : Origin → List Event → State
 replay o [] = start o.opening o.parts o.next_seq
 replay o (e ∷ es) = core.after o.opening (replay o es) e
 
--- each of them is enabled behind those before it
+-- An event follows in the core; and one that ends a change of the tree names the leaves that leave
+-- and come.
+pub record Follows (w : Opening) (st : State) (e : Event) : Type 0 where
+  pub enabled : core.IsEnabled w st e
+  pub names : NamesItsChange st.machine.whole.parts e.deed
+
+-- each of them follows behind those before it
 abbrev pub IsCourseOf : Origin → List Event → Type 0
 IsCourseOf o [] = Unit {0}
-IsCourseOf o (e ∷ es) = core.IsEnabled o.opening (replay o es) e × IsCourseOf o es
+IsCourseOf o (e ∷ es) = Follows o.opening (replay o es) e × IsCourseOf o es
 
 -- the state of a run as it is from that opening
 abbrev pub seen_from : Origin → World → World
@@ -215,11 +221,8 @@ IsView x y = (y ≡ x) ⊎ ((o : Origin) × IsSeenFrom o x y)
 abbrev pub InEach : World → (World → Type 0) → Type 0
 InEach x P = (y : World) → IsView x y → P y
 
--- An event follows in the core; and one that ends a change of the tree names the leaves that leave
--- and come.
-pub record CanFollow (x : World) (e : Event) : Type 0 where
-  pub enabled : core.IsEnabled x.opening x.now e
-  pub names : NamesItsChange x.now.machine.whole.parts e.deed
+abbrev pub CanFollow : World → Event → Type 0
+CanFollow x e = Follows x.opening x.now e
 
 -- The event may happen: in a run over the backing device alone as its state is, and else from each
 -- opening of the core from which the run so far is one. Of what a device that tells nothing holds,

@@ -4,7 +4,8 @@ ghost use Rattle.bc_disk.specs.declared.geometry.Geometry.{Geometry};
 ghost use Rattle.bc_inner.specs.Inner.{Inner};
 ghost use Rattle.bc_key.specs.declared.key.Key.{Key};
 ghost use Rattle.bc_plan.specs.Parent.{TakesSet};
-ghost use Rattle.bc_plan.specs.Write.{IsUnwrittenInner};
+ghost use Rattle.bc_node.specs.Leaf.{Leaf};
+ghost use Rattle.bc_plan.specs.Write.{IsUnwritten, IsUnwrittenInner};
 ghost use Rattle.bc_tree.specs.Append.{CanAppend};
 ghost use Rattle.bc_tree.specs.Needs.{has_room};
 ghost use Rattle.bc_tree.specs.Plan.{Fits, IsOfSpine};
@@ -312,6 +313,210 @@ fn leaves_move(rt: HostRuntime) -> Result<(), Fail> {
         for (found, place) in root.children().iter().zip(&wanted) {
             assert_eq!(rt; found.ptrs[0], *place);
         }
+    }
+    Ok(())
+}
+
+/// Whether the second leaf that comes isn't written yet, and can be.
+fn is_unwritten(second: &Option<Leaf>, g: &Geometry, sectors: u64) -> bool
+    ensures { IsTrue result → (leaf : Leaf) × (second.now ≡ Some leaf)
+        × IsUnwritten g.now sectors leaf }
+{
+    if let Some(leaf) = second {
+        let end = leaf.ptr().offset + u64::from(g.node_sectors);
+        if leaf.taken() == 0 && !leaf.is_loaded() && !leaf.is_full(g) && end <= sectors {
+            return true;
+        }
+    }
+    false
+}
+
+/// Writes the second leaf that comes.
+fn write_second(
+    rt: &impl Abort,
+    spine: &Spine,
+    plan: &mut Plan,
+    disk: &mut MemDisk,
+    buffer: &mut [u8],
+)
+    requires { Fits spine.now plan.old }
+    ensures { Fits spine.now plan.new }
+{
+    let g = *spine.geometry();
+    assert!(rt; buffer.len() == 512 * usize::from(g.node_sectors));
+    let can = is_unwritten(&plan.second, &g, disk.sectors());
+    assert!(rt; can);
+    if can {
+        assert!(rt; write_node(plan, NewNode::Second, disk, &g, buffer).is_ok());
+    }
+}
+
+/// Moves the leaf of a sector, and the root, which takes no set yet.
+fn move_there(
+    rt: &impl Abort,
+    alloc: Global,
+    spine: &mut Spine,
+    sector: u64,
+    to: &[Ptr],
+    disk: &mut MemDisk,
+    buffer: &mut [u8],
+) -> Result<(), Fail> {
+    let mut plan = plan(rt, alloc, spine, sector, to)?;
+    write_leaf(rt, spine, &mut plan, disk, buffer);
+    write_above(rt, spine, &mut plan, disk, buffer);
+    let _ = spine.install(plan);
+    Ok(())
+}
+
+/// Cuts the leaf of a sector in two, by a further set of the root.
+fn cut_there(
+    rt: &impl Abort,
+    alloc: Global,
+    spine: &mut Spine,
+    sector: u64,
+    to: &[Ptr],
+    disk: &mut MemDisk,
+    buffer: &mut [u8],
+) -> Result<(), Fail> {
+    let mut plan = cut(rt, alloc, spine, sector, to)?;
+    write_leaf(rt, spine, &mut plan, disk, buffer);
+    write_second(rt, spine, &mut plan, disk, buffer);
+    write_set(rt, spine, &plan, disk, buffer);
+    let new = spine.install(plan);
+    assert!(rt; new.second.is_some());
+    Ok(())
+}
+
+/// Joins the leaves of two sectors, by a further set of the root.
+fn join_there(
+    rt: &impl Abort,
+    alloc: Global,
+    spine: &mut Spine,
+    sectors: (u64, u64),
+    to: &[Ptr],
+    disk: &mut MemDisk,
+    buffer: &mut [u8],
+) -> Result<(), Fail> {
+    let mut plan = join(rt, alloc, spine, sectors.0, sectors.1, to)?;
+    write_leaf(rt, spine, &mut plan, disk, buffer);
+    write_set(rt, spine, &plan, disk, buffer);
+    let new = spine.install(plan);
+    assert!(rt; new.second.is_none());
+    Ok(())
+}
+
+/// Whether the leaves begin at these sectors, one behind the other, and stand at these places.
+fn are_leaves(spine: &Spine, wanted: &[(u64, Ptr)]) -> bool {
+    if spine.len() != wanted.len() {
+        return false;
+    }
+    for (i, want) in wanted.iter().enumerate() {
+        let range = spine.leaf(i);
+        if (range.from, range.ptr) != *want {
+            return false;
+        }
+    }
+    true
+}
+
+/// Whether the children end at these sectors, one behind the other, and stand at these places.
+fn are_children(children: &[Key], wanted: &[(u64, Ptr)]) -> bool {
+    if children.len() != wanted.len() {
+        return false;
+    }
+    for (child, want) in children.iter().zip(wanted) {
+        if (child.end, child.ptrs[0]) != *want {
+            return false;
+        }
+    }
+    true
+}
+
+/// Whether the root at a place of the device has these children there.
+fn has_root(
+    rt: &impl Abort,
+    alloc: Global,
+    disk: &mut MemDisk,
+    place: u64,
+    wanted: &[(u64, Ptr)],
+) -> bool {
+    let key = child(2_048, place);
+    let g = device();
+    assert!(rt; key.count > 0);
+    assert!(rt; key.ptrs[0].offset + u64::from(g.node_sectors) <= disk.sectors());
+    match Inner::load(alloc, disk, &g, &key, 1, 0) {
+        Ok(root) => are_children(root.children(), wanted),
+        Err(_) => false,
+    }
+}
+
+#[test]
+fn leaves_are_cut_and_joined(rt: HostRuntime) -> Result<(), Fail> {
+    let alloc = rt.alloc();
+    let mut disk = MemDisk::new(alloc, vec![in alloc; 0u8; 512 * 8_192]?, 1_000)?;
+    let mut buffer = vec![in alloc; 0u8; 512 * 64]?;
+    let mut spine = tree(alloc, &device())?;
+    let both = [at(30), at(31)];
+    move_there(&rt, alloc, &mut spine, 600, &both, &mut disk, &mut buffer)?;
+    // One leaf gives way to two.
+    let two = [at(32), at(33)];
+    cut_there(&rt, alloc, &mut spine, 1_024, &two, &mut disk, &mut buffer)?;
+    let four = [(0, at(9)), (512, at(30)), (1_024, at(32)), (1_280, at(33))];
+    assert!(rt; are_leaves(&spine, &four));
+    // The first of them becomes one with the leaf before it.
+    let sectors = (512, 1_024);
+    join_there(
+        &rt,
+        alloc,
+        &mut spine,
+        sectors,
+        &[at(34)],
+        &mut disk,
+        &mut buffer,
+    )?;
+    assert!(rt; are_leaves(&spine, &[(0, at(9)), (512, at(34)), (1_280, at(33))]));
+    assert_eq!(rt; (spine.root().ptr(), spine.root().taken()), (at(31), 3));
+    // What stands on the device.
+    let wanted = [(512, at(9)), (1_280, at(34)), (2_048, at(33))];
+    assert!(rt; has_root(&rt, alloc, &mut disk, 31, &wanted));
+    Ok(())
+}
+
+/// Splits the last leaf of a tree until there are so many leaves.
+fn grow(rt: &impl Abort, alloc: Global, spine: &mut Spine, count: u64) -> Result<(), Fail> {
+    let to = [at(20), at(21), at(22), at(23), at(24)];
+    for k in 1..count {
+        let plan = cut(rt, alloc, spine, (k - 1).saturating_mul(256), &to)?;
+        let _ = spine.install(plan);
+    }
+    Ok(())
+}
+
+/// Notes a leaf's number, and whether its first sector and its last one lead to it and no earlier
+/// leaf has that number.
+fn is_found(spine: &Spine, i: usize, seen: &mut Vec<bool>) -> bool {
+    if i >= spine.len() {
+        return false;
+    }
+    let leaf = spine.leaf(i);
+    let end = spine.root().end();
+    let number = leaf.number as usize;
+    if leaf.from >= leaf.end || leaf.end > end || number >= seen.len() || seen[number] {
+        return false;
+    }
+    seen[number] = true;
+    spine.path(leaf.from) == leaf.number && spine.path(leaf.end - 1) == leaf.number
+}
+
+#[test]
+fn each_of_1100_leaves_is_found(rt: HostRuntime) -> Result<(), Fail> {
+    let alloc = rt.alloc();
+    let mut spine = small_tree(alloc, &device())?;
+    grow(&rt, alloc, &mut spine, 1_100)?;
+    assert_eq!(rt; spine.len(), 1_100);
+    let mut seen = vec![in alloc; false; 2_000]?;
+    for i in 0..1_100 {
+        assert!(rt; is_found(&spine, i, &mut seen));
     }
     Ok(())
 }
