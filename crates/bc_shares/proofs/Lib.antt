@@ -1,5 +1,5 @@
-mod Acts
-mod Nodes
-mod Parts
-mod Rows
+pub mod Acts
+pub mod Nodes
+pub mod Parts
+pub mod Rows
 pub mod Law

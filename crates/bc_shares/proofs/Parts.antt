@@ -340,7 +340,7 @@ parts_frame st apart e on off = record {
 }
 
 -- keys that come in
-keyed_parts : (p : parts.State) (slot : ℕ) (keys : List Key)
+pub keyed_parts : (p : parts.State) (slot : ℕ) (keys : List Key)
     → SameParts p (parts_of p (inserted slot keys))
 keyed_parts p slot [] = same_parts p
 keyed_parts p slot (key ∷ keys) =

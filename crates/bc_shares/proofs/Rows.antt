@@ -7,7 +7,7 @@ use Rattle.bc_data.specs.Data as flow
 use Rattle.bc_leaves.specs.Parts.{leaf_owner, inner_owner}
 use Rattle.bc_leaves.specs.After.{has}
 use Rattle.bc_whole.specs.State as whole
-use Rattle.bc_known.specs.Acts.{State, Act, Alone, WriteCache, FailCache, CacheBarrier, Seal, Take, LetGo, ReadyChain}
+use Rattle.bc_known.specs.Acts.{State, Act, Alone, WriteCache, FailCache, CacheBarrier, Seal, Take, LetGo, ReadyChain, Install}
 use Rattle.bc_events.specs.Acts.{acts_of, is_exclusive, route_of, list_of, root_of, chain_of, claimed, pinned, let_go, taken, listed, read_for, begun, root_beginning, marked, failed}
 use Rattle.bc_events.specs.Writes.{map_some, beginning, with_beginning, write_of, set_in, draft_leaf, draft_inner}
 use Rattle.bc_events.specs.Run.{acts_or_none}
@@ -31,7 +31,7 @@ use Rattle.bc_shares.proofs.Acts.{AllActs, journal_act, buckets_act}
 use Rattle.bc_shares.proofs.Parts.{leaf_write, leaf_fault, leaf_act, spine_write, spine_act}
 
 -- these acts leave a share alone
-abbrev Off : (Act → Bool) → List Act → Type 0
+abbrev pub Off : (Act → Bool) → List Act → Type 0
 Off f acts = AllActs (λ act. f act ≡ false) acts
 
 -- Writes of the cache device, with the change of the tree that some begin.
@@ -65,7 +65,7 @@ pub record IsCalm (f : Act → Bool) : Type 0 where
 
 -- the rows of deeds that bring no keys, name no entry, write nothing to the cache device and
 -- install nothing
-abbrev IsCalmDeed : Deed → Type 0
+abbrev pub IsCalmDeed : Deed → Type 0
 IsCalmDeed (deed.InsertWrite leaf keys of first values) = ⊥
 IsCalmDeed (deed.Insert leaf keys form) = ⊥
 IsCalmDeed (deed.Settle leaf candidate keys) = ⊥
@@ -126,7 +126,7 @@ module _ (f : Act → Bool) (calm : IsCalm f) where
   all_marked mark.End = (calm.alone (flow.Shelve book.End), tt)
   all_marked mark.Drop = (calm.alone (flow.Shelve book.Drop), tt)
 
-  calm_row : (w : whole.Opening) (st : State) (i : ℕ) (d : Deed) → IsCalmDeed d
+  pub calm_row : (w : whole.Opening) (st : State) (i : ℕ) (d : Deed) → IsCalmDeed d
       → Off f (acts_or_none (acts_of w st i d))
   calm_row w st i (deed.InsertWrite leaf keys of first values) c = absurd c
   calm_row w st i (deed.Insert leaf keys form) c = absurd c
@@ -164,7 +164,7 @@ module _ (f : Act → Bool) (calm : IsCalm f) where
   calm_row w st i (deed.LineFrom of) c = tt
   calm_row w st i (deed.LineDone of) c = tt
 
-  calm_failed : (w : whole.Opening) (st : State) (x : Failure) → IsOtherFault x
+  pub calm_failed : (w : whole.Opening) (st : State) (x : Failure) → IsOtherFault x
       → Off f (acts_or_none (failed w st x))
   calm_failed w st (failure.CacheWrite at what values) c = absurd c
   calm_failed w st (failure.Read device) c = (calm.alone (flow.Fail flow.ReadFault), tt)
@@ -412,3 +412,53 @@ spine_row w st i (deed.CacheWrite at what values) off = written_by spine_act st 
     (λ x is. spine_written w st what at values x off is)
 spine_row w st i (deed.DeviceFault x) off = spine_failed w st x off
 spine_row w st i d off = calm_row spine_act spine_calm w st i d tt
+
+-- ---- what installs nothing
+
+abbrev pub installs : Act → Bool
+installs (Install un steps) = true
+installs act = false
+
+installs_calm : IsCalm installs
+installs_calm = record {
+  alone = λ act. refl;
+  take = λ p b. refl;
+  let_go = λ b room. refl;
+  ready = λ room. refl;
+  barrier = refl;
+}
+
+installs_begins : (st : State) (what : Written) → BeginsOff installs st what
+installs_begins st (written.Parent inner change) = refl
+installs_begins st what = tt
+
+installs_sealed : (w : whole.Opening) (st : State) (last_seq : ℕ) (bucket : Option ℕ)
+    (rest : List ℕ) (root : Option NewRoot) (chain : Option NewChain)
+    → Off installs (begun bucket ++ (root_beginning st root
+    ++ (Seal last_seq rest (root_of root) (chain_of w st chain) ∷ [])))
+installs_sealed w st last_seq None rest None chain = (refl, tt)
+installs_sealed w st last_seq None rest (Some x) chain = (refl, (refl, tt))
+installs_sealed w st last_seq (Some b) rest None chain = (refl, (refl, tt))
+installs_sealed w st last_seq (Some b) rest (Some x) chain = (refl, (refl, (refl, tt)))
+
+installs_failed : (w : whole.Opening) (st : State) (x : Failure)
+    → Off installs (acts_or_none (failed w st x))
+installs_failed w st (failure.CacheWrite at what values) = written_by installs st what
+    (λ x. FailCache x values) (installs_begins st what) (write_of w st what at values)
+    (λ x is. refl)
+installs_failed w st x = calm_failed installs installs_calm w st x tt
+
+pub no_install_row : (w : whole.Opening) (st : State) (i : ℕ) (d : Deed) → IsNoInstall d
+    → Off installs (acts_or_none (acts_of w st i d))
+no_install_row w st i (deed.InsertWrite leaf keys of first values) there = (refl, tt)
+no_install_row w st i (deed.Insert leaf keys form) there = (refl, tt)
+no_install_row w st i (deed.Settle leaf candidate keys) there = (refl, tt)
+no_install_row w st i (deed.Seal last_seq bucket rest new_root chain) there =
+    installs_sealed w st last_seq bucket rest.items new_root chain
+no_install_row w st i deed.Sealed there = (refl, tt)
+no_install_row w st i (deed.Install change come gone) there = absurd there
+no_install_row w st i (deed.CacheWrite at what values) there = written_by installs st what
+    (λ x. WriteCache x values) (installs_begins st what) (write_of w st what at values)
+    (λ x is. refl)
+no_install_row w st i (deed.DeviceFault x) there = installs_failed w st x
+no_install_row w st i d there = calm_row installs installs_calm w st i d tt
