@@ -3,7 +3,7 @@ use Rattle.std.specs.Prelude.{ℕ, List, map, slice_get, Option, Some, None}
 use Rattle.bc_model.specs.Sector.{Value}
 use Rattle.bc_model.specs.declared.history.Entry.{Entry}
 use Rattle.bc_model.specs.declared.history.Entry.TheVariants as entry
-use Rattle.bc_events.specs.declared.event.Line.{Line}
+use Rattle.bc_events.specs.declared.event.LineNumber.{LineNumber}
 use Rattle.bc_events.specs.declared.event.Written.TheVariants as written
 use Rattle.bc_events.specs.declared.event.Failure.TheVariants as failure
 use Rattle.bc_events.specs.declared.event.Deed.{Deed}
@@ -32,7 +32,7 @@ kept_of p = record {
   others = p.others.items;
 }
 
-abbrev pub line : ℕ → ℕ → Line
+abbrev pub line : ℕ → ℕ → LineNumber
 line worker number = record { worker = worker; line = number }
 
 -- what the item at a place tells: each place that a pass has is there
@@ -53,7 +53,7 @@ deed_of_entry (entry.Durable worker number first count) =
 deed_of_entry x = deed.Release
 
 -- the line's write that failed, of which an entry has the values
-abbrev pub fault_of_entry : Line → Entry → Deed
+abbrev pub fault_of_entry : LineNumber → Entry → Deed
 fault_of_entry of (entry.Tried first values) =
     deed.DeviceFault (failure.BackingWrite first (Some of) values)
 fault_of_entry of x = deed.Release

@@ -3,7 +3,7 @@ use Rattle.std.specs.Prelude.{◌≡◌, ℕ, ◌+◌, ◌≤◌, List, [], ◌�
 use Rattle.std.specs.Prelude.{Option, Some, None, vec_capacity}
 use Rattle.bc_model.specs.declared.history.Entry.{Entry}
 use Rattle.bc_model.specs.Sector.{Value}
-use Rattle.bc_events.specs.declared.event.Line.{Line}
+use Rattle.bc_events.specs.declared.event.LineNumber.{LineNumber}
 use Rattle.bc_events.specs.declared.event.Failure.TheVariants as failure
 use Rattle.bc_events.specs.declared.event.Deed.{Deed}
 use Rattle.bc_events.specs.declared.event.Deed.TheVariants as deed
@@ -51,7 +51,7 @@ with_aside ks (aside.Deed x) = record ks { others = ks.others ++ x ∷ [] }
 abbrev pub kept_after : Kept → Told → Kept
 kept_after ks t = with_aside (with_entry ks t.entry) t.aside
 
-abbrev pub failed_write : ℕ → Option Line → List Value → Deed
+abbrev pub failed_write : ℕ → Option LineNumber → List Value → Deed
 failed_write first of values = deed.DeviceFault (failure.BackingWrite first of values)
 
 -- at these places the record tells the event, whatever is put behind it

@@ -1,7 +1,7 @@
 //! The events and the history of a run as they are kept: each value once.
 ghost use Rattle.std.specs.Prelude.{◌≡◌};
 
-use bc_events::event::{Deed, Line};
+use bc_events::event::{Deed, LineNumber};
 use bc_flight::claim::Share;
 use bc_keys::Keys;
 use bc_model::history::Entry;
@@ -43,7 +43,7 @@ pub enum Record {
     /// A line's write of the backing device failed, which its entry has as tried.
     LineFault {
         seat: u32,
-        of: Line,
+        of: LineNumber,
         entry: usize,
     },
     /// Keys of a line's write come into a leaf.
@@ -86,12 +86,12 @@ pub enum Record {
     /// A line begins.
     LineFrom {
         seat: u32,
-        of: Line,
+        of: LineNumber,
     },
     /// A line ends.
     LineDone {
         seat: u32,
-        of: Line,
+        of: LineNumber,
     },
     /// A rare deed, which is kept whole.
     Other {

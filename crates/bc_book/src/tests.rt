@@ -2,14 +2,16 @@
 use crate::book::Book;
 use bc_alloc::Purpose;
 use bc_disk::disk::Device;
-use bc_events::event::{Change, Deed, Event, Failure, Form, Line, MarkForm, UnpinKind, Written};
+use bc_events::event::{
+    Change, Deed, Event, Failure, Form, LineNumber, MarkForm, UnpinKind, Written,
+};
 use bc_flight::claim::Share;
 use bc_keys::Keys;
 use bc_model::values::Values;
 use std::alloc::{AllocError, Global};
 use std::test::Fail;
 
-const OF: Line = Line { worker: 1, line: 1 };
+const OF: LineNumber = LineNumber { worker: 1, line: 1 };
 
 // Puts a deed of seat 0.
 fn put(book: &mut Book, deed: Deed) -> Result<(), AllocError> {

@@ -6,7 +6,7 @@ ghost use Rattle.bc_book.specs.Pass.{event_by, deed_of_entry, read_of};
 ghost use Rattle.bc_book.specs.Told.{IsTold, failed_write};
 
 use crate::pass::{Insertion, Reading, Record};
-use bc_events::event::{Deed, Event, Failure, Line, Written};
+use bc_events::event::{Deed, Event, Failure, LineNumber, Written};
 use bc_keys::Keys;
 use bc_model::history::Entry;
 use bc_model::values::Values;
@@ -72,7 +72,13 @@ fn told_of_deed(seat: u32, deed: Deed, places: Places) -> Told
 }
 
 // A write of the backing device: a line's, or a copy of what the cache has.
-fn told_of_write(seat: u32, first: u64, of: Option<Line>, values: Values, places: Places) -> Told
+fn told_of_write(
+    seat: u32,
+    first: u64,
+    of: Option<LineNumber>,
+    values: Values,
+    places: Places,
+) -> Told
     ensures { IsTold places result (event_by seat (deed.BackingWrite first of values)) }
 {
     match of {
@@ -105,7 +111,7 @@ fn told_of_insertion(
     seat: u32,
     leaf: u32,
     keys: Keys,
-    of: Line,
+    of: LineNumber,
     first: u64,
     values: Values,
     places: Places,
@@ -134,7 +140,7 @@ fn told_of_insertion(
 }
 
 // An answer of a read.
-fn told_of_answer(seat: u32, of: Line, first: u64, values: Values, places: Places) -> Told
+fn told_of_answer(seat: u32, of: LineNumber, first: u64, values: Values, places: Places) -> Told
     ensures { IsTold places result (event_by seat (deed.Answer of first values)) }
 {
     let entry = Entry::Read {
@@ -147,7 +153,7 @@ fn told_of_answer(seat: u32, of: Line, first: u64, values: Values, places: Place
 }
 
 // A flush begins.
-fn told_of_flush_from(seat: u32, of: Line, places: Places) -> Told
+fn told_of_flush_from(seat: u32, of: LineNumber, places: Places) -> Told
     ensures { IsTold places result (event_by seat (deed.FlushFrom of)) }
 {
     let entry = Entry::FlushFrom {
@@ -158,7 +164,7 @@ fn told_of_flush_from(seat: u32, of: Line, places: Places) -> Told
 }
 
 // It is acknowledged.
-fn told_of_flush_done(seat: u32, of: Line, places: Places) -> Told
+fn told_of_flush_done(seat: u32, of: LineNumber, places: Places) -> Told
     ensures { IsTold places result (event_by seat (deed.FlushDone of)) }
 {
     let entry = Entry::FlushDone {
@@ -169,7 +175,7 @@ fn told_of_flush_done(seat: u32, of: Line, places: Places) -> Told
 }
 
 // A write is acknowledged.
-fn told_of_durable(seat: u32, of: Line, first: u64, count: u32, places: Places) -> Told
+fn told_of_durable(seat: u32, of: LineNumber, first: u64, count: u32, places: Places) -> Told
     ensures { IsTold places result (event_by seat (deed.Durable of first count)) }
 {
     let entry = Entry::Durable {
@@ -185,7 +191,7 @@ fn told_of_durable(seat: u32, of: Line, first: u64, count: u32, places: Places) 
 fn told_of_failed_write(
     seat: u32,
     first: u64,
-    of: Option<Line>,
+    of: Option<LineNumber>,
     values: Values,
     places: Places,
 ) -> Told
