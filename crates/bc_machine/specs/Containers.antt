@@ -24,7 +24,7 @@ use Rattle.bc_bucket.specs.declared.bucket.Mark.{Mark}
 use Rattle.bc_bucket.specs.declared.bucket.Mark.TheVariants as marks
 use Rattle.bc_journal.specs.declared.place.Numbers.{Numbers}
 use Rattle.bc_journal.specs.Journal.{Journal}
-use Rattle.bc_places.specs.Stands.{StandFor}
+use Rattle.bc_places.specs.Stands.{IsCutInto, StandFor}
 use Rattle.bc_shares.specs.Shares.{Shape, shape_of, JournalShare, BucketsShare, buckets_in, LeafShare, leaf_share}
 use Rattle.bc_machine.specs.declared.part.BucketsPart.{BucketsPart}
 
@@ -124,8 +124,9 @@ pub record IsBucketFor (opened : ℕ) (q : ℕ) (x : BucketsShare) (b : Bucket) 
   pub last_gc : b.last_gc ≡ x.last_gc q % 256
   pub mark : mark_of b.mark ≡ x.mark q
 
--- the records of all buckets, the lists, and the places in open buckets
+-- the records of all buckets, which the device is cut into, the lists, and the places in open buckets
 pub record AreBucketsOf (w : Opening) (k : Books) (p : BucketsPart) : Type 0 where
+  pub cut : IsCutInto p.buckets.size (length p.buckets.records) w
   pub records : (q : ℕ) → w.before + q < length p.buckets.records
       → IsBucketFor (w.flow.books.version q) q (buckets_in k) (bucket_of p.buckets (w.before + q))
   pub places : StandFor w.before p.buckets.size p.fill p.reserves k

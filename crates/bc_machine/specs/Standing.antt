@@ -236,6 +236,7 @@ buckets_stay : (p : BucketsPart) (x : World) (e : Event) → IsEnabled x e → H
 buckets_stay p x e on courses off = from_each x e
     (λ o st. AreBucketsOf o.opening.machine (books_of st.machine) p) on courses
     (λ o is course follows h. record {
+      cut = h.cut;
       records = λ q low. subst (λ (s : BucketsShare). IsBucketFor
           (o.opening.machine.flow.books.version q) q s (bucket_of p.buckets (o.opening.machine.before + q)))
           (sym (law_buckets o.opening (replay o x.log) e follows.enabled off).share) (h.records q low);
