@@ -1,0 +1,3 @@
+mod Keys
+mod Slots
+pub mod Law
