@@ -1,5 +1,5 @@
 -- A step between borrowing a part and returning it.
-use Rattle.std.proofs.Common.{◌≡◌, ℕ, Option, Some, None, ap, subst, sym}
+use Rattle.std.proofs.Common.{◌≡◌, ℕ, Option, Some, None, subst}
 use Rattle.bc_disk.specs.Disk.{DiskFacts}
 use Rattle.bc_parts.specs.Seat.{Holds}
 use Rattle.bc_seats.specs.Seats.{Waited, Committed}

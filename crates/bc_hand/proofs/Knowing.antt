@@ -1,5 +1,5 @@
 -- What a seat of the core knows of a state to which others have led the run.
-use Rattle.std.proofs.Common.{◌≡◌, ◌≢◌, inl, ℕ, ◌+◌, ◌<◌, ◌≤◌, Bool, true, false, List, [], ◌∷◌, ◌++◌, Option, Some, None, Ok, refl, sym, ap, ◌∙◌, subst, arith}
+use Rattle.std.proofs.Common.{◌≡◌, ◌≢◌, inl, ℕ, ◌<◌, ◌≤◌, Bool, true, false, List, [], ◌∷◌, ◌++◌, Option, Some, None, Ok, refl, sym, ap, ◌∙◌, subst, arith}
 use Rattle.std.specs.Prelude.{◌==◌, fold, filter, All, Result, Err, OnOk, OnErr, length, if◌then◌else◌}
 use Rattle.std.proofs.lemmas.Bool.{lt-ltb}
 use Rattle.std.proofs.lemmas.List.{append-nil}
@@ -8,10 +8,9 @@ use Rattle.std.proofs.lemmas.List.Elements.{filter-append, All-head, All-tail}
 use Rattle.bc_disk.specs.Disk.{DiskFacts}
 use Rattle.bc_disk.specs.declared.disk.Device.{Device}
 use Rattle.bc_parts.specs.declared.machine.Machine.{Ghosts}
-use Rattle.bc_parts.specs.Seat.{SeatView, Run, Holds}
-use Rattle.bc_parts.specs.Machine.{IsRun}
+use Rattle.bc_parts.specs.Seat.{SeatView, Run}
 use Rattle.bc_parts.proofs.Interference.{Frame}
-use Rattle.bc_seats.specs.Seats.{own_events, IsSeat, Foreign, Since, Waited, Committed, Kept}
+use Rattle.bc_seats.specs.Seats.{own_events, IsSeat, Foreign, Since, Waited, Committed}
 use Rattle.bc_seats.proofs.Knowing.{still, lasts, held}
 use Rattle.bc_events.specs.Columns.{halt_of, verdict_of, verdict_by, is_late}
 use Rattle.bc_events.specs.Run.{Opening, line_after}
@@ -22,10 +21,10 @@ use Rattle.bc_events.specs.declared.event.Event.{Event}
 use Rattle.bc_book.specs.declared.book.Book.{Book}
 use Rattle.bc_machine.specs.declared.machine.Core.{Core}
 use Rattle.bc_machine.specs.declared.part.CorePart.{CorePart}
-use Rattle.bc_machine.specs.World.{World, Origin, IsSeenFrom, data_of, is_plain, is_told, are_plain, opening, after, IsView, InEach, IsEnabled, StandsAs}
+use Rattle.bc_machine.specs.World.{World, Origin, IsSeenFrom, data_of, is_plain, are_plain, opening, after, IsView, InEach, IsEnabled}
 use Rattle.bc_machine.specs.Frame.{by_test}
 use Rattle.bc_machine.specs.Standing.{frames, in_each}
-use Rattle.bc_machine.specs.Note.{Note, no_note, note_of, note_by, note_after, IsFirmer}
+use Rattle.bc_machine.specs.Note.{no_note, note_of, note_by, note_after, IsFirmer}
 use Rattle.bc_machine.specs.Bare.{IsBareRun}
 use Rattle.bc_machine.proofs.Noting.{own_note, other_event, firmer_is, late_events, halted_events}
 use Rattle.bc_machine.proofs.Baring.{bare_event}
@@ -255,7 +254,7 @@ module _ {C B : Type 0} (cache_facts : C → DiskFacts) (backing_facts : B → D
       → IsFirmer (note cache_facts backing_facts v) (note cache_facts backing_facts w)
   note_waited v w seat waited = firmer_is (note cache_facts backing_facts v) _ (note_waited_is v w waited)
 
-  plain_world : (v : View) → (world cache_facts backing_facts v).opening.machine.flow.plain
+  pub plain_world : (v : View) → (world cache_facts backing_facts v).opening.machine.flow.plain
       ≡ are_plain cache_facts backing_facts v.run.start
   plain_world v = ap (λ (o : Opening). o.machine.flow.plain) (opening_stays (opened v) v.seen)
 

@@ -1,15 +1,12 @@
 -- Parts in hand, taken, lent and given back.
-use Rattle.std.proofs.Common.{◌≡◌, ◌≢◌, ◌⊎◌, inl, inr, ℕ, ◌<◌, ◌≤◌, Bool, true, false, List, [], ◌∷◌, Option, Some, None, refl, sym, ap, ◌∙◌, subst, arith}
+use Rattle.std.proofs.Common.{◌≡◌, ◌≢◌, inl, inr, ℕ, ◌<◌, ◌≤◌, Bool, false, List, [], ◌∷◌, Option, Some, None, refl, sym, ap, ◌∙◌, subst, arith}
 use Rattle.std.specs.Prelude.{IfSome, ◌==◌, not, if◌then◌else◌}
 use Rattle.bc_disk.specs.Disk.{DiskFacts}
 use Rattle.bc_flight.specs.Flight.{InFlight}
-use Rattle.bc_tree.specs.Spine.{Spine}
-use Rattle.bc_journal.specs.Journal.{Journal}
-use Rattle.bc_parts.specs.Seat.{SeatView, PartsView, Run, Holds, without}
+use Rattle.bc_parts.specs.Seat.{PartsView, Holds, without}
 use Rattle.bc_seats.specs.Seats.{IsSeat, Since, Waited, Kept}
 use Rattle.bc_seats.proofs.Knowing.{held}
 use Rattle.bc_machine.specs.declared.part.BackingPart.{BackingPart}
-use Rattle.bc_machine.specs.declared.part.BucketsPart.{BucketsPart}
 use Rattle.bc_machine.specs.declared.part.CorePart.{CorePart}
 use Rattle.bc_machine.specs.declared.part.CorePart.TheVariants as part
 use Rattle.bc_machine.specs.World.{World, StandsAs, IsFlight, IsBacking}
@@ -49,25 +46,25 @@ first_leaves : (o : Option LeafHand) (l : LeafHand) (ks : List ℕ) → o ≡ So
 first_leaves None l ks is = absurd (cc)
 first_leaves (Some x) l ks is = let e : x ≡ l = cc in inl (ap (λ (y : LeafHand). y.part) (sym e))
 
-not_behind : {A : Type 0} (n k : ℕ) (o : Option A) (ks : List ℕ) → k ≢ n → (Holds ks k → ⊥)
+pub not_behind : {A : Type 0} (n k : ℕ) (o : Option A) (ks : List ℕ) → k ≢ n → (Holds ks k → ⊥)
     → Holds (with_part n o ks) k → ⊥
 not_behind n k None ks ne off h = off h
 not_behind n k (Some a) ks ne off (inl is) = ne is
 not_behind n k (Some a) ks ne off (inr h) = off h
 
-not_behind_leaves : (k : ℕ) (o : Option LeafHand) (ks : List ℕ) → IfSome o (λ l. 6 ≤ l.part) → k < 6
+pub not_behind_leaves : (k : ℕ) (o : Option LeafHand) (ks : List ℕ) → IfSome o (λ l. 6 ≤ l.part) → k < 6
     → (Holds ks k → ⊥) → Holds (with_leaves o ks) k → ⊥
 not_behind_leaves k None ks low few off h = off h
 not_behind_leaves k (Some l) ks low few off (inl is) = absurd (omega arith)
 not_behind_leaves k (Some l) ks low few off (inr h) = off h
 
 -- what is left out is another number
-passes : {A : Type 0} (n k : ℕ) (o : Option A) (ks : List ℕ) → (n == k) ≡ false
+pub passes : {A : Type 0} (n k : ℕ) (o : Option A) (ks : List ℕ) → (n == k) ≡ false
     → without k (with_part n o ks) ≡ with_part n o (without k ks)
 passes n k None ks off = refl
 passes n k (Some a) ks off = ap (λ b. if not b then n ∷ without k ks else without k ks) off
 
-passes_leaves : (k : ℕ) (o : Option LeafHand) (ks : List ℕ) → IfSome o (λ l. 6 ≤ l.part) → k < 6
+pub passes_leaves : (k : ℕ) (o : Option LeafHand) (ks : List ℕ) → IfSome o (λ l. 6 ≤ l.part) → k < 6
     → without k (with_leaves o ks) ≡ with_leaves o (without k ks)
 passes_leaves k None ks low few = refl
 passes_leaves k (Some l) ks low few =
@@ -205,7 +202,7 @@ module _ {C B : Type 0} (cache_facts : C → DiskFacts) (backing_facts : B → D
   }
 
   -- the leaves in hand are a part of leaves
-  leaves_high : (h : Hand C B) (x : World) → StandIn cache_facts backing_facts h x
+  pub leaves_high : (h : Hand C B) (x : World) → StandIn cache_facts backing_facts h x
       → IfSome h.leaves (λ l. 6 ≤ l.part)
   leaves_high h x stand = if_some h.leaves (λ l is on. on.0) stand.leaves
 

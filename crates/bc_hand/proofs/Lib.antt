@@ -1,3 +1,4 @@
 pub mod Knowing
 pub mod Lending
+pub mod Lends
 pub mod Between

@@ -2,20 +2,17 @@
 use Rattle.std.specs.Prelude.{◌≡◌, ℕ, ◌-◌, ◌<◌, ◌≤◌, Bool, true, false, List, [], ◌∷◌, length, Option, Some, None, is_some, IfSome, Result, Ok, Err}
 use Rattle.bc_disk.specs.Disk.{DiskFacts}
 use Rattle.bc_disk.specs.declared.disk.Device.{Device}
-use Rattle.bc_flight.specs.Flight.{InFlight}
 use Rattle.bc_parts.specs.declared.machine.Machine.{Ghosts}
 use Rattle.bc_parts.specs.Seat.{SeatView, PartsView, Holds}
-use Rattle.bc_seats.specs.Seats.{state_seen, own_events, IsSeat, Since, Waited, Committed, Kept, Went}
+use Rattle.bc_seats.specs.Seats.{state_seen, own_events, IsSeat, Since, Waited, Committed}
 use Rattle.bc_events.specs.Columns.{halt_of, verdict_of, is_late}
-use Rattle.bc_events.specs.declared.event.LineNumber.{LineNumber}
 use Rattle.bc_events.specs.declared.event.Deed.{Deed}
 use Rattle.bc_events.specs.declared.event.Event.{Event}
 use Rattle.bc_book.specs.declared.book.Book.{Book}
 use Rattle.bc_machine.specs.declared.machine.Core.{Core}
-use Rattle.bc_machine.specs.declared.part.BackingPart.{BackingPart}
 use Rattle.bc_machine.specs.declared.part.CorePart.{CorePart}
 use Rattle.bc_machine.specs.World.{World, Origin, IsSeenFrom, data_of, is_plain, is_told, are_plain, opening, after, IsView, InEach, CanFollow, IsEnabled, changes, StandsAs, IsSpine, AreLeaves, IsFlight, AreBuckets, IsJournal, IsCache, IsBacking}
-use Rattle.bc_machine.specs.Note.{Note, note_of, note_by, note_after, IsFirmer}
+use Rattle.bc_machine.specs.Note.{Note, note_of, note_by, IsFirmer}
 use Rattle.bc_machine.specs.Bare.{IsBareRun}
 use Rattle.bc_hand.specs.declared.hand.Hand.{Hand}
 use Rattle.bc_hand.specs.declared.hand.LeafHand.{LeafHand}
@@ -54,11 +51,39 @@ empty = record {
   backing = None;
 }
 
--- none of the parts that are taken after the claims is in hand
+-- None of the parts is in hand that are taken after the spine, after leaves, after the claims, and so
+-- on.
+pub record HasNoneBehindSpine {C B : Type 0} (h : Hand C B) : Type 0 where
+  pub leaves : h.leaves ≡ None
+  pub flight : h.flight ≡ None
+  pub buckets : h.buckets ≡ None
+  pub journal : h.journal ≡ None
+  pub cache : h.cache ≡ None
+  pub backing : h.backing ≡ None
+
+pub record HasNoneBehindLeaves {C B : Type 0} (h : Hand C B) : Type 0 where
+  pub flight : h.flight ≡ None
+  pub buckets : h.buckets ≡ None
+  pub journal : h.journal ≡ None
+  pub cache : h.cache ≡ None
+  pub backing : h.backing ≡ None
+
 pub record HasNoneBehindFlight {C B : Type 0} (h : Hand C B) : Type 0 where
   pub buckets : h.buckets ≡ None
   pub journal : h.journal ≡ None
   pub cache : h.cache ≡ None
+  pub backing : h.backing ≡ None
+
+pub record HasNoneBehindBuckets {C B : Type 0} (h : Hand C B) : Type 0 where
+  pub journal : h.journal ≡ None
+  pub cache : h.cache ≡ None
+  pub backing : h.backing ≡ None
+
+pub record HasNoneBehindJournal {C B : Type 0} (h : Hand C B) : Type 0 where
+  pub cache : h.cache ≡ None
+  pub backing : h.backing ≡ None
+
+pub record HasNoneBehindCache {C B : Type 0} (h : Hand C B) : Type 0 where
   pub backing : h.backing ≡ None
 
 -- which parts are in hand

@@ -4,4 +4,5 @@
 pub mod error;
 pub mod hand;
 pub mod laws;
+pub mod lend;
 pub mod seat;
