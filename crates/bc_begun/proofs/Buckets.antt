@@ -1,7 +1,7 @@
 -- The records of buckets and the lists, as the books have them.
-use Rattle.std.proofs.Common.{◌≡◌, ℕ, ◌+◌, ◌%◌, ◌<◌, ◌≤◌, Bool, true, false, List, [], ◌∷◌, length, Option, Some, None, refl, sym, ap, ◌∙◌, subst, arith}
+use Rattle.std.proofs.Common.{◌≡◌, ℕ, ◌+◌, ◌*◌, ◌%◌, ◌<◌, ◌≤◌, Bool, true, false, List, [], ◌∷◌, length, Option, Some, None, refl, sym, ap, ◌∙◌, subst, arith}
 use Rattle.std.specs.Prelude.{if◌then◌else◌, slice_index_or, sum_by}
-use Rattle.std.proofs.Math.Nat.{add-mod_right}
+use Rattle.std.proofs.Math.Nat.{add-mod_right, mul_comm}
 use Rattle.bc_alloc.specs.Reserve.{Reserve, no_reserve, times}
 use Rattle.bc_alloc.specs.Reserves.{IsInOrder, Reserves, list_of}
 use Rattle.bc_alloc.specs.declared.purpose.Purpose as lists
@@ -31,7 +31,7 @@ use Rattle.bc_model.proofs.Cases.{by_test}
 use Rattle.bc_opening.specs.Read.{version_at}
 use Rattle.bc_opening.proofs.Pointers.{byte_of, version_is}
 use Rattle.bc_events.specs.Acts.{purpose_of}
-use Rattle.bc_places.specs.Stands.{AreJust, StandFor}
+use Rattle.bc_places.specs.Stands.{AreJust, IsCutInto, StandFor}
 use Rattle.bc_places.proofs.Others.{law_begins}
 use Rattle.bc_shares.specs.Shares.{buckets_in}
 use Rattle.bc_whole.specs.State.{Opening}
@@ -196,6 +196,23 @@ module _ (p : Pair) (v : View) (layout : Layout) (x : Parts) (w : Opening) (st :
   before : w.before ≡ g.first_bucket
   before = h.opening.before
 
+  pub cut : IsCutInto x.buckets.size (length x.buckets.records) w
+  cut =
+      let known = h.read.buckets in
+      let own = h.opening.layout_is in record {
+        first = λ q. ap (λ (l : Layout). l.first q) own ∙ h.divided.first q
+            ∙ mul_comm g.bucket (g.first_bucket + q)
+            ∙ ap (λ n. (g.first_bucket + q) * n) (sym known.size)
+            ∙ ap (λ n. (n + q) * x.buckets.size) (sym before);
+        sectors = ap (λ (l : Layout). l.bucket_sectors) own ∙ h.divided.bucket_sectors
+            ∙ sym known.size;
+        buckets =
+            let many = known.each in
+            let first = before in
+            let behind = ap (λ (l : Layout). l.buckets) own ∙ h.divided.buckets in
+            let within = g.journal_within in omega (arith, many, first, behind, within);
+      }
+
   list_just : (r : IsInOrder x.reserves) (p : lists.Purpose) → AreJust w.before (list_of p x.reserves).buckets
       (λ q. w.flow.books.listed q ≡ Some (purpose_of p))
   list_just order p = subst (λ n. AreJust n (list_of p x.reserves).buckets
@@ -211,6 +228,8 @@ pub law_buckets : LawBuckets
 law_buckets p v layout x w st b h bytes same_buckets same_reserves none =
     let g = v.geometry in
     let order = subst (λ (r : Reserves). IsInOrder r) same_reserves b.order in record {
+      cut = subst (λ (bs : Buckets). IsCutInto bs.size (length bs.records) w) (sym same_buckets)
+          (cut p v layout x w st h);
       records = λ q inside. subst (λ (bs : Buckets). IsBucketFor (w.flow.books.version q) q
           (buckets_in (opened w.flow.books)) (bucket_of bs (w.before + q))) (sym same_buckets)
           (subst (λ n. IsBucketFor (w.flow.books.version q) q (buckets_in (opened w.flow.books))
