@@ -1,3 +1,6 @@
 pub mod Spine
 pub mod Buckets
 pub mod Journal
+pub mod Said
+pub mod Order
+pub mod Leaves

@@ -133,7 +133,7 @@ module _ (p : Pair) (v : View) (layout : Layout) (x : Parts) (w : Opening) (st :
   in_bucket at ptr is = sym (h.opening.books.bucket ptr.offset
       ∙ ap (λ (q : Ptr). counted g (bucket_at g q.offset)) is)
 
-  tree_leaf : (l : LeafRange) (k : ℕ) (n : Node) → node_at (leaf_nodes r.nodes) k ≡ Some n → IsRangeOf n l
+  pub tree_leaf : (l : LeafRange) (k : ℕ) (n : Node) → node_at (leaf_nodes r.nodes) k ≡ Some n → IsRangeOf n l
       → IsTreeLeaf w l.from l.end l.ptr (shape_of (st.leaves k))
   tree_leaf l k n here range = subst (λ (y : parts.Leaf). IsTreeLeaf w l.from l.end l.ptr (shape_of y))
       (sym (h.opening.parts.leaves k ∙ ap (λ o. leaf_of g o (waiting_at x.pending k)) here)) (record {

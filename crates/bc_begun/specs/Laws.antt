@@ -1,18 +1,21 @@
 -- What the parts of a pair that was read stand for, as a run begins.
-use Rattle.std.specs.Prelude.{◌≡◌, ℕ, []}
+use Rattle.std.specs.Prelude.{◌≡◌, ℕ, ◌<◌, List, [], Some, slice_index_or}
 use Rattle.bc_books.specs.Books.{opened}
+use Rattle.bc_cache.specs.Slots.{NodeCache}
 use Rattle.bc_chosen.specs.Parts.{Parts}
+use Rattle.bc_disk.specs.Disk.{DiskFacts}
 use Rattle.bc_entries.specs.Journal.{Journal as Read}
 use Rattle.bc_events.specs.Run.{Opening, start}
 use Rattle.bc_image.specs.Pair.{Pair}
 use Rattle.bc_image.specs.Reading.{View}
 use Rattle.bc_journal.specs.Journal.{Journal}
 use Rattle.bc_leaves.specs.Parts as parts
-use Rattle.bc_machine.specs.Containers.{AreBucketsOf, IsJournalOf, IsSpineOf}
+use Rattle.bc_machine.specs.Containers.{AreBucketsOf, AreLeavesOf, IsJournalOf, IsSpineOf}
 use Rattle.bc_machine.specs.declared.part.BucketsPart.{BucketsPart}
 use Rattle.bc_meta.specs.Layout.{Layout}
 use Rattle.bc_resume.specs.Resume.{IsResumed}
 use Rattle.bc_shares.specs.Shares.{journal_share}
+use Rattle.bc_slots.specs.Parts.{AreParts}
 use Rattle.bc_whole.specs.State as whole
 use Rattle.bc_begun.specs.Opened.{AreBytes, IsOpenedWith}
 
@@ -33,3 +36,11 @@ LawJournal = (p : Pair) (v : View) (layout : Layout) (x : Parts) (w : Opening)
     (st : parts.State) (next_seq : ℕ) (read : Read) (j : Journal)
     → IsOpenedWith p v layout x w.machine st → read.entries ≡ v.reading.entries
     → IsResumed v.geometry read j → IsJournalOf (journal_share (start w st next_seq).machine) j
+
+-- each part has leaves that were read of the device, and the keys of the entries came to them
+abbrev pub LawLeaves : DiskFacts → Type 0
+LawLeaves d = (p : Pair) (v : View) (layout : Layout) (x : Parts) (w : whole.Opening)
+    (st : parts.State) (count : ℕ) (caches : List NodeCache) (i : ℕ) (empty : NodeCache)
+    → IsOpenedWith p v layout x w st → d.holds ≡ Some p.cache
+    → AreParts v.geometry x.tree.leaves x.pending count d caches → i < count
+    → AreLeavesOf w st count i (slice_index_or caches i empty)

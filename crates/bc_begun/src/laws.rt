@@ -1,5 +1,8 @@
-//! What a run begins with: each law is the contract of a function.
-ghost use Rattle.bc_begun.specs.Laws.{LawSpine, LawBuckets, LawJournal};
+//! What a run begins with: each law is the contract of a function. One that speaks of a device says
+//! it of what that held when the parts were read.
+ghost use Rattle.bc_begun.specs.Laws.{LawBuckets, LawJournal, LawLeaves, LawSpine};
+
+use bc_disk::disk::Disk;
 
 /// The tree in memory has just the machine's nodes, in their slots.
 pub fn law_spine()
@@ -14,4 +17,10 @@ pub fn law_buckets()
 /// The journal's newest entry is the machine's, and no keys wait.
 pub fn law_journal()
     ensures { LawJournal }
+{}
+
+/// Each leaf in memory says what the machine's leaf in its slot says, with the same keys pending; a
+/// leaf that isn't in memory has none.
+pub fn law_leaves<C: Disk>(_cache: &C)
+    ensures { LawLeaves (C.facts _cache.now) }
 {}
