@@ -1,5 +1,5 @@
-//! The parts of a pair that was read begin a run of the machine of parts. It has a definition and
-//! laws, and nothing that runs.
+//! The parts of a pair that was read begin a run of the machine of parts. It has definitions and
+//! laws, and one function that runs, which changes nothing.
 //!
 //! What a part in memory stands for is said of each sound opening of the core for which the first
 //! parts of the run stood. So it would say nothing if there were none. Here it is proved, for the
@@ -10,4 +10,7 @@
 //! Read `specs/` in this order: Opened, Laws.
 #![tactic(auto)]
 
+mod bytes;
 pub mod laws;
+
+pub use bytes::are_bytes;
