@@ -4,3 +4,4 @@ pub mod Journal
 pub mod Said
 pub mod Order
 pub mod Leaves
+pub mod Origin

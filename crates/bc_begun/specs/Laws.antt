@@ -2,21 +2,25 @@
 use Rattle.std.specs.Prelude.{◌≡◌, ℕ, ◌<◌, List, [], Some, slice_index_or}
 use Rattle.bc_books.specs.Books.{opened}
 use Rattle.bc_cache.specs.Slots.{NodeCache}
-use Rattle.bc_chosen.specs.Parts.{Parts}
+use Rattle.bc_chosen.specs.Parts.{ArePartsOf, Parts}
 use Rattle.bc_disk.specs.Disk.{DiskFacts}
 use Rattle.bc_entries.specs.Journal.{Journal as Read}
 use Rattle.bc_events.specs.Run.{Opening, start}
+use Rattle.bc_facts.specs.Layout.{IsLayoutOf}
 use Rattle.bc_image.specs.Pair.{Pair}
-use Rattle.bc_image.specs.Reading.{View}
+use Rattle.bc_image.specs.Reading.{IsView, View}
+use Rattle.bc_image.specs.Sound.{HasSoundParts}
 use Rattle.bc_journal.specs.Journal.{Journal}
 use Rattle.bc_leaves.specs.Parts as parts
 use Rattle.bc_machine.specs.Containers.{AreBucketsOf, AreLeavesOf, IsJournalOf, IsSpineOf}
+use Rattle.bc_machine.specs.World.{Origin, opening}
 use Rattle.bc_machine.specs.declared.part.BucketsPart.{BucketsPart}
 use Rattle.bc_meta.specs.Layout.{Layout}
 use Rattle.bc_resume.specs.Resume.{IsResumed}
 use Rattle.bc_shares.specs.Shares.{journal_share}
 use Rattle.bc_slots.specs.Parts.{AreParts}
 use Rattle.bc_whole.specs.State as whole
+use Rattle.bc_begun.specs.Begin.{Beginning, BeginsOn, IsSeenAs, parts_of}
 use Rattle.bc_begun.specs.Opened.{AreBytes, IsOpenedWith}
 
 abbrev pub LawSpine : Type 0
@@ -44,3 +48,13 @@ LawLeaves d = (p : Pair) (v : View) (layout : Layout) (x : Parts) (w : whole.Ope
     → IsOpenedWith p v layout x w st → d.holds ≡ Some p.cache
     → AreParts v.geometry x.tree.leaves x.pending count d caches → i < count
     → AreLeavesOf w st count i (slice_index_or caches i empty)
+
+-- so a run that begins on a sound pair is seen from some opening
+abbrev pub LawOrigin : {C B : Type 0} → (C → DiskFacts) → (B → DiskFacts) → Type 0
+LawOrigin {C} {B} cache_facts backing_facts =
+    (p : Pair) (v : View) (layout : Layout) (x : Parts) (read : Read) (count : ℕ) (was : C)
+    (k : Beginning C B) (next_seq : ℕ) → IsView p v → HasSoundParts p v
+    → IsLayoutOf v.geometry layout → ArePartsOf v.geometry v.reading x
+    → BeginsOn cache_facts backing_facts p v x read count was k
+    → (o : Origin) × IsSeenAs p v layout x next_seq
+    (opening cache_facts backing_facts (parts_of x.tree k)) o

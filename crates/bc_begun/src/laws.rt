@@ -1,6 +1,6 @@
 //! What a run begins with: each law is the contract of a function. One that speaks of a device says
 //! it of what that held when the parts were read.
-ghost use Rattle.bc_begun.specs.Laws.{LawBuckets, LawJournal, LawLeaves, LawSpine};
+ghost use Rattle.bc_begun.specs.Laws.{LawBuckets, LawJournal, LawLeaves, LawOrigin, LawSpine};
 
 use bc_disk::disk::Disk;
 
@@ -23,4 +23,10 @@ pub fn law_journal()
 /// leaf that isn't in memory has none.
 pub fn law_leaves<C: Disk>(_cache: &C)
     ensures { LawLeaves (C.facts _cache.now) }
+{}
+
+/// So there is a sound opening of the machine from which a run with these parts is seen, over the
+/// pair that both devices hold.
+pub fn law_origin<C: Disk, B: Disk>(_cache: &C, _backing: &B)
+    ensures { LawOrigin C.facts B.facts }
 {}

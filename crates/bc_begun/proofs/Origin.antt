@@ -1,0 +1,151 @@
+-- An opening from which a run that begins is seen.
+use Rattle.std.proofs.Common.{◌≡◌, inr, ℕ, suc, ◌+◌, ◌-◌, ◌<◌, ◌&&◌, Bool, true, List, [], ◌∷◌, length, Option, refl, sym, ap, ◌∙◌, subst, arith}
+use Rattle.std.specs.Prelude.{map, slice_index_or}
+use Rattle.bc_cache.specs.Slots.{NodeCache}
+use Rattle.bc_chosen.specs.Parts.{ArePartsOf, Parts}
+use Rattle.bc_chosen.proofs.Parts.{law_stands}
+use Rattle.bc_disk.specs.Disk.{DiskFacts}
+use Rattle.bc_entries.specs.Journal.{Journal as Read}
+use Rattle.bc_events.specs.Run.{Opening}
+use Rattle.bc_facts.specs.Layout.{IsLayoutOf}
+use Rattle.bc_image.specs.Pair.{Pair}
+use Rattle.bc_image.specs.Reading.{IsView, View}
+use Rattle.bc_image.specs.Sound.{HasSoundParts}
+use Rattle.bc_known.specs.Laws.{IsSound}
+use Rattle.bc_leaves.specs.Parts as parts
+use Rattle.bc_machine.specs.Containers.{AreLeavesOf}
+use Rattle.bc_machine.specs.Plain.{worker_of}
+use Rattle.bc_machine.specs.World.{AreLeafParts, HasBegun, IsOrigin, Origin, World, begun_with, image_of, is_some_image, leaves_among, opening}
+use Rattle.bc_machine.specs.declared.part.CorePart.{CorePart}
+use Rattle.bc_machine.specs.declared.part.CorePart.TheVariants as part
+use Rattle.bc_meta.specs.Layout.{Layout}
+use Rattle.bc_model.specs.Sector.{Image}
+use Rattle.bc_whole.specs.State as whole
+use Rattle.bc_begun.specs.Begin.{Beginning, BeginsOn, IsSeenAs, parts_of}
+use Rattle.bc_begun.specs.Laws.{LawOrigin}
+use Rattle.bc_begun.specs.Opened.{IsOpenedWith}
+use Rattle.bc_begun.proofs.Buckets.{law_buckets}
+use Rattle.bc_begun.proofs.Journal.{law_journal}
+use Rattle.bc_begun.proofs.Leaves.{in_slots, law_leaves}
+use Rattle.bc_begun.proofs.Spine.{law_spine}
+
+-- ---- leaf parts
+
+each_part : (w : Opening) (st : parts.State) (count part : ℕ) (cs : List NodeCache)
+    → ((i n : ℕ) (empty : NodeCache) → n ≡ part + i → i < length cs
+    → AreLeavesOf w.machine st count n (slice_index_or cs i empty))
+    → AreLeafParts w st count part cs
+each_part w st count part [] are = tt
+each_part w st count part (c ∷ cs) are = (
+  are 0 part c (omega arith) (omega arith),
+  each_part w st count (suc part) cs
+      (λ i n empty at low. are (suc i) n empty (omega (arith, at)) (omega (arith, low))),
+)
+
+module _ {C B : Type 0} (cache_facts : C → DiskFacts) (backing_facts : B → DiskFacts) where
+  abbrev leaf_parts : List NodeCache → List (CorePart C B)
+  leaf_parts cs = map part.Leaves cs
+
+  all_leaves : (cs : List NodeCache) → leaves_among cache_facts backing_facts (leaf_parts cs) ≡ cs
+  all_leaves [] = refl
+  all_leaves (c ∷ cs) = ap (λ (l : List NodeCache). c ∷ l) (all_leaves cs)
+
+  many : (cs : List NodeCache) → length (leaf_parts cs) ≡ length cs
+  many [] = refl
+  many (c ∷ cs) = let rest = many cs in omega (arith, rest)
+
+-- ---- the opening
+
+module _ {C B : Type 0} (cache_facts : C → DiskFacts) (backing_facts : B → DiskFacts)
+    (p : Pair) (v : View) (layout : Layout) (x : Parts) (read : Read) (count : ℕ) (was : C)
+    (k : Beginning C B) (next_seq : ℕ) (view : IsView p v) (sound : HasSoundParts p v)
+    (divided : IsLayoutOf v.geometry layout) (are : ArePartsOf v.geometry v.reading x)
+    (on : BeginsOn cache_facts backing_facts p v x read count was k) where
+  abbrev run : World
+  run = opening cache_facts backing_facts (parts_of x.tree k)
+
+  module _ (w : whole.Opening) (st : parts.State) (h : IsOpenedWith p v layout x w st)
+      (is : IsSound w st) where
+    abbrev o : Origin
+    o = record {
+      opening = record { machine = w; worker = worker_of };
+      parts = st;
+      next_seq = next_seq;
+    }
+
+    part_count : length (parts_of x.tree k) - 6 ≡ count
+    part_count =
+        let same = many cache_facts backing_facts k.leaves in
+        let each = on.leaves.each in
+        omega (arith, same, each)
+
+    leaves : AreLeafParts o.opening st (length (parts_of x.tree k) - 6) 0
+        (leaves_among cache_facts backing_facts (parts_of x.tree k))
+    leaves = subst (λ n. AreLeafParts o.opening st n 0
+        (leaves_among cache_facts backing_facts (parts_of x.tree k))) (sym part_count)
+        (subst (λ (cs : List NodeCache). AreLeafParts o.opening st count 0 cs)
+        (sym (all_leaves cache_facts backing_facts k.leaves))
+        (each_part o.opening st count 0 k.leaves (λ i n empty at low.
+        (let each = on.leaves.each in
+        let same : i ≡ n = omega (arith, at) in
+        subst (λ m. AreLeavesOf w st count m (slice_index_or k.leaves i empty)) same
+        (law_leaves (cache_facts was) p v layout x w st count k.leaves i empty h on.cache_was
+        on.leaves (omega (arith, low, each)))))))
+
+    begun : HasBegun (begun_with cache_facts backing_facts (parts_of x.tree k)) o
+    begun = record {
+      spine = law_spine p v layout x w st h;
+      buckets = law_buckets p v layout x w st k.buckets h on.bytes on.buckets on.reserves on.fill;
+      journal = law_journal p v layout x o.opening st next_seq read k.journal h on.entries
+          on.resumed;
+      leaves = leaves;
+    }
+
+    abbrev other : Bool
+    other = is_some_image (backing_facts k.backing.disk).holds
+
+    told : (is_some_image (cache_facts k.cache).holds && other) ≡ true
+    told = ap (λ (i : Option Image). is_some_image i && other) on.cache
+        ∙ ap is_some_image on.backing
+
+    origin : IsOrigin run o
+    origin = record {
+      with_cache = refl;
+      told = told;
+      cached = h.opening.devices.plain;
+      size = h.opening.books.size_is ∙ sym on.size;
+      worker = λ i. refl;
+      cache = λ s. ap (λ (i : Image). i s) h.opening.devices.cache
+          ∙ sym (ap (λ (i : Option Image). image_of i s) on.cache);
+      backing = λ s. h.opening.devices.backing s ∙ sym (on.held s)
+          ∙ sym (ap (λ (i : Option Image). image_of i (k.backing.offset + s)) on.backing);
+      sound = is;
+      slots = in_slots p v layout x w st h;
+      begun = begun;
+    }
+
+  found : (o : Origin) × IsSeenAs p v layout x next_seq run o
+  found =
+      let s = law_stands p v layout x view sound divided are in
+      let h : IsOpenedWith p v layout x s.0 s.1 = record {
+        view = view;
+        sound = sound;
+        divided = divided;
+        read = are;
+        opening = s.2;
+      } in
+      let at = origin s.0 s.1 h s.3 in (
+        o s.0 s.1 h s.3,
+        record {
+          opened = s.2;
+          seq = refl;
+          origin = at;
+          seen = inr (o s.0 s.1 h s.3, record { is = refl; origin = at; course = tt });
+        },
+      )
+
+pub law_origin : {C B : Type 0} (cache_facts : C → DiskFacts) (backing_facts : B → DiskFacts)
+    → LawOrigin cache_facts backing_facts
+law_origin cache_facts backing_facts p v layout x read count was k next_seq view sound divided are
+    on = found cache_facts backing_facts p v layout x read count was k next_seq view sound divided
+    are on
