@@ -4,7 +4,7 @@ use Prim.Native.Nat.{min}
 use Rattle.std.specs.Prelude.{nat_le, nat_lt, All, MatchOption, IfSome, IsNone, IsSomeAnd, ◌↔◌}
 use Rattle.std.proofs.lemmas.Bool.{cases_lt, cases_eq, cases_order, le-leb, lt-leb, lt-ltb, le-ltb, and_from, and_left, and_right}
 use Rattle.std.proofs.lemmas.List.{get_or-set_same, get_or-set_other, get_or_default}
-use Rattle.std.proofs.lemmas.List.Elements.{All-contains, Contains-get_or}
+use Rattle.std.proofs.lemmas.List.Elements.{All-nil, All-cons, All-contains, Contains-get_or}
 use Rattle.std.proofs.lemmas.Option.{same_Some}
 use Rattle.bc_key.specs.declared.key.Key.{Key}
 use Rattle.bc_key.specs.Key.{start_of, Covers}
@@ -12,7 +12,7 @@ use Rattle.bc_extent.specs.LastKey.{last_key}
 use Rattle.bc_extent.specs.Extents.{IsRange, IsInOrder, IsRest, Shows, overlaid, erased}
 use Rattle.bc_extent.specs.Sides.{IsHeld}
 use Rattle.bc_extent.proofs.LastKeys.{by_cover, last_key_found, last_key-push, none_covers}
-use Rattle.bc_extent.proofs.Shown.{IsPart-refl, IsSomeRest, shows_from, shows_same, shows_itself, by_place, rest_of_old, rest_of_middle, look_covers}
+use Rattle.bc_extent.proofs.Shown.{IsPart-refl, IsSomeRest, shows_from, shows_same, shows_itself, in_order_across, by_place, rest_of_old, rest_of_middle, look_covers}
 
 -- ---- an insert
 
@@ -24,6 +24,17 @@ pub shows_empty : (old : List Key) (key : Key) → IsInOrder old → key.size �
 shows_empty old key order none = shows_same (last_key old) (last_key (old ++ key ∷ [])) old
     (λ sector. by_cover key sector (λ b. last_key old sector ≡ (if b then Some key else last_key old sector)) (λ hit. let from = hit.0 in let to = hit.1 in absurd (omega arith)) (λ miss. refl) ∙ sym (last_key-push old key sector))
     (shows_itself old order)
+
+-- a key that begins where all others have ended stands behind them as it is
+module _ (old : List Key) (order : IsInOrder old) (key : Key) (range : IsRange key) (ended : All (λ x. x.end ≤ start_of key) old) where
+  one_in_order : IsInOrder (key ∷ [])
+  one_in_order = (All-cons IsRange key [] range (All-nil IsRange), λ i j d before inside. absurd (omega arith))
+
+  pub order_behind : IsInOrder (old ++ key ∷ [])
+  order_behind = in_order_across (start_of key) old (key ∷ []) order one_in_order ended (All-cons (λ y. start_of key ≤ start_of y) key [] (omega arith) (All-nil (λ y. start_of key ≤ start_of y)))
+
+  pub shows_behind : Shows (last_key (old ++ key ∷ [])) (old ++ key ∷ [])
+  shows_behind = shows_itself (old ++ key ∷ []) order_behind
 
 -- ---- an erase
 

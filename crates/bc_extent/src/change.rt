@@ -1,6 +1,6 @@
 //! A range of sectors that gets another key, or none.
 
-ghost use Rattle.std.specs.Prelude.{◌≡◌, ◌+◌, ◌-◌, ◌<◌, ◌≤◌, ◌++◌, length, take, drop, option_to_list, IfSome};
+ghost use Rattle.std.specs.Prelude.{◌≡◌, ◌+◌, ◌-◌, ◌<◌, ◌≤◌, ◌++◌, [], ◌∷◌, length, take, drop, option_to_list, IfSome};
 ghost use Rattle.bc_key.specs.Key.{start_of};
 ghost use Rattle.bc_extent.specs.LastKey.{last_key};
 ghost use Rattle.bc_extent.specs.Extents.{IsRange, IsInOrder, Shows, overlaid, room_of};
@@ -8,7 +8,18 @@ ghost use Rattle.bc_extent.specs.Extents.{IsRange, IsInOrder, Shows, overlaid, r
 use crate::gap::{Gap, close, fill};
 use crate::rows::Rows;
 use crate::sides::{side_above, side_below};
+use crate::slot::Slot;
 use bc_key::Key;
+
+/// Puts a key behind all others. Takes no memory.
+pub fn put_last(rows: &mut Rows, key: &Key)
+    requires { 1 ≤ rows.old.spare }
+    ensures keys { rows.new.keys ≡ rows.old.keys ++ key.now ∷ [] }
+    ensures spare { rows.new.spare + 1 ≡ rows.old.spare }
+{
+    let last = rows.len();
+    rows.insert(last, Slot::new(key));
+}
 
 /// Gives the sectors from `first` on up to `end` this key, or none where there is no key. Takes no
 /// memory.

@@ -1,11 +1,12 @@
-ghost use Rattle.std.specs.Prelude.{◌≡◌, ◌↔◌, ℕ, ◌+◌, ◌<◌, ◌≤◌, ◌++◌, [], ◌∷◌, ◌^◌, length, slice_get, All, Contains, IsTrue, IsNone, IfSome, OnOk, OnErr};
+ghost use Rattle.std.specs.Prelude.{◌≡◌, ◌↔◌, ℕ, ◌+◌, ◌<◌, ◌≤◌, ◌++◌, [], ◌∷◌, ◌^◌, length, slice_get, slice_index_or, All, Contains, IsTrue, IsNone, IfSome, OnOk, OnErr};
 ghost use Rattle.std.specs.Bool.{OnTrue, OnFalse};
+ghost use Rattle.bc_key.specs.declared.key.Key.{Key};
 ghost use Rattle.bc_key.specs.Key.{IsExtent, Covers};
 ghost use Rattle.bc_extent.specs.LastKey.{last_key};
 ghost use Rattle.bc_extent.specs.Extents.{IsInOrder, Shows, erased, room_of};
 
-use crate::change::overlay;
-use crate::places::{key_at, place_of};
+use crate::change::{overlay, put_last};
+use crate::places::{key_at, last_end, place_of};
 use crate::rows::Rows;
 use crate::slot::Slot;
 use bc_key::Key;
@@ -74,6 +75,14 @@ impl Extents {
         self.rows.key(i)
     }
 
+    /// How many pointers the key at this place has, without the key itself being made.
+    pub fn pointers(&self, i: usize) -> u8
+        requires { i < length self.now.keys }
+        ensures { (d : Key) → result ≡ (slice_index_or self.now.keys i d).count }
+    {
+        self.rows.pointers(i)
+    }
+
     /// For how many more keys there is room.
     pub fn spare(&self) -> usize
         ensures { result ≡ self.now.spare }
@@ -113,7 +122,13 @@ impl Extents {
         ensures room { room_of self.new ≡ room_of self.old }
     {
         if key.size > 0 {
-            overlay(&mut self.rows, key.start(), key.end, &Some(*key));
+            // Keys in order, as a set has them, come behind all others.
+            let first = key.start();
+            if last_end(&self.rows) <= first {
+                put_last(&mut self.rows, key);
+            } else {
+                overlay(&mut self.rows, first, key.end, &Some(*key));
+            }
         }
     }
 

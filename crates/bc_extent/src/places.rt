@@ -1,13 +1,26 @@
 //! Places in a row of keys in order.
 
-ghost use Rattle.std.specs.Prelude.{◌≡◌, ◌<◌, ◌≤◌, length, slice_index_or, Contains, IfSome, IfNone};
+ghost use Rattle.std.specs.Prelude.{◌≡◌, ◌-◌, ◌<◌, ◌≤◌, [], length, slice_index_or, All, Contains, IfSome, IfNone};
 ghost use Rattle.std.specs.List.{AllWithin};
+ghost use Rattle.bc_key.specs.declared.key.Key.{Key};
 ghost use Rattle.bc_key.specs.Key.{start_of};
 ghost use Rattle.bc_extent.specs.LastKey.{last_key};
 ghost use Rattle.bc_extent.specs.Extents.{IsInOrder};
 
 use crate::rows::Rows;
 use bc_key::Key;
+
+/// Where the last key ends, which none of the others ends behind; 0 where there is no key.
+pub fn last_end(rows: &Rows) -> u64
+    requires { IsInOrder rows.now.keys }
+    ensures none { rows.now.keys ≡ [] → result ≡ 0 }
+    ensures last { 0 < length rows.now.keys → (d : Key)
+        → result ≡ (slice_index_or rows.now.keys (length rows.now.keys - 1) d).end }
+    ensures all { All (λ key. key.end ≤ result) rows.now.keys }
+{
+    let count = rows.len();
+    if count == 0 { 0 } else { rows.end(count - 1) }
+}
 
 /// How many keys end at the sector or before it. They are the first ones. It takes a number of steps
 /// that is logarithmic in the number of keys, and one where these are all of them.

@@ -84,6 +84,14 @@ impl Ring {
         self.slots.start(place(self.head, i))
     }
 
+    /// How many pointers the key at this place has.
+    pub fn pointers(&self, i: usize) -> u8
+        requires { i < 512 }
+        ensures { (d : Key) → result ≡ (slice_index_or self.now i d).count }
+    {
+        self.slots.pointers(place(self.head, i))
+    }
+
     /// Puts another key at this place, and gives back what stood there.
     pub fn swap_in(&mut self, i: usize, slot: Slot) -> Slot
         requires { i < 512 }

@@ -85,6 +85,14 @@ impl Rows {
         self.rings[i / LENGTH].start(i % LENGTH)
     }
 
+    /// How many pointers the key at this place has.
+    pub fn pointers(&self, i: usize) -> u8
+        requires { i < length self.now.keys }
+        ensures { (d : Key) → result ≡ (slice_index_or self.now.keys i d).count }
+    {
+        self.rings[i / LENGTH].pointers(i % LENGTH)
+    }
+
     /// The key at this place.
     pub fn key(&self, i: usize) -> Key
         requires { i < length self.now.keys }

@@ -104,6 +104,13 @@ impl Front {
         self.end.saturating_sub(u64::from(self.size))
     }
 
+    /// How many pointers the key has.
+    pub fn pointers(&self) -> u8
+        ensures { result ≡ self.now.tags / 4 }
+    {
+        self.tags / 4
+    }
+
     /// Whether the key has pointers behind its first one.
     pub fn has_more(&self) -> bool
         ensures { IsTrue result ↔ (1 < self.now.tags / 4) }

@@ -184,6 +184,14 @@ impl Slots {
         self.fronts[i].start()
     }
 
+    /// How many pointers the key at this place has.
+    pub fn pointers(&self, i: usize) -> u8
+        requires { i < 512 }
+        ensures { (d : Key) → result ≡ (slice_index_or self.now i d).count }
+    {
+        self.fronts[i].pointers()
+    }
+
     /// Puts another key at this place, and gives back what stood there.
     pub fn swap_in(&mut self, i: usize, slot: Slot) -> Slot
         requires { i < 512 }

@@ -13,7 +13,7 @@ pub fn words_in(keys: &Extents) -> usize
 {
     let mut count = 0;
     for i in 0..keys.len() {
-        count += 2 + usize::from(keys.key(i).count);
+        count += 2 + usize::from(keys.pointers(i));
     }
     count
 }
