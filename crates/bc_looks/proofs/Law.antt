@@ -1,5 +1,8 @@
 -- The laws on what a leaf tells of the index.
-use Rattle.std.proofs.Common.{◌≡◌, ◌⊎◌, inl, inr, ℕ, false, List, [], ◌∷◌, ◌++◌, refl, sym, ap, ◌∙◌, subst, arith}
+use Rattle.std.proofs.Common.{◌≡◌, ◌⊎◌, inl, inr, ℕ, Bool, true, false, List, [], ◌∷◌, ◌++◌, refl, sym, ap, ◌∙◌, subst, arith}
+use Rattle.bc_books.specs.Books.{Books, Setup}
+use Rattle.bc_books.specs.Invariant.{IsInOrder}
+use Rattle.bc_books.specs.Shelves.{Fresh, Spent}
 use Rattle.bc_data.specs.After as flow_step
 use Rattle.bc_data.specs.Data as flow
 use Rattle.bc_leaves.specs.Parts.{Role, NoNode, Draft, Free, Leaving, Coming, Leaf, InRange, IsLive}
@@ -26,7 +29,7 @@ use Rattle.bc_shares.proofs.Rows.{IsNoInstall, installs, no_install_row}
 use Rattle.bc_machine.specs.Containers.{IsInTree}
 use Rattle.bc_machine.specs.World.{Origin, IsCourseOf, Follows, AreInSlots, replay}
 use Rattle.bc_machine.specs.Standing.{oldest_first, replay_is, replay_runs}
-use Rattle.bc_looks.specs.Looks.{LawSlots, LawKeys, LawAges, OfLeaves}
+use Rattle.bc_looks.specs.Looks.{LawSlots, LawKeys, LawAges, LawLive, OfLeaves}
 use Rattle.bc_looks.proofs.Keys.{leaf_says}
 use Rattle.bc_looks.proofs.Slots.{AllButOne, Shrinks, shrinks, made_slots, stays_in, comes_in}
 
@@ -61,6 +64,30 @@ law_ages x o is course s r at =
     let b1 = key.oldest in
     let b2 = order.dated.window b in
     record { past = omega arith; near = omega arith }
+
+-- what is written to is no bucket of superblock, journal or uuid table
+not_fixed : (w : Setup) (k : Books) → IsInOrder w k → (t : ℕ) → k.owner t ≡ Spent
+    → w.fixed (w.bucket t) ≡ false
+not_fixed w k order t spent = go (w.fixed (w.bucket t)) refl
+  where
+    go : (b : Bool) → w.fixed (w.bucket t) ≡ b → b ≡ false
+    go false is = refl
+    go true is = absurd (let fresh = order.marked.fresh (w.bucket t) (inl is) t refl in
+        let same : Fresh ≡ Spent = sym fresh ∙ spent in cc)
+
+pub law_live : LawLive
+law_live x o is course s r at =
+    let st = (replay o x.log).machine.whole in
+    let w = o.opening.machine in
+    let order = order_at w o.parts st is.sound (at_course o is.sound x.log course).at in
+    let low = order.counted.durable in
+    let high = order.counted.sealed in
+    let key = order.known.keys st.flow.books.index.count s (omega arith) r at in
+    let b = w.flow.books.bucket r.place in record {
+      dirty = key.live;
+      inside = λ same. (is.sound.laid.area b
+          (not_fixed w.flow.books st.flow.books order r.place (key.spent same))).1;
+    }
 
 -- ---- slots
 

@@ -1,8 +1,8 @@
 -- What the core's index is to a leaf of the tree, and to the buckets that it points into.
-use Rattle.std.specs.Prelude.{◌≡◌, ℕ, ◌+◌, ◌≤◌, ◌++◌, Option, Some}
+use Rattle.std.specs.Prelude.{◌≡◌, ℕ, ◌+◌, ◌<◌, ◌≤◌, ◌++◌, Option, Some}
 use Rattle.bc_meta.specs.Keys.{Ref}
 use Rattle.bc_meta.specs.Tree.{set_keys}
-use Rattle.bc_books.specs.Index.{Pointer, latest}
+use Rattle.bc_books.specs.Index.{Dirty, Pointer, latest}
 use Rattle.bc_leaves.specs.Keys.{last_said, ref_said}
 use Rattle.bc_leaves.specs.Parts.{InRange, keys_of}
 use Rattle.bc_whole.specs.Together.{ref_of}
@@ -41,3 +41,16 @@ abbrev pub LawAges : Type 0
 LawAges = InCourse (λ o st. (s : ℕ) (r : Pointer) → latest (books_of st.machine).index s ≡ Some r
     → IsNear ((books_of st.machine).generations.version (o.opening.machine.flow.books.bucket r.place))
     r.version)
+
+-- A dirty pointer is of the present use of its bucket; and where one is, the bucket is one of the
+-- device's.
+pub record IsOfBucket (o : Origin) (st : State) (r : Pointer) : Type 0 where
+  pub dirty : r.kind ≡ Dirty
+      → (books_of st.machine).generations.version (o.opening.machine.flow.books.bucket r.place)
+      ≡ r.version
+  pub inside : (books_of st.machine).generations.version (o.opening.machine.flow.books.bucket r.place)
+      ≡ r.version → o.opening.machine.flow.books.bucket r.place < o.opening.machine.layout.buckets
+
+abbrev pub LawLive : Type 0
+LawLive = InCourse (λ o st. (s : ℕ) (r : Pointer) → latest (books_of st.machine).index s ≡ Some r
+    → IsOfBucket o st r)

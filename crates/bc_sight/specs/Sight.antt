@@ -1,0 +1,60 @@
+-- What a seat knows of its claim in a run with a cache: what it saw at its look, and what it read
+-- since. It is said from each opening of the core from which the run so far is one.
+use Rattle.std.specs.Prelude.{slice_get, length, ◌≡◌, ℕ, ◌+◌, ◌%◌, ◌≤◌, ◌<◌, false, true, List, Option, Some}
+use Rattle.bc_disk.specs.Disk.{DiskFacts}
+use Rattle.bc_meta.specs.Keys.{Ref}
+use Rattle.bc_books.specs.Index.{Pointer}
+use Rattle.bc_data.specs.Seats.{Claim, Covers}
+use Rattle.bc_leaves.specs.Keys.{last_said, ref_said}
+use Rattle.bc_whole.specs.Together.{ref_of}
+use Rattle.bc_node.specs.Leaf.{Leaf}
+use Rattle.bc_cache.specs.declared.slots.Cached.{Cached}
+use Rattle.bc_bucket.specs.Buckets.{Buckets, bucket_of}
+use Rattle.bc_events.specs.declared.event.Event.{Event}
+use Rattle.bc_machine.specs.World.{Origin, IsOrigin, IsCourseOf, replay}
+use Rattle.bc_hand.specs.declared.hand.Hand.{Hand}
+use Rattle.bc_hand.specs.declared.hand.LeafHand.{LeafHand}
+use Rattle.bc_hand.specs.Seats.{View, world}
+
+-- Which copies are firm a barrier of another seat may change; nothing here asks for it.
+abbrev pub but_firm : Claim → Claim
+but_firm c = record c { firm = λ s. false }
+
+-- the seat's claim behind these events, as it is from an opening
+abbrev pub claim_from : Origin → List Event → ℕ → Claim
+claim_from o es i = but_firm ((replay o es).machine.whole.flow.seats i).claim
+
+-- where a leaf's last key of the sector points
+abbrev pub said_in : Leaf → ℕ → Option Ref
+said_in leaf s = ref_said (last_said leaf.keys s)
+
+-- The claim's sectors were looked up: each points where the leaf's last key says.
+pub record HasLooked (leaf : Leaf) (c : Claim) : Type 0 where
+  pub looked : c.looked ≡ true
+  pub sight : (s : ℕ) → Covers c s → ref_of (c.sight s) ≡ said_in leaf s
+
+-- Where the byte of a pointer's generation was that of its bucket at the look, the pointer is of the
+-- bucket's present use, which the count of uses tells from all others.
+pub record KnowsUses (o : Origin) (buckets : Buckets) (c : Claim) : Type 0 where
+  pub uses : (s q : ℕ) (r : Pointer) → Covers c s → c.sight s ≡ Some r
+      → o.opening.machine.flow.books.bucket r.place ≡ q
+      → o.opening.machine.before + q < length buckets.records
+      → r.version % 256 ≡ (bucket_of buckets (o.opening.machine.before + q)).generation
+      → r.version ≡ o.opening.machine.flow.books.version q
+      + (bucket_of buckets (o.opening.machine.before + q)).uses
+
+-- The leaf is in this slot of the part in hand, and has all sectors of the range.
+pub record HasLeaf {C B : Type 0} (h : Hand C B) (number first count slot : ℕ) (cached : Cached) :
+    Type 0 where
+  pub hand : LeafHand
+  pub is : h.leaves ≡ Some hand
+  pub at : slice_get hand.cache.slots slot ≡ Some (Some cached)
+  pub number_is : cached.number ≡ number
+  pub from : cached.leaf.from ≤ first
+  pub end : first + count ≤ cached.leaf.end
+
+module _ {C B : Type 0} (cache_facts : C → DiskFacts) (backing_facts : B → DiskFacts) where
+  abbrev pub OfClaim : View cache_facts backing_facts → (Origin → Claim → Type 0) → Type 0
+  OfClaim v P = (o : Origin) → IsOrigin (world cache_facts backing_facts v) o
+      → IsCourseOf o (world cache_facts backing_facts v).log
+      → P o (claim_from o (world cache_facts backing_facts v).log v.first)

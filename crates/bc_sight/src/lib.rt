@@ -1,0 +1,4 @@
+//! Steps of a seat that reads in a run with a cache, and what it knows of its claim by them.
+#![tactic(auto)]
+
+pub mod look;

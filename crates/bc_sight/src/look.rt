@@ -1,0 +1,54 @@
+//! A look at the leaf in hand.
+ghost use Rattle.std.specs.Prelude.{◌≡◌, ◌<◌, ℕ, false, None, Some, OnOk, OnErr, IfErr};
+ghost use Rattle.bc_cache.specs.declared.slots.Cached.{Cached};
+ghost use Rattle.bc_events.specs.declared.event.Deed.{Deed};
+ghost use Rattle.bc_machine.specs.World.{are_plain};
+ghost use Rattle.bc_machine.specs.declared.part.BucketsPart.{BucketsPart};
+ghost use Rattle.bc_hand.specs.Seats.{Works, Did, note};
+ghost use Rattle.bc_deed.specs.Asked.{IsHalted};
+ghost use Rattle.bc_sight.specs.Sight.{HasLeaf, HasLooked, KnowsUses, OfClaim};
+
+use bc_disk::disk::Disk;
+use bc_events::event::Deed;
+use bc_hand::error::StepError;
+use bc_hand::hand::Hand;
+use bc_hand::seat::commit;
+use bc_machine::machine::{CoreParts, CoreSeat};
+use std::sync::Wait;
+
+/// Looks up the sectors of the seat's claim in the leaf of this number, which is in hand and has all
+/// of them. From then on the seat knows where each points, and forgets what it read before. Where
+/// the buckets are in hand too, it knows which use of its bucket a pointer is of.
+///
+/// `Err` names the device that halted the run; then nothing is done.
+pub fn look<C: Disk, B: Disk, R: Wait>(
+    rt: &R,
+    parts: &CoreParts<C, B>,
+    seat: &mut CoreSeat<C, B>,
+    hand: &mut Hand<C, B>,
+    leaf: u32,
+) -> Result<(), StepError>
+    requires works { Works C.facts B.facts parts.now seat.old hand.old }
+    requires cached { are_plain C.facts B.facts parts.now.run.start ≡ false }
+    requires promise { 0 < seat.old.promises }
+    requires leaf { (slot : ℕ) × (cached : Cached) × HasLeaf hand.old leaf
+        (note C.facts B.facts seat.old).range.first (note C.facts B.facts seat.old).range.count slot cached }
+    ensures works { Works C.facts B.facts parts.now seat.new hand.new }
+    ensures hand { hand.new ≡ hand.old }
+    ensures ok { OnOk result (Did C.facts B.facts (Some (Deed.Look leaf)) seat.old seat.new) }
+    ensures saw { OnOk result ((slot : ℕ) (cached : Cached) → HasLeaf hand.old leaf
+        (note C.facts B.facts seat.old).range.first (note C.facts B.facts seat.old).range.count slot cached
+        → OfClaim C.facts B.facts seat.new (λ o c. HasLooked cached.leaf c)) }
+    ensures uses { OnOk result ((b : BucketsPart) → hand.old.buckets ≡ Some b
+        → OfClaim C.facts B.facts seat.new (λ o c. KnowsUses o b.buckets c)) }
+    ensures halted { IfErr result (λ error. IsHalted error seat.new.seen) }
+    ensures err { OnErr result (Did C.facts B.facts None seat.old seat.new) }
+{
+    if let Some(device) = seat.heard() {
+        return Err(StepError::Halted(device));
+    }
+    match commit(rt, parts, seat, Deed::Look { leaf }) {
+        Ok(()) => Ok(()),
+        Err(device) => Err(StepError::Halted(device)),
+    }
+}
