@@ -1,2 +1,4 @@
 pub mod Claims
+pub mod Held
 pub mod Looking
+pub mod Reading

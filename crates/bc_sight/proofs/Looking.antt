@@ -32,7 +32,7 @@ use Rattle.bc_hand.specs.declared.hand.LeafHand.{LeafHand}
 use Rattle.bc_hand.specs.Seats.{by, world, note, with_part, with_leaves, numbers, IsCoreSeat, AtDeed, MayDo, Did, Works}
 use Rattle.bc_hand.proofs.Knowing.{View, m, framed, is_plain_at, note_since}
 use Rattle.bc_deed.proofs.May.{can_alone, low}
-use Rattle.bc_sight.specs.Sight.{but_firm, claim_from, HasLeaf, HasLooked, KnowsUses, OfClaim, said_in}
+use Rattle.bc_sight.specs.Sight.{but_firm, claim_from, HasLeaf, HasLooked, Knows, KnowsUses, OfClaim, said_in}
 use Rattle.bc_sight.proofs.Claims.{claim_committed, looked_claim}
 
 -- ---- what is in hand
@@ -175,7 +175,7 @@ module _ {C B : Type 0} (cache_facts : C → DiskFacts) (backing_facts : B → D
     leaves_at x since = (held (m cache_facts backing_facts) (framed cache_facts backing_facts) v x
         has.hand.part (part.Leaves has.hand.cache) works.seat.seat since holds leaves_in).1
 
-    pub saw_leaf : (w : View cache_facts backing_facts)
+    saw_leaf : (w : View cache_facts backing_facts)
         → Did cache_facts backing_facts (Some (deed.Look number)) v w
         → OfClaim cache_facts backing_facts w (λ o c. HasLooked cached.leaf c)
     saw_leaf w did = claim_committed cache_facts backing_facts v w (deed.Look number) works.seat
@@ -190,7 +190,7 @@ module _ {C B : Type 0} (cache_facts : C → DiskFacts) (backing_facts : B → D
               (leaves_at did.is.before did.is.since) is course slot cached has.at s inside.0 inside.1;
         })) (claim_range v works.seat)
 
-    pub saw_uses : (b : BucketsPart) → h.buckets ≡ Some b → (w : View cache_facts backing_facts)
+    saw_uses : (b : BucketsPart) → h.buckets ≡ Some b → (w : View cache_facts backing_facts)
         → Did cache_facts backing_facts (Some (deed.Look number)) v w
         → OfClaim cache_facts backing_facts w (λ o c. KnowsUses o b.buckets c)
     saw_uses b is_b w did = claim_committed cache_facts backing_facts v w (deed.Look number) works.seat
@@ -204,3 +204,21 @@ module _ {C B : Type 0} (cache_facts : C → DiskFacts) (backing_facts : B → D
               (refl, some_of (λ q. AreBuckets q (world cache_facts backing_facts v)) h.buckets b is_b works.stand.buckets)).1
               is course s q r at bucket within same;
         })) (claim_range v works.seat)
+
+    fresh_look : (w : View cache_facts backing_facts)
+        → Did cache_facts backing_facts (Some (deed.Look number)) v w
+        → OfClaim cache_facts backing_facts w (λ o c. (s : ℕ) → c.from_cache s ≡ None)
+    fresh_look w did = claim_committed cache_facts backing_facts v w (deed.Look number) works.seat
+        (λ o c. range_of c ≡ (note cache_facts backing_facts v).range)
+        (λ o c. (s : ℕ) → c.from_cache s ≡ None) did
+        (λ o is course r s. ap (λ (c : Claim). c.from_cache s)
+        (looked_claim o.opening (replay o did.is.before.log) v.first number)) (claim_range v works.seat)
+
+    pub knows_look : (b : BucketsPart) → h.buckets ≡ Some b → (w : View cache_facts backing_facts)
+        → Did cache_facts backing_facts (Some (deed.Look number)) v w
+        → OfClaim cache_facts backing_facts w (λ o c. Knows o cached.leaf b.buckets (λ s. None) c)
+    knows_look b is_b w did o is course = record {
+      look = saw_leaf w did o is course;
+      uses = saw_uses b is_b w did o is course;
+      read_is = fresh_look w did o is course;
+    }

@@ -1,10 +1,11 @@
 -- What a seat knows of its claim in a run with a cache: what it saw at its look, and what it read
 -- since. It is said from each opening of the core from which the run so far is one.
 use Rattle.std.specs.Prelude.{slice_get, length, ◌≡◌, ℕ, ◌+◌, ◌%◌, ◌≤◌, ◌<◌, false, true, List, Option, Some}
+use Rattle.bc_model.specs.Sector.{Value, at_run}
 use Rattle.bc_disk.specs.Disk.{DiskFacts}
 use Rattle.bc_meta.specs.Keys.{Ref}
 use Rattle.bc_books.specs.Index.{Pointer}
-use Rattle.bc_data.specs.Seats.{Claim, Covers}
+use Rattle.bc_data.specs.Seats.{Claim, Covers, noted}
 use Rattle.bc_leaves.specs.Keys.{last_said, ref_said}
 use Rattle.bc_whole.specs.Together.{ref_of}
 use Rattle.bc_node.specs.Leaf.{Leaf}
@@ -42,6 +43,23 @@ pub record KnowsUses (o : Origin) (buckets : Buckets) (c : Claim) : Type 0 where
       → r.version % 256 ≡ (bucket_of buckets (o.opening.machine.before + q)).generation
       → r.version ≡ o.opening.machine.flow.books.version q
       + (bucket_of buckets (o.opening.machine.before + q)).uses
+
+-- What a seat knows that looked at a leaf while it had these buckets in hand, and has read since, of
+-- each sector that it read, this value from the cache device.
+pub record Knows (o : Origin) (leaf : Leaf) (buckets : Buckets) (read : ℕ → Option Value) (c : Claim) :
+    Type 0 where
+  pub look : HasLooked leaf c
+  pub uses : KnowsUses o buckets c
+  pub read_is : (s : ℕ) → c.from_cache s ≡ read s
+
+-- The leaf's last keys of these sectors point to as many places, one behind the other.
+abbrev pub PointsTo : Leaf → (first count at : ℕ) → Type 0
+PointsTo leaf first count at = (s : ℕ) → first ≤ s → s < first + count
+    → (ref : Ref) × (said_in leaf s ≡ Some ref) × (ref.place + first ≡ at + s)
+
+-- what was read before, and these values now
+abbrev pub with_values : ℕ → List Value → (ℕ → Option Value) → ℕ → Option Value
+with_values first values read s = noted (at_run first values s) (read s)
 
 -- The leaf is in this slot of the part in hand, and has all sectors of the range.
 pub record HasLeaf {C B : Type 0} (h : Hand C B) (number first count slot : ℕ) (cached : Cached) :

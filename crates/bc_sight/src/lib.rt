@@ -1,4 +1,5 @@
 //! Steps of a seat that reads in a run with a cache, and what it knows of its claim by them.
 #![tactic(auto)]
 
+pub mod cache;
 pub mod look;

@@ -6,7 +6,7 @@ ghost use Rattle.bc_machine.specs.World.{are_plain};
 ghost use Rattle.bc_machine.specs.declared.part.BucketsPart.{BucketsPart};
 ghost use Rattle.bc_hand.specs.Seats.{Works, Did, note};
 ghost use Rattle.bc_deed.specs.Asked.{IsHalted};
-ghost use Rattle.bc_sight.specs.Sight.{HasLeaf, HasLooked, KnowsUses, OfClaim};
+ghost use Rattle.bc_sight.specs.Sight.{HasLeaf, Knows, OfClaim};
 
 use bc_disk::disk::Disk;
 use bc_events::event::Deed;
@@ -16,9 +16,9 @@ use bc_hand::seat::commit;
 use bc_machine::machine::{CoreParts, CoreSeat};
 use std::sync::Wait;
 
-/// Looks up the sectors of the seat's claim in the leaf of this number, which is in hand and has all
-/// of them. From then on the seat knows where each points, and forgets what it read before. Where
-/// the buckets are in hand too, it knows which use of its bucket a pointer is of.
+/// Looks up the sectors of the seat's claim in the leaf of this number, which is in hand with the
+/// buckets and has all of them. From then on the seat knows where each points, and of which use of
+/// its bucket a pointer is; what it read before doesn't count any more.
 ///
 /// `Err` names the device that halted the run; then nothing is done.
 pub fn look<C: Disk, B: Disk, R: Wait>(
@@ -36,11 +36,10 @@ pub fn look<C: Disk, B: Disk, R: Wait>(
     ensures works { Works C.facts B.facts parts.now seat.new hand.new }
     ensures hand { hand.new ≡ hand.old }
     ensures ok { OnOk result (Did C.facts B.facts (Some (Deed.Look leaf)) seat.old seat.new) }
-    ensures saw { OnOk result ((slot : ℕ) (cached : Cached) → HasLeaf hand.old leaf
+    ensures knows { OnOk result ((slot : ℕ) (cached : Cached) (b : BucketsPart) → HasLeaf hand.old leaf
         (note C.facts B.facts seat.old).range.first (note C.facts B.facts seat.old).range.count slot cached
-        → OfClaim C.facts B.facts seat.new (λ o c. HasLooked cached.leaf c)) }
-    ensures uses { OnOk result ((b : BucketsPart) → hand.old.buckets ≡ Some b
-        → OfClaim C.facts B.facts seat.new (λ o c. KnowsUses o b.buckets c)) }
+        → hand.old.buckets ≡ Some b
+        → OfClaim C.facts B.facts seat.new (λ o c. Knows o cached.leaf b.buckets (λ _. None) c)) }
     ensures halted { IfErr result (λ error. IsHalted error seat.new.seen) }
     ensures err { OnErr result (Did C.facts B.facts None seat.old seat.new) }
 {

@@ -3,7 +3,7 @@ use Rattle.bc_parts.specs.Seat.{Run}
 use Rattle.bc_machine.specs.declared.part.CorePart.{CorePart}
 use Rattle.bc_machine.specs.World.{are_plain}
 use Rattle.bc_deed.proofs.May.{did_nothing, none_changed, works_kept}
-use Rattle.bc_sight.proofs.Looking.{may_look, saw_leaf, saw_uses}
+use Rattle.bc_sight.proofs.Looking.{may_look, knows_look}
 use Rattle.bc_sight.proofs.look.look.Goals as goal
 
 pub returns-in-Some-clause-err : goal.returns-in-Some-clause-err
@@ -21,18 +21,11 @@ returns-in-Ok-clause-works g c = works_kept g.C.Disk.facts g.B.Disk.facts c.args
     c.commit.new.seat c.args.hand.now _ c.requires.works c.in-Ok.ensures.ok.seat c.commit.ensures.kept
     none_changed
 
-pub returns-in-Ok-clause-saw : goal.returns-in-Ok-clause-saw
-returns-in-Ok-clause-saw g c = λ slot cached has. saw_leaf g.C.Disk.facts g.B.Disk.facts c.args.parts.now
+pub returns-in-Ok-clause-knows : goal.returns-in-Ok-clause-knows
+returns-in-Ok-clause-knows g c = λ slot cached b has is. knows_look g.C.Disk.facts g.B.Disk.facts c.args.parts.now
     c.args.seat.now c.args.hand.now c.requires.works
     (ap (λ (r : Run (CorePart g.row.C.Denot g.row.B.Denot)). are_plain g.C.Disk.facts g.B.Disk.facts r.start)
-    c.requires.works.run ∙ c.requires.cached) c.args.leaf slot cached has c.commit.new.seat c.in-Ok.ensures.ok
-
-pub returns-in-Ok-clause-uses : goal.returns-in-Ok-clause-uses
-returns-in-Ok-clause-uses g c = λ b is. saw_uses g.C.Disk.facts g.B.Disk.facts c.args.parts.now
-    c.args.seat.now c.args.hand.now c.requires.works
-    (ap (λ (r : Run (CorePart g.row.C.Denot g.row.B.Denot)). are_plain g.C.Disk.facts g.B.Disk.facts r.start)
-    c.requires.works.run ∙ c.requires.cached) c.args.leaf c.requires.leaf.0 c.requires.leaf.1 c.requires.leaf.2 b is
-    c.commit.new.seat c.in-Ok.ensures.ok
+    c.requires.works.run ∙ c.requires.cached) c.args.leaf slot cached has b is c.commit.new.seat c.in-Ok.ensures.ok
 
 pub returns-in-Err-clause-works : goal.returns-in-Err-clause-works
 returns-in-Err-clause-works g c = works_kept g.C.Disk.facts g.B.Disk.facts c.args.parts.now c.args.seat.now
