@@ -230,6 +230,10 @@ law_buckets p v layout x w st b h bytes same_buckets same_reserves none =
     let order = subst (λ (r : Reserves). IsInOrder r) same_reserves b.order in record {
       cut = subst (λ (bs : Buckets). IsCutInto bs.size (length bs.records) w) (sym same_buckets)
           (cut p v layout x w st h);
+      data_from = ap (λ (bs : Buckets). bs.data_from) same_buckets ∙ h.read.buckets.data_from
+          ∙ ap (λ n. n + g.journal) (sym h.opening.before)
+          ∙ ap (λ n. w.before + n) (sym h.divided.journal)
+          ∙ ap (λ (l : Layout). w.before + l.journal) (sym h.opening.layout_is);
       records = λ q inside. subst (λ (bs : Buckets). IsBucketFor (w.flow.books.version q) q
           (buckets_in (opened w.flow.books)) (bucket_of bs (w.before + q))) (sym same_buckets)
           (subst (λ n. IsBucketFor (w.flow.books.version q) q (buckets_in (opened w.flow.books))

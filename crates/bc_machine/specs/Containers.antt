@@ -127,6 +127,8 @@ pub record IsBucketFor (opened : ℕ) (q : ℕ) (x : BucketsShare) (b : Bucket) 
 -- the records of all buckets, which the device is cut into, the lists, and the places in open buckets
 pub record AreBucketsOf (w : Opening) (k : Books) (p : BucketsPart) : Type 0 where
   pub cut : IsCutInto p.buckets.size (length p.buckets.records) w
+  -- the first bucket for data
+  pub data_from : p.buckets.data_from ≡ w.before + w.layout.journal
   pub records : (q : ℕ) → w.before + q < length p.buckets.records
       → IsBucketFor (w.flow.books.version q) q (buckets_in k) (bucket_of p.buckets (w.before + q))
   pub places : StandFor w.before p.buckets.size p.fill p.reserves k

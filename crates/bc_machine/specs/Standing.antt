@@ -237,6 +237,7 @@ buckets_stay p x e on courses off = from_each x e
     (λ o st. AreBucketsOf o.opening.machine (books_of st.machine) p) on courses
     (λ o is course follows h. record {
       cut = h.cut;
+      data_from = h.data_from;
       records = λ q low. subst (λ (s : BucketsShare). IsBucketFor
           (o.opening.machine.flow.books.version q) q s (bucket_of p.buckets (o.opening.machine.before + q)))
           (sym (law_buckets o.opening (replay o x.log) e follows.enabled off).share) (h.records q low);
