@@ -1,23 +1,20 @@
 -- What events leave of a seat's claim, as it is from an opening.
-use Rattle.std.proofs.Common.{◌≡◌, ◌≢◌, ℕ, ◌≤◌, Bool, true, false, List, [], ◌∷◌, Option, Some, None, refl, sym, ap, ◌∙◌, subst, arith}
+use Rattle.std.proofs.Common.{◌≡◌, ◌≢◌, ℕ, Some, refl, sym, ap, ◌∙◌, subst, arith}
 use Rattle.std.specs.Prelude.{if◌then◌else◌}
-use Rattle.bc_model.specs.Sector.{Value}
 use Rattle.bc_disk.specs.Disk.{DiskFacts}
-use Rattle.bc_seats.specs.Seats.{Since, Waited, Committed}
+use Rattle.bc_seats.specs.Seats.{Since, Waited}
 use Rattle.bc_seats.proofs.Knowing.{still}
 use Rattle.bc_books.specs.Books.{Books}
 use Rattle.bc_data.specs.Seats.{Claim, Seat, put_seat}
 use Rattle.bc_data.specs.Data as flow
 use Rattle.bc_data.specs.Data.{Act, BackingBarrier, Look, CacheRead}
 use Rattle.bc_data.specs.After.{at_look, learnt, seat_after, seats_after}
-use Rattle.bc_known.specs.Acts as known
 use Rattle.bc_events.specs.Run as core
-use Rattle.bc_events.specs.declared.event.LineNumber.{LineNumber}
 use Rattle.bc_events.specs.declared.event.Deed.{Deed}
 use Rattle.bc_events.specs.declared.event.Deed.TheVariants as deed
 use Rattle.bc_events.specs.declared.event.Event.{Event}
-use Rattle.bc_machine.specs.World.{World, after, Origin, IsOrigin, IsCourseOf, replay}
-use Rattle.bc_machine.specs.Frame.{by_test, Keeps, AllData, AllOf, in_acts}
+use Rattle.bc_machine.specs.World.{World, Origin, IsOrigin, IsCourseOf, replay}
+use Rattle.bc_machine.specs.Frame.{by_test, Keeps, in_acts}
 use Rattle.bc_machine.specs.Standing.{origin_before}
 use Rattle.bc_machine.proofs.Noting.{any_acts}
 use Rattle.bc_hand.specs.Seats.{by, world, IsCoreSeat, Did}

@@ -1,14 +1,11 @@
 -- What the cache device holds to the core, from each opening, is what the calls of it left.
-use Rattle.std.proofs.Common.{◌≡◌, ℕ, Bool, true, false, List, [], ◌∷◌, Option, Some, None, refl, sym, ap, ◌∙◌, subst}
+use Rattle.std.proofs.Common.{◌≡◌, ℕ, List, [], ◌∷◌, Option, Some, None, refl, sym, ap, subst}
 use Rattle.std.specs.Prelude.{fold}
 use Rattle.bc_model.specs.Sector.{Value, at_run}
-use Rattle.bc_disk.specs.Device.{Content, instead, besides, written, failed, settled}
+use Rattle.bc_disk.specs.Device.{Content, instead, besides, written, failed}
 use Rattle.bc_disk.specs.Disk.{DiskFacts}
-use Rattle.bc_disk.specs.declared.disk.Device.{Device}
-use Rattle.bc_disk.specs.declared.disk.Device.TheVariants.{Cache, Backing}
-use Rattle.bc_meta.specs.Layout.{PrioSet}
 use Rattle.bc_leaves.specs.Parts.{leaf_owner, inner_owner}
-use Rattle.bc_whole.specs.State.{Write, OfData, OfEntry, OfSet, OfParent, OfLeaf, OfInner, OfPriorities}
+use Rattle.bc_whole.specs.State.{Write, OfSet, OfParent, OfLeaf, OfInner, OfPriorities}
 use Rattle.bc_whole.specs.Together.{place_of}
 use Rattle.bc_known.specs.Acts.{Act, WriteCache, FailCache}
 use Rattle.bc_known.specs.Run as machine
@@ -25,7 +22,7 @@ use Rattle.bc_events.specs.declared.event.Deed.TheVariants as deed
 use Rattle.bc_events.specs.declared.event.Event.{Event}
 use Rattle.std.specs.Prelude.{take}
 use Rattle.bc_machine.specs.declared.part.CorePart.{CorePart}
-use Rattle.bc_machine.specs.World.{World, after, held_after, held_after_failure, data_of, opening, Origin, IsOrigin, IsCourseOf, seen_from, replay}
+use Rattle.bc_machine.specs.World.{World, after, held_after, held_after_failure, opening, Origin, IsOrigin, IsCourseOf, seen_from, replay}
 use Rattle.bc_machine.specs.Frame.{OnCache, stays_event}
 use Rattle.bc_machine.specs.Standing.{origin_before}
 use Rattle.bc_hand.specs.Seats.{by}

@@ -1,3 +1,4 @@
+pub mod Answering
 pub mod Claims
 pub mod Held
 pub mod Looking

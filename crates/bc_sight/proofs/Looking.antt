@@ -1,9 +1,8 @@
 -- When a seat may look at a leaf in its hand, and what it knows of its claim then.
-use Rattle.std.proofs.Common.{◌≡◌, ◌⊎◌, inl, inr, ℕ, ◌+◌, ◌-◌, ◌%◌, ◌<◌, ◌≤◌, Bool, true, false, List, [], ◌∷◌, length, Option, Some, None, refl, sym, ap, ◌∙◌, subst, arith}
+use Rattle.std.proofs.Common.{◌≡◌, inl, inr, ℕ, ◌+◌, ◌-◌, ◌%◌, ◌<◌, ◌≤◌, false, List, [], length, Option, Some, None, refl, sym, ap, ◌∙◌, subst, arith}
 use Rattle.std.specs.Prelude.{IfSome, slice_get}
-use Rattle.std.proofs.lemmas.List.{append-nil}
 use Rattle.bc_disk.specs.Disk.{DiskFacts}
-use Rattle.bc_parts.specs.Seat.{PartsView, Run, Holds}
+use Rattle.bc_parts.specs.Seat.{PartsView, Holds}
 use Rattle.bc_seats.specs.Seats.{Since}
 use Rattle.bc_seats.proofs.Knowing.{held}
 use Rattle.bc_books.specs.Index.{Pointer, latest}
@@ -14,11 +13,8 @@ use Rattle.bc_whole.specs.Together.{ref_of}
 use Rattle.bc_bucket.specs.Buckets.{bucket_of}
 use Rattle.bc_cache.specs.Slots.{NodeCache}
 use Rattle.bc_cache.specs.declared.slots.Cached.{Cached}
-use Rattle.bc_events.specs.Run as core
-use Rattle.bc_events.specs.declared.event.Deed.{Deed}
 use Rattle.bc_events.specs.declared.event.Deed.TheVariants as deed
-use Rattle.bc_shares.specs.Shares.{books_of, leaf_share}
-use Rattle.bc_machine.specs.Containers.{AreBucketsOf, AreLeavesOf, IsLeafFor}
+use Rattle.bc_shares.specs.Shares.{books_of}
 use Rattle.bc_machine.specs.declared.part.BucketsPart.{BucketsPart}
 use Rattle.bc_machine.specs.declared.part.CorePart.{CorePart}
 use Rattle.bc_machine.specs.declared.part.CorePart.TheVariants as part
@@ -29,15 +25,15 @@ use Rattle.bc_looks.specs.Looks.{IsNear}
 use Rattle.bc_looks.proofs.Law.{law_ages, law_keys, law_slots}
 use Rattle.bc_hand.specs.declared.hand.Hand.{Hand}
 use Rattle.bc_hand.specs.declared.hand.LeafHand.{LeafHand}
-use Rattle.bc_hand.specs.Seats.{by, world, note, with_part, with_leaves, numbers, IsCoreSeat, AtDeed, MayDo, Did, Works}
+use Rattle.bc_hand.specs.Seats.{world, note, with_part, with_leaves, numbers, IsCoreSeat, MayDo, Did, Works}
 use Rattle.bc_hand.proofs.Knowing.{View, m, framed, is_plain_at, note_since}
 use Rattle.bc_deed.proofs.May.{can_alone, low}
-use Rattle.bc_sight.specs.Sight.{but_firm, claim_from, HasLeaf, HasLooked, Knows, KnowsUses, OfClaim, said_in}
+use Rattle.bc_sight.specs.Sight.{claim_from, HasLeaf, HasLooked, Knows, KnowsUses, OfClaim, said_in}
 use Rattle.bc_sight.proofs.Claims.{claim_committed, looked_claim}
 
 -- ---- what is in hand
 
-some_of : {A : Type 0} (P : A → Type 0) (o : Option A) (a : A) → o ≡ Some a → IfSome o P → P a
+pub some_of : {A : Type 0} (P : A → Type 0) (o : Option A) (a : A) → o ≡ Some a → IfSome o P → P a
 some_of P None a is h = absurd (cc)
 some_of P (Some b) a is h = let same : b ≡ a = cc in subst P same h
 
@@ -61,7 +57,7 @@ holds_leaves h l is = behind 5 h.backing _ l.part (behind 4 h.cache _ l.part
     (behind 3 h.journal _ l.part (behind 2 h.buckets _ l.part (behind 1 h.flight _ l.part
     (here_leaves h.leaves l (with_part 0 h.spine []) is)))))
 
-holds_buckets : {C B : Type 0} (h : Hand C B) (p : BucketsPart) → h.buckets ≡ Some p → Holds (numbers h) 2
+pub holds_buckets : {C B : Type 0} (h : Hand C B) (p : BucketsPart) → h.buckets ≡ Some p → Holds (numbers h) 2
 holds_buckets h p is = behind 5 h.backing _ 2 (behind 4 h.cache _ 2 (behind 3 h.journal _ 2
     (here 2 h.buckets p (with_part 1 h.flight (with_leaves h.leaves (with_part 0 h.spine []))) is)))
 
@@ -112,7 +108,7 @@ uses_of p x o on is course s q r at bucket within same =
 -- ---- the step
 
 module _ {C B : Type 0} (cache_facts : C → DiskFacts) (backing_facts : B → DiskFacts) where
-  since_itself : (v : View cache_facts backing_facts)
+  pub since_itself : (v : View cache_facts backing_facts)
       → Since (m cache_facts backing_facts) v (world cache_facts backing_facts v)
   since_itself v = record { others = []; is = refl; follow = tt; foreign = λ k d lt. absurd (omega (arith, lt)) }
 
@@ -190,18 +186,26 @@ module _ {C B : Type 0} (cache_facts : C → DiskFacts) (backing_facts : B → D
               (leaves_at did.is.before did.is.since) is course slot cached has.at s inside.0 inside.1;
         })) (claim_range v works.seat)
 
+    -- the buckets in hand, and what others leave of them until then
+    buckets_at : (b : BucketsPart) → h.buckets ≡ Some b → (x : World)
+        → Since (m cache_facts backing_facts) v x → AreBuckets b x
+    buckets_at b is_b x since = (held (m cache_facts backing_facts) (framed cache_facts backing_facts) v x
+        2 (part.Buckets b) works.seat.seat since
+        (subst (λ ks. Holds ks 2) (sym works.parts) (holds_buckets h b is_b))
+        (refl, some_of (λ q. AreBuckets q (world cache_facts backing_facts v)) h.buckets b is_b works.stand.buckets)).1
+
     saw_uses : (b : BucketsPart) → h.buckets ≡ Some b → (w : View cache_facts backing_facts)
         → Did cache_facts backing_facts (Some (deed.Look number)) v w
         → OfClaim cache_facts backing_facts w (λ o c. KnowsUses o b.buckets c)
     saw_uses b is_b w did = claim_committed cache_facts backing_facts v w (deed.Look number) works.seat
         (λ o c. range_of c ≡ (note cache_facts backing_facts v).range) (λ o c. KnowsUses o b.buckets c) did
-        (λ o is course r. subst (KnowsUses o b.buckets)
+        (λ o is course r.
+        let there = buckets_at b is_b did.is.before did.is.since in
+        subst (KnowsUses o b.buckets)
         (sym (looked_claim o.opening (replay o did.is.before.log) v.first number)) (record {
-          uses = λ s q r covers at bucket within same. uses_of b did.is.before o
-              (held (m cache_facts backing_facts) (framed cache_facts backing_facts) v did.is.before
-              2 (part.Buckets b) works.seat.seat did.is.since
-              (subst (λ ks. Holds ks 2) (sym works.parts) (holds_buckets h b is_b))
-              (refl, some_of (λ q. AreBuckets q (world cache_facts backing_facts v)) h.buckets b is_b works.stand.buckets)).1
+          cut = (there o is).cut;
+          data_from = (there o is).data_from;
+          uses = λ s q r covers at bucket within same. uses_of b did.is.before o there
               is course s q r at bucket within same;
         })) (claim_range v works.seat)
 

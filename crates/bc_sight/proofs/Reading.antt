@@ -6,7 +6,7 @@ use Rattle.bc_model.specs.Sector.{Value, Gives, at_run}
 use Rattle.bc_model.specs.declared.values.Values.{Values}
 use Rattle.bc_model.proofs.Runs.{at_range}
 use Rattle.bc_disk.specs.Device.{Among, Content}
-use Rattle.bc_disk.specs.Disk.{DiskFacts, IsKept, IsRead, StandsFor}
+use Rattle.bc_disk.specs.Disk.{DiskFacts, IsKept, IsRead}
 use Rattle.bc_disk.specs.Stands.{MayRead}
 use Rattle.bc_disk.proofs.Stands.{CountsFault, CountsGood, fault_stands, read_may, read_stands}
 use Rattle.bc_disk.specs.declared.disk.Device.TheVariants as device
@@ -14,25 +14,23 @@ use Rattle.bc_parts.specs.Seat.{Holds}
 use Rattle.bc_seats.specs.Seats.{Since, Waited}
 use Rattle.bc_seats.proofs.Knowing.{held, lasts}
 use Rattle.bc_books.specs.Index.{Pointer}
-use Rattle.bc_data.specs.Seats.{Claim, Covers, noted}
+use Rattle.bc_data.specs.Seats.{Covers, noted}
 use Rattle.bc_data.specs.Data as flow
 use Rattle.bc_data.specs.Data.{claim_of}
 use Rattle.bc_meta.specs.Keys.{Ref}
 use Rattle.bc_whole.specs.Together.{ref_of}
 use Rattle.bc_node.specs.Leaf.{Leaf}
 use Rattle.bc_bucket.specs.Buckets.{Buckets}
-use Rattle.bc_events.specs.Run as core
 use Rattle.bc_events.specs.Columns.{call_by, halt_of}
 use Rattle.bc_events.specs.declared.event.Event.{Event}
 use Rattle.bc_events.specs.declared.event.Deed.{Deed}
 use Rattle.bc_events.specs.declared.event.Deed.TheVariants as deed
 use Rattle.bc_events.specs.declared.event.Failure.TheVariants as failure
-use Rattle.bc_machine.specs.declared.part.CorePart.{CorePart}
 use Rattle.bc_machine.specs.declared.part.CorePart.TheVariants as part
 use Rattle.bc_machine.specs.Note.{note_of}
 use Rattle.bc_machine.specs.Frame.{by_test}
 use Rattle.bc_machine.specs.World.{World, CanFollow, after, called, counted, same_device, Side, cache_among, data_of, is_told, are_plain, model, opening, Origin, IsOrigin, IsSeenFrom, IsCourseOf, seen_from, replay, IsCache}
-use Rattle.bc_hand.specs.Seats.{by, world, note, IsCoreSeat, AtDeed, MayDo, Did}
+use Rattle.bc_hand.specs.Seats.{by, world, note, IsCoreSeat, MayDo, Did}
 use Rattle.bc_hand.specs.declared.error.StepError.{StepError}
 use Rattle.bc_hand.specs.declared.error.StepError.TheVariants as error
 use Rattle.bc_hand.proofs.Between.{did_between}
@@ -40,9 +38,9 @@ use Rattle.bc_hand.proofs.Knowing.{View, m, framed, is_plain_at}
 use Rattle.bc_deed.specs.Asked.{IsWithin}
 use Rattle.bc_deed.proofs.May.{can_alone, low}
 use Rattle.bc_sight.specs.Asked.{HasFailedRead, HasFailedReadOr}
-use Rattle.bc_sight.specs.Sight.{HasLooked, Knows, KnowsUses, OfClaim, PointsTo, claim_from, said_in, with_values}
+use Rattle.bc_sight.specs.Sight.{HasLooked, Knows, OfClaim, PointsTo, claim_from, with_values}
 use Rattle.bc_sight.proofs.Claims.{cached_claim, claim_committed, claim_since, claim_waited}
-use Rattle.bc_sight.proofs.Held.{Alike, IsHeld, cache_of, held_stays, run_held}
+use Rattle.bc_sight.proofs.Held.{IsHeld, cache_of, held_stays, run_held}
 
 -- a run of values, further on
 at_shift : (n first : ℕ) (vs : List Value) (s : ℕ) → at_run (n + first) vs (n + s) ≡ at_run first vs s
@@ -72,7 +70,7 @@ same_run first at s t values is = go (cases_lt first at)
         ∙ at_shift (first - at) at values t)
 
 -- a pointer that is there
-pointer_of : (o : Option Pointer) (ref : Ref) → ref_of o ≡ Some ref
+pub pointer_of : (o : Option Pointer) (ref : Ref) → ref_of o ≡ Some ref
     → (r : Pointer) × (o ≡ Some r) × (r.place ≡ ref.place)
 pointer_of None ref is = absurd (cc)
 pointer_of (Some r) ref is = (r, refl, ap (λ (x : Option Ref). place_in x) is)
@@ -198,7 +196,7 @@ module _ {C B : Type 0} (cache_facts : C → DiskFacts) (backing_facts : B → D
       (λ o is course h. subst (Knows o leaf buckets (with_values first values read))
       (sym (cached_claim o.opening (replay o did.is.before.log) v.first at first values)) (record {
         look = record { looked = h.look.looked; sight = h.look.sight };
-        uses = record { uses = h.uses.uses };
+        uses = record { cut = h.uses.cut; data_from = h.uses.data_from; uses = h.uses.uses };
         read_is = λ s. ap (λ x. noted (at_run first values s) x) (h.read_is s);
       })) knows
 

@@ -1,6 +1,6 @@
 -- What a seat knows of its claim in a run with a cache: what it saw at its look, and what it read
 -- since. It is said from each opening of the core from which the run so far is one.
-use Rattle.std.specs.Prelude.{slice_get, length, ◌≡◌, ℕ, ◌+◌, ◌%◌, ◌≤◌, ◌<◌, false, true, List, Option, Some}
+use Rattle.std.specs.Prelude.{slice_get, length, ◌≡◌, ℕ, ◌⊎◌, ◌+◌, ◌*◌, ◌%◌, ◌≤◌, ◌<◌, false, true, List, Option, Some, None}
 use Rattle.bc_model.specs.Sector.{Value, at_run}
 use Rattle.bc_disk.specs.Disk.{DiskFacts}
 use Rattle.bc_meta.specs.Keys.{Ref}
@@ -13,6 +13,7 @@ use Rattle.bc_cache.specs.declared.slots.Cached.{Cached}
 use Rattle.bc_bucket.specs.Buckets.{Buckets, bucket_of}
 use Rattle.bc_events.specs.declared.event.Event.{Event}
 use Rattle.bc_machine.specs.World.{Origin, IsOrigin, IsCourseOf, replay}
+use Rattle.bc_places.specs.Stands.{IsCutInto}
 use Rattle.bc_hand.specs.declared.hand.Hand.{Hand}
 use Rattle.bc_hand.specs.declared.hand.LeafHand.{LeafHand}
 use Rattle.bc_hand.specs.Seats.{View, world}
@@ -37,6 +38,8 @@ pub record HasLooked (leaf : Leaf) (c : Claim) : Type 0 where
 -- Where the byte of a pointer's generation was that of its bucket at the look, the pointer is of the
 -- bucket's present use, which the count of uses tells from all others.
 pub record KnowsUses (o : Origin) (buckets : Buckets) (c : Claim) : Type 0 where
+  pub cut : IsCutInto buckets.size (length buckets.records) o.opening.machine
+  pub data_from : buckets.data_from ≡ o.opening.machine.before + o.opening.machine.layout.journal
   pub uses : (s q : ℕ) (r : Pointer) → Covers c s → c.sight s ≡ Some r
       → o.opening.machine.flow.books.bucket r.place ≡ q
       → o.opening.machine.before + q < length buckets.records
@@ -60,6 +63,30 @@ PointsTo leaf first count at = (s : ℕ) → first ≤ s → s < first + count
 -- what was read before, and these values now
 abbrev pub with_values : ℕ → List Value → (ℕ → Option Value) → ℕ → Option Value
 with_values first values read s = noted (at_run first values s) (read s)
+
+-- The leaf's last key of the sector points into a bucket for data that had the pointer's generation
+-- at the look, and was not used anew since.
+pub record IsStillLive (leaf : Leaf) (before now : Buckets) (s : ℕ) : Type 0 where
+  pub ref : Ref
+  pub is : said_in leaf s ≡ Some ref
+  pub bucket : ℕ
+  pub for_data : before.data_from ≤ bucket
+  pub known : bucket < length before.records
+  pub low : bucket * before.size ≤ ref.place
+  pub high : ref.place < bucket * before.size + before.size
+  pub live : ref.generation ≡ (bucket_of before bucket).generation
+  pub still : (bucket_of now bucket).uses ≡ (bucket_of before bucket).uses
+
+-- The backing device has what the sector shows: no key points anywhere, or a clean one does.
+abbrev pub IsOnBacking : Leaf → ℕ → Type 0
+IsOnBacking leaf s = (said_in leaf s ≡ None)
+    ⊎ ((ref : Ref) × (said_in leaf s ≡ Some ref) × (ref.dirty ≡ false))
+
+-- A value that may be answered for the sector: read from the backing device where that has it, or
+-- from the cache device, out of a bucket that was not used anew since the look.
+abbrev pub MayAnswer : Leaf → (before now : Buckets) → (cache backing : Option Value) → ℕ → Value → Type 0
+MayAnswer leaf before now cache backing s value = ((backing ≡ Some value) × IsOnBacking leaf s)
+    ⊎ ((cache ≡ Some value) × IsStillLive leaf before now s)
 
 -- The leaf is in this slot of the part in hand, and has all sectors of the range.
 pub record HasLeaf {C B : Type 0} (h : Hand C B) (number first count slot : ℕ) (cached : Cached) :

@@ -1,10 +1,7 @@
-use Rattle.std.proofs.Common.{◌≡◌, ℕ, ◌+◌, ◌/◌, ◌≤◌, List, ◌++◌, length, refl, sym, ap, ◌∙◌, subst, arith}
+use Rattle.std.proofs.Common.{◌≡◌, ℕ, ◌+◌, ◌/◌, ◌≤◌, List, ◌++◌, length, sym, ap, ◌∙◌, subst}
 use Rattle.bc_model.specs.Sector.{Value, values_of}
 use Rattle.bc_model.proofs.Sectors.{length_values_of}
 use Rattle.bc_disk.specs.Disk.{IsRead}
-use Rattle.bc_disk.specs.declared.disk.Device.TheVariants as device
-use Rattle.bc_events.specs.declared.event.Deed.TheVariants as deed
-use Rattle.bc_events.specs.declared.event.Failure.TheVariants as failure
 use Rattle.bc_parts.specs.Seat.{Run}
 use Rattle.bc_machine.specs.declared.part.CorePart.{CorePart}
 use Rattle.bc_machine.specs.World.{are_plain, cache_among}
