@@ -1,0 +1,40 @@
+use Rattle.std.proofs.Common.{refl, Some}
+use Rattle.bc_events.specs.declared.event.Deed.TheVariants as deed
+use Rattle.bc_events.specs.declared.event.Failure.TheVariants as failure
+use Rattle.bc_disk.specs.declared.disk.Device.TheVariants as device
+use Rattle.bc_hand.proofs.Knowing.{map_ok}
+use Rattle.bc_hand.proofs.Lends.{works_cache}
+use Rattle.bc_hand.proofs.Between.{did_between}
+use Rattle.bc_deed.proofs.May.{did_nothing, other_number, map_if_err}
+use Rattle.bc_entry.proofs.CacheDevice.{failed_between}
+use Rattle.bc_entry.proofs.barrier.cache_barrier.Goals as goal
+
+pub returns-in-Some-clause-err : goal.returns-in-Some-clause-err
+returns-in-Some-clause-err g c = (
+  c.in-Some.ensures.stopped c.in-Some.device refl,
+  did_nothing g.C.Disk.facts g.B.Disk.facts c.args.seat.now c.requires.works.seat,
+)
+
+pub return_cache-requires : goal.return_cache-requires
+return_cache-requires g c = works_cache g.C.Disk.facts g.B.Disk.facts c.args.parts.now
+    c.borrow_cache-cache.new.seat c.barrier_in-done.new.seat c.borrow_cache-cache.new.hand
+    c.borrow_cache-cache.result.0 c.barrier_in-done.new.cache _ c.borrow_cache-cache.ensures.lent
+    c.barrier_in-done.ensures.seat c.barrier_in-done.ensures.kept (other_number 4)
+    c.barrier_in-done.ensures.cache
+
+pub returns-clause-ok : goal.returns-clause-ok
+returns-clause-ok g c = map_ok c.barrier_in-done.result (λ did.
+    did_between g.C.Disk.facts g.B.Disk.facts (Some deed.CacheBarrier) c.args.seat.now
+    c.borrow_cache-cache.new.seat c.barrier_in-done.new.seat c.return_cache.new.seat
+    c.borrow_cache-cache.ensures.still c.borrow_cache-cache.ensures.waited did
+    c.return_cache.ensures.waited c.return_cache.ensures.seen c.return_cache.ensures.heard
+    c.return_cache.ensures.works.seat) c.barrier_in-done.ensures.ok
+
+pub returns-clause-err : goal.returns-clause-err
+returns-clause-err g c = map_if_err c.barrier_in-done.result (λ e h.
+    failed_between g.C.Disk.facts g.B.Disk.facts e
+    (deed.DeviceFault (failure.Barrier device.Cache)) c.args.seat.now
+    c.borrow_cache-cache.new.seat c.barrier_in-done.new.seat c.return_cache.new.seat
+    c.borrow_cache-cache.ensures.still c.borrow_cache-cache.ensures.waited h
+    c.return_cache.ensures.waited c.return_cache.ensures.seen c.return_cache.ensures.heard
+    c.return_cache.ensures.works.seat) c.barrier_in-done.ensures.err

@@ -1,0 +1,9 @@
+//! The steps of a run's first entry, and what they are made of.
+//!
+//! A cache device may keep what is written to it in any order until a barrier comes. So an entry of
+//! the journal stands between two: the first makes durable what it names, and the second makes the
+//! entry itself durable, before anything may rest on it. Each is a deed of its own, as each call of
+//! a device is, since a run may be cut off before any of them.
+#![tactic(auto)]
+
+pub mod barrier;
