@@ -1,0 +1,72 @@
+-- A leaf that is read of the cache device while a run goes on.
+use Rattle.std.specs.Prelude.{◌≡◌, ◌⊎◌, ℕ, true, false, List, [], ◌∷◌, ◌++◌, Some}
+use Rattle.bc_disk.specs.Device.{Among}
+use Rattle.bc_disk.specs.declared.geometry.Geometry.{Geometry}
+use Rattle.bc_events.specs.Run.{State}
+use Rattle.bc_facts.specs.Layout.{IsLayoutOf}
+use Rattle.bc_facts.specs.Torn.{NoTornRecord}
+use Rattle.bc_image.specs.Tree.{AreSetsAt}
+use Rattle.bc_key.specs.Key.{ptr_at}
+use Rattle.bc_key.specs.declared.key.Key.{Key}
+use Rattle.bc_leaves.specs.Keys.{last_said, ref_said}
+use Rattle.bc_leaves.specs.Parts.{keys_of}
+use Rattle.bc_machine.specs.Containers.{AreEntriesOf, IsTreeLeaf}
+use Rattle.bc_machine.specs.World.{IsCourseOf, IsOrigin, Origin, World, replay}
+use Rattle.bc_meta.specs.Layout.{sets_in}
+use Rattle.bc_meta.specs.Records.{Node}
+use Rattle.bc_meta.specs.Tree.{NodeSet, set_keys}
+use Rattle.bc_model.specs.Sector.{Image}
+use Rattle.bc_node.specs.Leaf.{IsLeafOf, Leaf}
+use Rattle.bc_set.specs.declared.set.Set.{Set}
+use Rattle.bc_shares.specs.Shares.{LeafShare, leaf_share, node_share, shape_of}
+use Rattle.bc_whole.specs.State.{Opening}
+
+-- What reads of the cache device may give: of each sector one of the values that a read of it may
+-- give. No torn record matched by chance.
+pub record MayBeRead (g : Geometry) (o : Origin) (st : State) (image : Image) : Type 0 where
+  pub layout : IsLayoutOf g o.opening.machine.layout
+  pub values : (s : ℕ) → Among (image s) (st.machine.whole.flow.cache.reads s)
+  pub no_torn : NoTornRecord g o.opening.machine.store.image st.machine.whole.store.places
+
+-- of each image that reads may give in a state of a run, as it is from an opening
+abbrev pub OfReads : (Geometry → Origin → State → Image → Type 0) → Type 0
+OfReads P = (x : World) (o : Origin) → IsOrigin x o → IsCourseOf o x.log → (g : Geometry)
+    (image : Image) → MayBeRead g o (replay o x.log) image → P g o (replay o x.log) image
+
+-- ---- nodes
+
+-- the sets that were written, or one besides whose write failed
+abbrev pub AreWritten : Node → List NodeSet → Type 0
+AreWritten n sets = (sets ≡ (node_share n).sets)
+    ⊎ ((lost : NodeSet) × ((node_share n).lost ≡ Some lost) × (sets ≡ lost ∷ (node_share n).sets))
+
+-- of each node of which something is known, or to which a set was sent
+abbrev pub LawSets : Type 0
+LawSets = OfReads (λ g o st image. (q : ℕ)
+    → let n = st.machine.whole.parts.records.nodes q in
+    (n.sent ≡ false → n.loose ≡ false)
+    → AreWritten n (sets_in o.opening.machine.layout image n.owner q))
+
+-- ---- leaves
+
+-- A leaf that was read says of each sector what the machine's leaf with its node says, and nothing
+-- of it is pending.
+pub record IsReadFor (w : Opening) (x : LeafShare) (leaf : Leaf) : Type 0 where
+  pub at : IsTreeLeaf w leaf.from leaf.end leaf.ptr (shape_of x.leaf)
+  pub loaded : leaf.loaded ≡ true
+  pub keys : (s : ℕ) → ref_said (last_said leaf.keys s)
+      ≡ ref_said (last_said (keys_of x.leaf.pending ++ set_keys x.node.sets) s)
+  pub pending : (s : ℕ) → last_said leaf.pending s ≡ last_said (keys_of x.leaf.pending) s
+  pub entries : AreEntriesOf leaf.entries x.leaf.pending
+
+-- The leaf in this slot is one of the tree, of this key and from this sector on, and has nothing
+-- pending.
+pub record IsIdleLeaf (o : Origin) (st : State) (k from : ℕ) (key : Key) : Type 0 where
+  pub at : IsTreeLeaf o.opening.machine from key.end (ptr_at key 0)
+      (shape_of (st.machine.whole.parts.leaves k))
+  pub none : (st.machine.whole.parts.leaves k).pending ≡ []
+
+abbrev pub LawFetched : Type 0
+LawFetched = OfReads (λ g o st image. (k from : ℕ) (key : Key) (sets : List Set) (leaf : Leaf)
+    → IsIdleLeaf o st k from key → AreSetsAt g image 0 key sets → IsLeafOf g key from sets leaf
+    → IsReadFor o.opening.machine (leaf_share st.machine.whole.parts k) leaf)
