@@ -8,7 +8,7 @@ use Rattle.bc_disk.specs.Device.{Among, Content}
 use Rattle.bc_disk.specs.declared.geometry.Geometry.{Geometry}
 use Rattle.bc_events.specs.Run.{State}
 use Rattle.bc_facts.specs.Layout.{IsLayoutOf, begins_at}
-use Rattle.bc_facts.specs.Seen.{kind_of, seen_sets, word_of}
+use Rattle.bc_facts.specs.Seen.{seen_sets, word_of}
 use Rattle.bc_facts.proofs.Nodes.{sets_are}
 use Rattle.bc_facts.proofs.Torn.{no_chance}
 use Rattle.bc_image.specs.Tree.{AreSetsAt}
@@ -38,6 +38,8 @@ use Rattle.bc_meta.specs.Tree.{NodeSet, Owner, set_keys}
 use Rattle.bc_model.specs.Sector.{Image, Value}
 use Rattle.bc_node.specs.Leaf.{IsLeafOf, Leaf}
 use Rattle.bc_node.specs.declared.pending.Entries.{Entries}
+use Rattle.bc_record.proofs.Blocks.{node_blocks}
+use Rattle.bc_set.proofs.NodeSets.{node_exists}
 use Rattle.bc_remains.proofs.Keys.{leaf_keys}
 use Rattle.bc_remains.proofs.Tree.{key_begins}
 use Rattle.bc_set.specs.Records.{AreNodeSets}
@@ -48,7 +50,7 @@ use Rattle.bc_whole.specs.State as whole
 use Rattle.bc_whole.specs.State.{Opening}
 use Rattle.bc_whole.proofs.Kept.{Inv}
 use Rattle.bc_begun.proofs.Said.{keys_say}
-use Rattle.bc_fetched.specs.Fetched.{AreWritten, IsReadFor, LawFetched, LawSets}
+use Rattle.bc_fetched.specs.Fetched.{AreWritten, IsReadFor, LawFetched, LawFound, LawSets}
 use Rattle.bc_fetched.proofs.Settled.{reads}
 
 -- ---- a state of a course
@@ -182,17 +184,20 @@ lost_is false true last lost e = (refl, cc)
 lost_is false false last lost e = absurd (cc)
 
 module _ (w : Opening) (st : whole.State) (inv : Inv w st) (k : ℕ)
-    (tree : IsInTree (st.parts.leaves k).role) (none : (st.parts.leaves k).pending ≡ []) where
+    (tree : IsInTree (st.parts.leaves k).role) where
   abbrev n : Node
   n = st.parts.records.nodes (st.parts.leaves k).bucket
+
+  abbrev bucket : ℕ
+  bucket = (st.parts.leaves k).bucket
 
   live : IsLive (st.parts.leaves k).role
   live = live_in (st.parts.leaves k).role tree
 
-  -- what was lost has no keys, since nothing is pending
-  lost_keys : (lost : NodeSet) → (node_share n).lost ≡ Some lost → (s : ℕ)
-      → last_said lost.keys s ≡ None
-  lost_keys lost is s =
+  -- what was lost has no keys where nothing is pending
+  lost_keys : (st.parts.leaves k).pending ≡ [] → (lost : NodeSet)
+      → (node_share n).lost ≡ Some lost → (s : ℕ) → last_said lost.keys s ≡ None
+  lost_keys none lost is s =
       let l = lost_is n.sent n.failed n.last lost is in
       let fits = inv.fits.leaves.lost k live l.0 in
       ap (λ (x : NodeSet). last_said x.keys s) (sym l.1)
@@ -204,69 +209,95 @@ module _ (w : Opening) (st : whole.State) (inv : Inv w st) (k : ℕ)
       nothing (p ∷ ps) e y i = absurd (cc)
 
   -- so what is read says what was written
-  read_says : (ss : List NodeSet) → AreWritten n ss → (s : ℕ)
+  read_says : (st.parts.leaves k).pending ≡ [] → (ss : List NodeSet) → AreWritten n ss → (s : ℕ)
       → last_said (set_keys ss) s ≡ last_said (set_keys (node_share n).sets) s
-  read_says ss (inl is) s = ap (λ l. last_said (set_keys l) s) is
-  read_says ss (inr (lost, of, is)) s =
+  read_says none ss (inl is) s = ap (λ l. last_said (set_keys l) s) is
+  read_says none ss (inr (lost, of, is)) s =
       ap (λ l. last_said (set_keys l) s) is
       ∙ last_append lost.keys (set_keys (node_share n).sets) s
-      ∙ ap (λ o. or_else o (last_said (set_keys (node_share n).sets) s)) (lost_keys lost of s)
+      ∙ ap (λ o. or_else o (last_said (set_keys (node_share n).sets) s)) (lost_keys none lost of s)
 
   module _ (g : Geometry) (layout : IsLayoutOf g w.layout) (image : Image) (from : ℕ) (key : Key)
-      (sets : List Set) (leaf : Leaf)
       (at : IsTreeLeaf w from key.end (ptr_at key 0) (shape_of (st.parts.leaves k)))
-      (held : AreWritten n (sets_in w.layout image n.owner (st.parts.leaves k).bucket))
-      (are : AreSetsAt g image 0 key sets) (of : IsLeafOf g key from sets leaf) where
-    owner_is : n.owner ≡ record { word = word_of key; leaf = true }
-    owner_is = inv.fits.buckets.named k (some_role (st.parts.leaves k).role tree)
-        ∙ ap (λ (x : ℕ). record { word = x; leaf = true }) at.word
-
+      (held : AreWritten n (sets_in w.layout image n.owner (st.parts.leaves k).bucket)) where
     abbrev own : Owner
     own = record { word = word_of key; leaf = true }
 
-    written_here : AreWritten n (sets_in w.layout image own (st.parts.leaves k).bucket)
-    written_here = subst (λ (o : Owner).
-        AreWritten n (sets_in w.layout image o (st.parts.leaves k).bucket)) owner_is held
+    owner_is : n.owner ≡ own
+    owner_is = inv.fits.buckets.named k (some_role (st.parts.leaves k).role tree)
+        ∙ ap (λ (x : ℕ). record { word = x; leaf = true }) at.word
+
+    written_here : AreWritten n (sets_in w.layout image own bucket)
+    written_here = subst (λ (o : Owner). AreWritten n (sets_in w.layout image o bucket)) owner_is held
+
+    some_there : sets_in w.layout image own bucket ≢ []
+    some_there = some_read n (sets_in w.layout image own bucket) (inv.fits.leaves.firm k live).1
+        written_here
 
     -- what the format reads there is what the machine reads
-    seen : sets_in w.layout image own (st.parts.leaves k).bucket ≡ seen_sets g true sets
-    seen = sets_are g w.layout layout image own (st.parts.leaves k).bucket sets
-        (within w.layout image own (st.parts.leaves k).bucket
-        (some_read n (sets_in w.layout image own (st.parts.leaves k).bucket)
-        (inv.fits.leaves.firm k live).1 written_here)) there
-      where
-        there : AreNodeSets g (word_of key) (kind_of true) image (begins_at (word_of key) + g.node_sectors)
-            (begins_at (word_of key)) sets
-        there = subst (λ (at : ℕ). AreNodeSets g (word_of key) Extents image (at + g.node_sectors) at sets)
-            (sym (key_begins key))
-            (subst (λ (p : Ptr). AreNodeSets g (ptr_word p) Extents image (p.offset + g.node_sectors)
-            p.offset sets)
-            (sym (ptr_is key are.ptr are.points)) are.stand)
+    seen_as : (sets : List Set) → AreNodeSets g (word_of key) Extents image
+        (begins_at (word_of key) + g.node_sectors) (begins_at (word_of key)) sets
+        → sets_in w.layout image own bucket ≡ seen_sets g true sets
+    seen_as sets there = sets_are g w.layout layout image own bucket sets
+        (within w.layout image own bucket some_there) there
 
-    read_for : IsReadFor w (leaf_share st.parts k) leaf
-    read_for = record {
-      at = subst (λ a. IsTreeLeaf w a leaf.end leaf.ptr (shape_of (st.parts.leaves k))) (sym of.begins)
-          (subst (λ b. IsTreeLeaf w from b leaf.ptr (shape_of (st.parts.leaves k))) (sym of.ends)
-          (subst (λ (p : Ptr). IsTreeLeaf w from key.end p (shape_of (st.parts.leaves k))) (sym of.ptr) at));
-      loaded = of.loaded;
-      keys = λ s. keys_say (image_tree.set_keys sets) leaf.keys s of.last.order of.last.shown
-          ∙ ap (λ l. ref_said (last_said l s)) (leaf_keys g sets)
-          ∙ ap (λ l. ref_said (last_said (set_keys l) s)) (sym seen)
-          ∙ ap ref_said (read_says (sets_in w.layout image own (st.parts.leaves k).bucket) written_here s)
-          ∙ ap (λ (ps : List Pending). ref_said (last_said (keys_of ps ++ set_keys (node_share n).sets) s))
-          (sym none);
-      pending = λ s. ap (λ (l : List Key). last_said l s) of.pending.keys
-          ∙ ap (λ (ps : List Pending). last_said (keys_of ps) s) (sym none);
-      entries = subst (λ (o : Option Entries). AreEntriesOf o (st.parts.leaves k).pending)
-          (sym of.pending.entries) none;
-    }
+    found : pointer_of key ≡ Some (ptr_at key 0) → (sets : List Set) × AreSetsAt g image 0 key sets
+    found points =
+        let whole = node_blocks g in
+        let e = node_exists g (word_of key) Extents image (begins_at (word_of key) + g.node_sectors)
+        (begins_at (word_of key)) whole.0 (ap (λ (m : ℕ). begins_at (word_of key) + m) whole.1) in (
+          e.0,
+          record {
+            ptr = ptr_at key 0;
+            points = points;
+            stand = subst (λ (p : ℕ). AreNodeSets g (word_of key) Extents image (p + g.node_sectors) p e.0)
+                (key_begins key) e.1;
+            some = λ none. some_there (seen_as e.0 e.1 ∙ ap (seen_sets g true) none);
+          },
+        )
+
+    module _ (none : (st.parts.leaves k).pending ≡ []) (sets : List Set) (leaf : Leaf)
+        (are : AreSetsAt g image 0 key sets) (of : IsLeafOf g key from sets leaf) where
+      seen : sets_in w.layout image own bucket ≡ seen_sets g true sets
+      seen = seen_as sets (subst (λ (p : ℕ).
+          AreNodeSets g (word_of key) Extents image (p + g.node_sectors) p sets) (sym (key_begins key))
+          (subst (λ (p : Ptr). AreNodeSets g (ptr_word p) Extents image (p.offset + g.node_sectors)
+          p.offset sets) (sym (ptr_is key are.ptr are.points)) are.stand))
+
+      read_for : IsReadFor w (leaf_share st.parts k) leaf
+      read_for = record {
+        at = subst (λ a. IsTreeLeaf w a leaf.end leaf.ptr (shape_of (st.parts.leaves k)))
+            (sym of.begins)
+            (subst (λ b. IsTreeLeaf w from b leaf.ptr (shape_of (st.parts.leaves k))) (sym of.ends)
+            (subst (λ (p : Ptr). IsTreeLeaf w from key.end p (shape_of (st.parts.leaves k)))
+            (sym of.ptr) at));
+        loaded = of.loaded;
+        keys = λ s. keys_say (image_tree.set_keys sets) leaf.keys s of.last.order of.last.shown
+            ∙ ap (λ l. ref_said (last_said l s)) (leaf_keys g sets)
+            ∙ ap (λ l. ref_said (last_said (set_keys l) s)) (sym seen)
+            ∙ ap ref_said (read_says none (sets_in w.layout image own bucket) written_here s)
+            ∙ ap (λ (ps : List Pending).
+            ref_said (last_said (keys_of ps ++ set_keys (node_share n).sets) s)) (sym none);
+        pending = λ s. ap (λ (l : List Key). last_said l s) of.pending.keys
+            ∙ ap (λ (ps : List Pending). last_said (keys_of ps) s) (sym none);
+        entries = subst (λ (o : Option Entries). AreEntriesOf o (st.parts.leaves k).pending)
+            (sym of.pending.entries) none;
+      }
+
+pub law_found : LawFound
+law_found x o is course g image given k from key points at =
+    let st = (replay o x.log).machine.whole in
+    let inv = inv_course o is.sound x.log course in
+    found o.opening.machine st inv k at.role g given.layout image from key at
+    (law_sets x o is course g image given (st.parts.leaves k).bucket
+    (λ _. (inv.fits.leaves.firm k (live_in (st.parts.leaves k).role at.role)).0)) points
 
 pub law_fetched : LawFetched
 law_fetched x o is course g image given k from key sets leaf idle are of =
     let st = (replay o x.log).machine.whole in
-    let w = o.opening.machine in
     let inv = inv_course o is.sound x.log course in
     let tree = idle.at.role in
-    read_for w st inv k tree idle.none g given.layout image from key sets leaf idle.at
+    read_for o.opening.machine st inv k tree g given.layout image from key idle.at
     (law_sets x o is course g image given (st.parts.leaves k).bucket
-    (λ _. (inv.fits.leaves.firm k (live_in (st.parts.leaves k).role tree)).0)) are of
+    (λ _. (inv.fits.leaves.firm k (live_in (st.parts.leaves k).role tree)).0)) idle.none sets leaf are
+    of

@@ -6,7 +6,7 @@ use Rattle.bc_events.specs.Run.{State}
 use Rattle.bc_facts.specs.Layout.{IsLayoutOf}
 use Rattle.bc_facts.specs.Torn.{NoTornRecord}
 use Rattle.bc_image.specs.Tree.{AreSetsAt}
-use Rattle.bc_key.specs.Key.{ptr_at}
+use Rattle.bc_key.specs.Key.{pointer_of, ptr_at}
 use Rattle.bc_key.specs.declared.key.Key.{Key}
 use Rattle.bc_leaves.specs.Keys.{last_said, ref_said}
 use Rattle.bc_leaves.specs.Parts.{keys_of}
@@ -65,6 +65,13 @@ pub record IsIdleLeaf (o : Origin) (st : State) (k from : ℕ) (key : Key) : Typ
   pub at : IsTreeLeaf o.opening.machine from key.end (ptr_at key 0)
       (shape_of (st.machine.whole.parts.leaves k))
   pub none : (st.machine.whole.parts.leaves k).pending ≡ []
+
+-- the reader finds a node where the key of a leaf of the tree points to
+abbrev pub LawFound : Type 0
+LawFound = OfReads (λ g o st image. (k from : ℕ) (key : Key) → pointer_of key ≡ Some (ptr_at key 0)
+    → IsTreeLeaf o.opening.machine from key.end (ptr_at key 0)
+    (shape_of (st.machine.whole.parts.leaves k))
+    → (sets : List Set) × AreSetsAt g image 0 key sets)
 
 abbrev pub LawFetched : Type 0
 LawFetched = OfReads (λ g o st image. (k from : ℕ) (key : Key) (sets : List Set) (leaf : Leaf)
