@@ -17,3 +17,5 @@ pub mod leaf;
 mod leaf_tests;
 #[cfg(test)]
 mod random;
+#[cfg(test)]
+mod version_tests;
