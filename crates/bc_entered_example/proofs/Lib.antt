@@ -1,0 +1,4 @@
+pub mod Torn
+pub mod Ready
+pub mod Bytes
+pub mod Example
