@@ -1,0 +1,38 @@
+-- Runs that bring keys, with all that is asked of a run on a sound pair.
+use Rattle.std.specs.Prelude.{◌≡◌, ℕ, ◌<◌, [], ◌∷◌}
+use Rattle.bc_disk.specs.declared.geometry.Geometry.{Geometry}
+use Rattle.bc_key.specs.declared.key.Key.{Key}
+use Rattle.bc_super.specs.Super.{data_sectors}
+use Rattle.bc_super.specs.declared.backing.BackingSuper.{BackingSuper}
+use Rattle.bc_super.specs.declared.cache.CacheSuper.{CacheSuper}
+use Rattle.bc_data.specs.Data as flow
+use Rattle.bc_leaves.specs.Parts as parts
+use Rattle.bc_image.specs.Formatted.{IsFormatted}
+use Rattle.bc_image.specs.NewPair.{new_pair}
+use Rattle.bc_image.specs.Pair.{Pair}
+use Rattle.bc_image.specs.Reading.{View}
+use Rattle.bc_image.specs.Sound.{HasSuperblocks}
+use Rattle.bc_whole.specs.State.{Opening}
+use Rattle.bc_known.specs.Acts.{Event, Keyed}
+use Rattle.bc_ranges.specs.Laws.{IsRunOf}
+
+-- a run from an opening of a pair, whose last event brings a key into a leaf
+pub record Inserts (p : Pair) (v : View) : Type 0 where
+  pub opening : Opening
+  pub held : parts.State
+  pub first : Event
+  pub seat : ℕ
+  pub act : flow.Act
+  pub slot : ℕ
+  pub key : Key
+  pub run : (next_seq : ℕ) → IsRunOf p v opening held next_seq (first
+      ∷ record { seat = seat; act = Keyed act slot (key ∷ []) } ∷ [])
+
+abbrev pub LawInsert : Type 0
+LawInsert = (p : Pair) (b : BackingSuper) (c : CacheSuper) (g : Geometry) → IsFormatted p b c g
+    → HasSuperblocks b c → 5 < data_sectors p.backing_sectors b
+    → (v : View) × (v.geometry ≡ g) × Inserts p v
+
+-- on the small pair that was made anew
+abbrev pub HasInsert : Type 0
+HasInsert = (v : View) × Inserts new_pair v
