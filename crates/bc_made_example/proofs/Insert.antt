@@ -1,7 +1,7 @@
 -- A run on a pair that was made anew: a seat claims a sector, and drops what keys say of it.
-use Rattle.std.proofs.Common.{◌≡◌, inl, inr, ℕ, ◌<◌, ◌≤◌, true, false, List, [], ◌∷◌, ◌++◌}
-use Rattle.std.proofs.Common.{Option, Some, None}
-use Rattle.std.proofs.Common.{refl, sym, ap, ◌∙◌, subst, lit<, lit≤, arith, if◌then◌else◌}
+use Rattle.std.proofs.Common.{◌≡◌, inl, inr, ℕ, ◌<◌, ◌≤◌, true, false, List, [], ◌∷◌, ◌++◌, Option}
+use Rattle.std.proofs.Common.{Some, None, refl, sym, ap, ◌∙◌, subst, lit<, lit≤, arith}
+use Rattle.std.proofs.Common.{if◌then◌else◌}
 use Rattle.bc_disk.specs.declared.geometry.Geometry.{Geometry}
 use Rattle.bc_key.specs.declared.key.Key.{Key}
 use Rattle.bc_extent.specs.LastKey.{last_key}
@@ -88,10 +88,10 @@ new_key g size key is = subst (λ (k : Key). IsNewKey g size k) (sym is) (record
 
 module _ (p : Pair) (b : BackingSuper) (c : CacheSuper) (g : Geometry) (f : IsFormatted p b c g)
     (supers : HasSuperblocks b c) where
-  abbrev view : View
+  abbrev pub view : View
   view = fresh_view p b c g f
 
-  view_is : IsView p view
+  pub view_is : IsView p view
   view_is = fresh_is_view p b c g f supers.initialised.1
 
   not_through : (d : BackingSuper) → d ≡ b → IsPassThrough d → ⊥
@@ -102,14 +102,14 @@ module _ (p : Pair) (b : BackingSuper) (c : CacheSuper) (g : Geometry) (f : IsFo
         | inr dirty ↦ omega (arith, dirty, alone.1, flags)
       ]
 
-  parts_are : HasSoundParts p view
+  pub parts_are : HasSoundParts p view
   parts_are = elim (fresh_is_sound p b c g f supers) [
     | inl alone ↦ absurd (not_through alone.0 (one_backing p alone.0 b alone.1 f.backing) alone.2)
     | inr k ↦ subst (λ (v : View). HasSoundParts p v) (one_view p k.0 view k.1 view_is) k.2
   ]
 
   -- no sector has a key
-  no_key : (s : ℕ) → key_of view.reading s ≡ None
+  pub no_key : (s : ℕ) → key_of view.reading s ≡ None
   no_key s =
       ap (λ (ks : List Key). last_key (((ks ++ []) ++ []) ++ (f.entry.keys ++ [])) s) f.empty
       ∙ ap (λ (ks : List Key). last_key (ks ++ []) s) f.first_entry.keys

@@ -1,1 +1,3 @@
 pub mod Insert
+pub mod Bytes
+pub mod Node

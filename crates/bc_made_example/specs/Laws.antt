@@ -1,19 +1,21 @@
 -- Runs that bring keys, with all that is asked of a run on a sound pair.
-use Rattle.std.specs.Prelude.{◌≡◌, ℕ, ◌<◌, [], ◌∷◌}
+use Rattle.std.specs.Prelude.{◌≡◌, ◌≢◌, ℕ, ◌<◌, List, [], ◌∷◌}
+use Rattle.bc_model.specs.Sector.{Value}
 use Rattle.bc_disk.specs.declared.geometry.Geometry.{Geometry}
 use Rattle.bc_key.specs.declared.key.Key.{Key}
 use Rattle.bc_super.specs.Super.{data_sectors}
 use Rattle.bc_super.specs.declared.backing.BackingSuper.{BackingSuper}
 use Rattle.bc_super.specs.declared.cache.CacheSuper.{CacheSuper}
 use Rattle.bc_data.specs.Data as flow
+use Rattle.bc_meta.specs.Tree.{NodeSet}
 use Rattle.bc_leaves.specs.Parts as parts
 use Rattle.bc_image.specs.Formatted.{IsFormatted}
 use Rattle.bc_image.specs.NewPair.{new_pair}
 use Rattle.bc_image.specs.Pair.{Pair}
 use Rattle.bc_image.specs.Reading.{View}
 use Rattle.bc_image.specs.Sound.{HasSuperblocks}
-use Rattle.bc_whole.specs.State.{Opening}
-use Rattle.bc_known.specs.Acts.{Event, Keyed}
+use Rattle.bc_whole.specs.State.{Opening, OfInner}
+use Rattle.bc_known.specs.Acts.{Event, Keyed, WriteCache}
 use Rattle.bc_ranges.specs.Laws.{IsRunOf}
 
 -- a run from an opening of a pair, whose last event brings a key into a leaf
@@ -36,3 +38,21 @@ LawInsert = (p : Pair) (b : BackingSuper) (c : CacheSuper) (g : Geometry) → Is
 -- on the small pair that was made anew
 abbrev pub HasInsert : Type 0
 HasInsert = (v : View) × Inserts new_pair v
+
+-- a run from an opening of a pair, whose last event writes an inner node that has a child
+pub record WritesNode (p : Pair) (v : View) : Type 0 where
+  pub opening : Opening
+  pub held : parts.State
+  pub next_seq : ℕ
+  pub first : Event
+  pub seat : ℕ
+  pub slot : ℕ
+  pub inner : parts.InnerNode
+  pub set : NodeSet
+  pub values : List Value
+  pub some : set.children ≢ []
+  pub run : IsRunOf p v opening held next_seq (first
+      ∷ record { seat = seat; act = WriteCache (OfInner slot inner set) values } ∷ [])
+
+abbrev pub HasNode : Type 0
+HasNode = (v : View) × WritesNode new_pair v

@@ -1,5 +1,5 @@
 //! Runs that bring a key: each law is the contract of a function.
-ghost use Rattle.bc_made_example.specs.Laws.{HasInsert, LawInsert};
+ghost use Rattle.bc_made_example.specs.Laws.{HasInsert, HasNode, LawInsert};
 
 /// Each pair that was made anew, over more than five sectors of data, is opened, and a run from
 /// there brings a key that is well made, with all else that is asked of a run on a sound pair.
@@ -10,4 +10,10 @@ pub fn law_insert()
 /// There is such a run.
 pub fn insert_exists()
     ensures { HasInsert }
+{}
+
+/// There is a run that writes a new inner node whose key of a child is well made, with all else
+/// that is asked of a run on a sound pair.
+pub fn node_exists()
+    ensures { HasNode }
 {}
