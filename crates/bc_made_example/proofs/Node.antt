@@ -1,10 +1,11 @@
--- A run on the small pair that was made anew: a seat takes a bucket, and writes a root into it.
+-- Runs on the small pair that was made anew: a seat takes a bucket, and writes a root or a leaf
+-- into it.
 use Rattle.std.proofs.Common.{◌≡◌, ◌≢◌, inl, inr, ℕ, zero, suc, ◌+◌, ◌-◌, ◌^◌, ◌<◌, ◌≤◌, Bool, true}
 use Rattle.std.proofs.Common.{false, List, [], ◌∷◌, ◌++◌, length, replicate, Option, Some, None}
 use Rattle.std.proofs.Common.{refl, sym, ap, ◌∙◌, subst, lit<, lit≤, arith, if◌then◌else◌, ◌==◌}
 use Rattle.std.proofs.Common.{◌||◌}
 use Rattle.std.specs.Prelude.{All, ◌/◌}
-use Rattle.std.proofs.lemmas.List.{length-replicate}
+use Rattle.std.proofs.lemmas.List.{length-append, length-replicate}
 use Rattle.std.proofs.lemmas.List.Elements.{All-nil, All-cons}
 use Rattle.bc_model.specs.Pattern.{zeros}
 use Rattle.bc_model.specs.Sector.{Image, Value, at_run}
@@ -14,16 +15,27 @@ use Rattle.bc_jset.specs.Entries.{bucket_end}
 use Rattle.bc_jset.specs.Records.{entry_kind}
 use Rattle.bc_jset.proofs.Records.{entry_codec}
 use Rattle.bc_record.proofs.Found.{found_stays}
+use Rattle.bc_key.specs.declared.key.Key.{Key}
 use Rattle.bc_key.specs.Key.{ptr_at}
 use Rattle.bc_books.specs.Books.{is_listed}
-use Rattle.bc_books.specs.Shelves.{Fresh, IsFor, IsHeldBy, Priorities, Purpose}
-use Rattle.bc_books.specs.Shelves.{Spent, Tree, by_room}
-use Rattle.bc_data.specs.Enabled.{IsSpare as IsSpareAt}
+use Rattle.bc_books.specs.Shelves.{Fresh, IsFor, IsHeldBy, Priorities, Purpose, Spent, Tree}
+use Rattle.bc_books.specs.Shelves.{by_room}
+use Rattle.bc_data.specs.Data as flow
+use Rattle.bc_data.specs.Enabled.{CanWrite, IsSpare as IsSpareAt}
 use Rattle.bc_meta.specs.Facts.{In}
 use Rattle.bc_meta.specs.Layout.{Layout, is_within, node_end, set_len}
+use Rattle.bc_meta.specs.Acts as meta
+use Rattle.bc_meta.specs.Acts.{fold}
+use Rattle.bc_meta.specs.Places.{Places}
+use Rattle.bc_meta.specs.Tree.{NodeSet, Owner}
+use Rattle.bc_leaves.specs.Keys.{last_said}
+use Rattle.bc_leaves.specs.Parts.{InRange, Draft, InnerNode, Leaf, NoNode}
+use Rattle.bc_leaves.proofs.Pend.{front_miss}
+use Rattle.bc_leaves.proofs.Said.{spoken_range}
+use Rattle.bc_known.specs.Asked.{CanStartNode}
+use Rattle.bc_super.specs.Super.{data_sectors}
 use Rattle.bc_meta.specs.Records.{Records, loose_node, new_node}
 use Rattle.bc_meta.proofs.Lists.{by_test}
-use Rattle.bc_leaves.specs.Parts.{Draft, InnerNode, Leaf, NoNode}
 use Rattle.bc_leaves.specs.Parts as parts
 use Rattle.bc_image.specs.Formatted.{leaf_bucket, root_bucket, table_bucket}
 use Rattle.bc_image.specs.NewPair.{new_pair}
@@ -42,19 +54,21 @@ use Rattle.bc_facts.specs.Torn.{NoTornRecord}
 use Rattle.bc_facts.proofs.Made.{is_layout, made}
 use Rattle.bc_record.specs.Places.{bucket_at}
 use Rattle.bc_disk.specs.Chain.{sets_in_chain}
-use Rattle.bc_whole.specs.State.{Opening, OfInner}
+use Rattle.bc_whole.specs.State.{Opening, OfInner, OfLeaf}
 use Rattle.bc_known.specs.Acts.{Event, State, Take, WriteCache, after}
-use Rattle.bc_known.specs.Run.{IsEnabled, run, start}
+use Rattle.bc_known.specs.Run.{IsEnabled, start}
 use Rattle.bc_ranges.specs.Laws.{IsRunOf}
-use Rattle.bc_ranges.specs.Made.{IsInnerKey, IsInnerSet}
-use Rattle.bc_opening.specs.Choices.{Choices, IsInner, MayBeChosen}
+use Rattle.bc_ranges.specs.Made.{IsInnerKey, IsInnerSet, IsNewKey}
+use Rattle.bc_opening.specs.Choices.{Choices, IsInner, IsLeaf, MayBeChosen}
 use Rattle.bc_opening.specs.Opening.{IsOpenedAs}
 use Rattle.bc_opening.specs.Read.{inner_of, leaf_of}
 use Rattle.bc_opening.proofs.Chosen.{law_choices}
 use Rattle.bc_opening.proofs.Whole.{law_opening}
 use Rattle.bc_reopened.proofs.Law.{law_opened}
-use Rattle.bc_made_example.specs.Laws.{HasNode}
-use Rattle.bc_made_example.proofs.Bytes.{front, front_spelled, node_set, owner, set_long, small}
+use Rattle.bc_made_example.specs.Laws.{HasLeaf, HasNode}
+use Rattle.bc_made_example.proofs.Bytes.{data_key, front, front_spelled, leaf_front}
+use Rattle.bc_made_example.proofs.Bytes.{leaf_front_spelled, leaf_set, leaf_set_long, node_set}
+use Rattle.bc_made_example.proofs.Bytes.{owner, set_long, small}
 use Rattle.bc_made_example.proofs.Insert as whole
 
 -- ---- the pair, and what it has no use for
@@ -151,8 +165,27 @@ listed_at n = if n == 12 then Some Priorities else (if n == 19 then Some Tree el
 abbrev inner_at : ℕ → Option Node
 inner_at i = if i == 0 then Some root_node else None
 
+abbrev leaf_at : ℕ → Option Node
+leaf_at i = if i == 0 then Some leaf_node else None
+
+-- where the leaf is by another choice
+abbrev there : (i : ℕ) × (any.0.leaf i ≡ Some leaf_node)
+there = any.1.leaves.all leaf_node (inr (inl refl)) refl
+
 abbrev chosen : Choices
-chosen = record any.0 { inner = inner_at; listed = listed_at; kept = 12 ∷ [] }
+chosen = record any.0 {
+  leaf = leaf_at;
+  inner = inner_at;
+  slot = λ s. 0;
+  pending = λ i. any.0.pending there.0;
+  listed = listed_at;
+  kept = 12 ∷ [];
+}
+
+is_leaf : (i : ℕ) (n : Node) → leaf_at i ≡ Some n → (i ≡ 0) × (leaf_node ≡ n)
+is_leaf i n = by_test i 0
+    (λ t. (if t then Some leaf_node else None) ≡ Some n → (i ≡ 0) × (leaf_node ≡ n))
+    (λ is e. (is, cc)) (λ other e. absurd (cc))
 
 is_root : (i : ℕ) (n : Node) → inner_at i ≡ Some n → (i ≡ 0) × (root_node ≡ n)
 is_root i n = by_test i 0
@@ -171,7 +204,17 @@ listed_spare q p = by_test q 12
 
 may_be : MayBeChosen small r chosen
 may_be = record {
-  leaves = any.1.leaves;
+  leaves = record {
+    is_node = λ i n e. (let is = is_leaf i n e in
+        subst (λ (m : Node). In m (root_node ∷ leaf_node ∷ []) × IsLeaf m.level) is.1
+        (inr (inl refl), refl));
+    all = λ n i bottom. elim i [
+      | inl is ↦ absurd (omega (arith, bottom, ap (λ (m : Node). m.level) is))
+      | inr (inl is) ↦ (0, ap Some (sym is))
+      | inr (inr n) ↦ absurd n
+    ];
+    once = λ i k n a b. (is_leaf i n a).0 ∙ sym (is_leaf k n b).0;
+  };
   inner_nodes = record {
     is_node = λ i n e. (let is = is_root i n e in
         subst (λ (m : Node). In m (root_node ∷ leaf_node ∷ []) × IsInner m.level) is.1
@@ -183,8 +226,9 @@ may_be = record {
     ];
     once = λ i k n a b. (is_root i n a).0 ∙ sym (is_root k n b).0;
   };
-  slots = any.1.slots;
-  pending = any.1.pending;
+  slots = λ i n s e low high. sym (is_leaf i n e).0;
+  pending = λ i n older e entries. any.1.pending there.0 n older
+      (there.1 ∙ ap Some (is_leaf i n e).1) entries;
   listed = listed_spare;
   kept = λ q i. elim i [ inl is ↦ ap listed_at is | inr n ↦ absurd n ];
   distinct = (λ i. i, tt);
@@ -216,25 +260,45 @@ inner = record {
   loaded = false;
 }
 
+abbrev leaf : Leaf
+leaf = record {
+  first = 0;
+  end = 2 ^ 40;
+  bucket = 19;
+  word = 0x50000;
+  role = Draft;
+  loaded = false;
+  pending = [];
+}
+
+-- A node of one sector is written, a leaf or not.
 module _ (w : Opening) (x : parts.State)
-    (o : IsOpenedAs new_pair view (made small) chosen w x) where
+    (o : IsOpenedAs new_pair view (made small) chosen w x) (bottom : Bool) (set : NodeSet)
+    (seq_is : set.seq ≡ 65537) (front : List Value) (one_value : length front ≡ 1)
+    (front_spelled : (made small).sets.spelled (owner bottom) front ≡ Some set)
+    (set_long : (made small).sets.len set ≡ 1) where
+  abbrev own : Owner
+  own = owner bottom
+
   layout_is : w.layout ≡ made small
   layout_is = o.opening.layout_is
 
   abbrev values : List Value
-  values = front ++ replicate (w.layout.node_sectors - set_len w.layout node_set) zeros
+  values = front ++ replicate (w.layout.node_sectors - set_len w.layout set) zeros
 
   -- they fill the node
   long : length values ≡ 64
   long =
       let sectors = ap (λ (l : Layout). l.node_sectors) layout_is in
-      let size = ap (λ (l : Layout). l.sets.len node_set) layout_is ∙ set_long in
+      let size = ap (λ (l : Layout). l.sets.len set) layout_is ∙ set_long in
       let more = length-replicate {A = Value}
-      (w.layout.node_sectors - set_len w.layout node_set) zeros in
-      omega (arith, sectors, size, more)
+      (w.layout.node_sectors - set_len w.layout set) zeros in
+      let both = length-append front
+      (replicate (w.layout.node_sectors - set_len w.layout set) zeros) in
+      omega (arith, sectors, size, more, both, one_value)
 
-  begins_is : w.layout.begins owner ≡ 1280
-  begins_is = ap (λ (l : Layout). l.begins owner) layout_is
+  begins_is : w.layout.begins own ≡ 1280
+  begins_is = ap (λ (l : Layout). l.begins own) layout_is
 
   listed : w.flow.books.listed 19 ≡ Some Tree
   listed = o.opening.books.listed 19
@@ -248,9 +312,6 @@ module _ (w : Opening) (x : parts.State)
 
   abbrev takes : Event
   takes = record { seat = 0; act = Take Tree 19 }
-
-  abbrev writes : Event
-  writes = record { seat = 0; act = WriteCache (OfInner 1 inner node_set) values }
 
   abbrev st : State
   st = start w x 65537
@@ -276,20 +337,11 @@ module _ (w : Opening) (x : parts.State)
 
   no_leaf_there : (k : ℕ) → (x.leaves k).role ≢ NoNode → (x.leaves k).bucket ≢ 19
   no_leaf_there k = subst (λ (l : Leaf). l.role ≢ NoNode → l.bucket ≢ 19)
-      (sym (o.opening.parts.leaves k)) (go (any.0.leaf k) (any.1.leaves.is_node k))
-    where
-      go : (slot : Option Node)
-          → ((n : Node) → slot ≡ Some n → In n (root_node ∷ leaf_node ∷ []) × (n.level ≡ 0))
-          → (leaf_of small slot (any.0.pending k)).role ≢ NoNode
-          → (leaf_of small slot (any.0.pending k)).bucket ≢ 19
-      go None each some at = some refl
-      go (Some n) each some at = elim (each n refl).0 [
-        | inl is ↦ (let here = ap (λ (m : Node). bucket_of small m.key) is in
-            absurd (root_away (sym here ∙ at)))
-        | inr (inl is) ↦ (let here = ap (λ (m : Node). bucket_of small m.key) is in
-            absurd (leaf_away (sym here ∙ at)))
-        | inr (inr none) ↦ none
-      ]
+      (sym (o.opening.parts.leaves k))
+      (by_test k 0
+      (λ t. (leaf_of small (if t then Some leaf_node else None) (chosen.pending k)).role ≢ NoNode
+      → (leaf_of small (if t then Some leaf_node else None) (chosen.pending k)).bucket ≢ 19)
+      (λ is some at. leaf_away at) (λ other some at. some refl))
 
   no_inner_there : (k : ℕ) → (x.inner_nodes k).role ≢ NoNode → (x.inner_nodes k).bucket ≢ 19
   no_inner_there k = subst (λ (n : InnerNode). n.role ≢ NoNode → n.bucket ≢ 19)
@@ -304,10 +356,10 @@ module _ (w : Opening) (x : parts.State)
       ∙ (let is : t / 64 ≡ 20 = omega (arith, low, high) in
       ap (λ n. n - 1) is)
 
-  places : (t : ℕ) (v : Value) → at_run (w.layout.begins owner) values t ≡ Some v
+  places : (t : ℕ) (v : Value) → at_run (w.layout.begins own) values t ≡ Some v
       → IsSpareAt w.flow.books taken.whole.flow.books 0 t
   places t v is =
-      let range = at_range (w.layout.begins owner) values t v is in
+      let range = at_range (w.layout.begins own) values t v is in
       let low = range.0 in
       let high = range.1 in
       let at = begins_is in
@@ -323,51 +375,40 @@ module _ (w : Opening) (x : parts.State)
             (Tree, refl));
       }
 
-  write_it : IsEnabled w taken 0 (WriteCache (OfInner 1 inner node_set) values)
-  write_it = record {
-    data_allows = (
-      record {
-        heard = inl refl;
-        steps = tt;
-        can = record { places = places; sendable = tt };
-      },
-      tt,
+  can_write : CanWrite w.flow taken.whole.flow 0 flow.Metadata (w.layout.begins own) values
+  can_write = record { places = places; sendable = tt }
+
+  can_start : CanStartNode w taken 0 19 own set values
+  can_start = record {
+    held = refl;
+    unnamed = ap (λ c. if c then Some 0 else None) no_chain;
+    vacant = (
+      ap (λ (s : Records). s.unused 19) o.opening.records ∙ unused,
+      no_leaf_there,
+      no_inner_there,
     );
-    asks = (
-      ap (λ (n : InnerNode). n.role) (o.opening.parts.inner_nodes 1),
-      refl,
-      record {
-        held = refl;
-        unnamed = ap (λ c. if c then Some 0 else None) no_chain;
-        vacant = (
-          ap (λ (s : Records). s.unused 19) o.opening.records ∙ unused,
-          no_leaf_there,
-          no_inner_there,
-        );
-        room = subst (λ (l : Layout). l.begins owner + set_len l node_set ≤ node_end l owner)
-            (sym layout_is) (let size = set_long in omega (arith, size));
-        inside = ap (λ (l : Layout). is_within l 19 owner) layout_is;
-        first = record {
-          front = front;
-          spelled = subst (λ (l : Layout). l.sets.spelled owner front ≡ Some node_set)
-              (sym layout_is) front_spelled;
-          values_are = refl;
-        };
-        seq = refl;
-      },
-    );
+    room = subst (λ (l : Layout). l.begins own + set_len l set ≤ node_end l own) (sym layout_is)
+        (let size = set_long in omega (arith, size));
+    inside = ap (λ (l : Layout). is_within l 19 own) layout_is;
+    first = record {
+      front = front;
+      spelled = subst (λ (l : Layout). l.sets.spelled own front ≡ Some set) (sym layout_is)
+          front_spelled;
+      values_are = refl;
+    };
+    seq = seq_is;
   }
 
-  abbrev last : State
-  last = run w st (takes ∷ writes ∷ [])
+  abbrev last : Places
+  last = (fold w.layout taken.whole.store (meta.WriteNode 0 19 own set values ∷ [])).places
 
   -- the journal is what it was
-  journal_stays : (image : Image) → MayLeave last.whole.store.places.device image → (s : ℕ)
+  journal_stays : (image : Image) → MayLeave last.device image → (s : ℕ)
       → s < 1280 → image s ≡ w.store.image s
   journal_stays image left s low =
       let at = begins_is in
-      let none : at_run (w.layout.begins owner) values s ≡ None =
-      at_miss (w.layout.begins owner) values s
+      let none : at_run (w.layout.begins own) values s ≡ None =
+      at_miss (w.layout.begins own) values s
       (λ range. let from = range.0 in omega (arith, from, at, low)) in
       elim (subst (λ (v : Option Value). Among (image s) (besides v (w.store.image s ∷ []))) none
       (left s)) [
@@ -375,7 +416,7 @@ module _ (w : Opening) (x : parts.State)
         | inr n ↦ absurd n
       ]
 
-  no_torn : NoTornRecord small w.store.image last.whole.store.places
+  no_torn : NoTornRecord small w.store.image last
   no_torn = record {
     entries = λ image q at left lt block e whole. inl (
       found_stays (entry_kind small) (entry_codec small) image w.store.image (bucket_end small q) at
@@ -386,40 +427,129 @@ module _ (w : Opening) (x : parts.State)
     sets = λ image q left own known stand s whole. absurd (loose q own known);
   }
     where
-      loose : (q : ℕ) → last.whole.store.places.own q ≡ true
-          → (last.whole.store.places.records.nodes q).loose ≡ false → ⊥
+      loose : (q : ℕ) → last.own q ≡ true
+          → (last.records.nodes q).loose ≡ false → ⊥
       loose q = by_test q 19
           (λ t. (if t then true else (if t then false else false)) ≡ true
-          → (if t then new_node owner node_set else (if t then loose_node
+          → (if t then new_node own set else (if t then loose_node
           else st.whole.store.places.records.nodes q)).loose ≡ false → ⊥)
           (λ is mine firm. no_false firm) (λ other mine firm. no_true mine)
 
-  child_points : IsNodeKey small leaf_key
-  child_points = record { size = refl; some = lit< tt; ptrs = points }
-    where
-      points : PointsIntoData small leaf_key
-      points zero inside = record {
-        device = refl;
-        bucket = (omega arith, lit< tt);
-        whole = lit≤ tt;
-      }
-      points (suc i) inside = absurd (omega arith)
+-- ---- of a root with a child, and of a leaf with a key
 
-  well_made : IsInnerSet small 0 (2 ^ 40) node_set
-  well_made = record {
-    set = root_set;
-    seen = refl;
-    keys = All-cons (IsInnerKey small 0 (2 ^ 40)) leaf_key []
-        (record { child = λ _. child_points; low = lit< tt; high = lit≤ tt })
-        (All-nil (IsInnerKey small 0 (2 ^ 40)));
+child_points : IsNodeKey small leaf_key
+child_points = record { size = refl; some = lit< tt; ptrs = points }
+  where
+    points : PointsIntoData small leaf_key
+    points zero inside = record {
+      device = refl;
+      bucket = (omega arith, lit< tt);
+      whole = lit≤ tt;
+    }
+    points (suc i) inside = absurd (omega arith)
+
+well_made : IsInnerSet small 0 (2 ^ 40) node_set
+well_made = record {
+  set = root_set;
+  seen = refl;
+  keys = All-cons (IsInnerKey small 0 (2 ^ 40)) leaf_key []
+      (record { child = λ _. child_points; low = lit< tt; high = lit≤ tt })
+      (All-nil (IsInnerKey small 0 (2 ^ 40)));
+}
+
+key_made : (key : Key) → In key leaf_set.keys
+    → IsNewKey small (data_sectors 1000 backing) key
+key_made key (inl is) = subst (λ (k : Key). IsNewKey small (data_sectors 1000 backing) k) (sym is)
+    (record {
+      lies = record { ptrs = points; end = λ _. lit≤ tt };
+      some = lit< tt;
+      start = lit≤ tt;
+    })
+  where
+    points : PointsIntoData small data_key
+    points zero inside = record {
+      device = refl;
+      bucket = (omega arith, lit< tt);
+      whole = lit≤ tt;
+    }
+    points (suc i) inside = absurd (omega arith)
+key_made key (inr none) = absurd none
+
+-- it says nothing behind the last sector
+said_inside : (s : ℕ) → (InRange leaf s → ⊥) → last_said leaf_set.keys s ≡ None
+said_inside s out = front_miss data_key [] s (λ c. let r = spoken_range data_key s c in
+    let low = r.0 in let high = r.1 in out (omega (arith, low), omega (arith, high)))
+
+module _ (w : Opening) (x : parts.State)
+    (o : IsOpenedAs new_pair view (made small) chosen w x) where
+  abbrev node_values : List Value
+  node_values = values w x o false node_set refl front refl front_spelled set_long
+
+  abbrev leaf_values : List Value
+  leaf_values = values w x o true leaf_set refl leaf_front refl leaf_front_spelled leaf_set_long
+
+  abbrev takes_it : Event
+  takes_it = record { seat = 0; act = Take Tree 19 }
+
+  node_run : IsRunOf new_pair view w x 65537
+      (takes_it ∷ record { seat = 0; act = WriteCache (OfInner 1 inner node_set) node_values } ∷ [])
+  node_run = record {
+    opening = law_opened new_pair view (made small) chosen w x (o, may_be);
+    course = (
+      take_it w x o false node_set refl front refl front_spelled set_long,
+      (
+        record {
+          data_allows = (
+            record {
+              heard = inl refl;
+              steps = tt;
+              can = can_write w x o false node_set refl front refl front_spelled set_long;
+            },
+            tt,
+          );
+          asks = (
+            ap (λ (n : InnerNode). n.role) (o.opening.parts.inner_nodes 1),
+            refl,
+            can_start w x o false node_set refl front refl front_spelled set_long,
+          );
+        },
+        tt,
+      ),
+    );
+    made = (tt, ((well_made, refl), tt));
+    no_torn = no_torn w x o false node_set refl front refl front_spelled set_long;
   }
 
-  run_of : IsRunOf new_pair view w x 65537 (takes ∷ writes ∷ [])
-  run_of = record {
+  leaf_run : IsRunOf new_pair view w x 65537
+      (takes_it ∷ record { seat = 0; act = WriteCache (OfLeaf 1 leaf leaf_set) leaf_values } ∷ [])
+  leaf_run = record {
     opening = law_opened new_pair view (made small) chosen w x (o, may_be);
-    course = (take_it, (write_it, tt));
-    made = (tt, ((well_made, refl), tt));
-    no_torn = no_torn;
+    course = (
+      take_it w x o true leaf_set refl leaf_front refl leaf_front_spelled leaf_set_long,
+      (
+        record {
+          data_allows = (
+            record {
+              heard = inl refl;
+              steps = tt;
+              can = can_write w x o true leaf_set refl leaf_front refl leaf_front_spelled
+                  leaf_set_long;
+            },
+            tt,
+          );
+          asks = (
+            ap (λ (n : Leaf). n.role) (o.opening.parts.leaves 1),
+            refl,
+            refl,
+            said_inside,
+            can_start w x o true leaf_set refl leaf_front refl leaf_front_spelled leaf_set_long,
+          );
+        },
+        tt,
+      ),
+    );
+    made = (tt, ((key_made, refl), tt));
+    no_torn = no_torn w x o true leaf_set refl leaf_front refl leaf_front_spelled leaf_set_long;
   }
 
 opened : (w : Opening) × (x : parts.State) × IsOpenedAs new_pair view (made small) chosen w x
@@ -449,8 +579,28 @@ has_node = (
     slot = 1;
     inner = inner;
     set = node_set;
-    values = values opened.0 opened.1 opened.2;
+    values = node_values opened.0 opened.1 opened.2;
     some = λ none. cc;
-    run = run_of opened.0 opened.1 opened.2;
+    run = node_run opened.0 opened.1 opened.2;
+  },
+)
+
+pub has_leaf : HasLeaf
+has_leaf = (
+  view,
+  record {
+    opening = opened.0;
+    held = opened.1;
+    next_seq = 65537;
+    first = record { seat = 0; act = Take Tree 19 };
+    seat = 0;
+    slot = 1;
+    leaf = leaf;
+    set = leaf_set;
+    values = leaf_values opened.0 opened.1 opened.2;
+    key = data_key;
+    is_key = inl refl;
+    pointer = lit< tt;
+    run = leaf_run opened.0 opened.1 opened.2;
   },
 )

@@ -7,6 +7,7 @@ use Rattle.bc_super.specs.Super.{data_sectors}
 use Rattle.bc_super.specs.declared.backing.BackingSuper.{BackingSuper}
 use Rattle.bc_super.specs.declared.cache.CacheSuper.{CacheSuper}
 use Rattle.bc_data.specs.Data as flow
+use Rattle.bc_meta.specs.Facts.{In}
 use Rattle.bc_meta.specs.Tree.{NodeSet}
 use Rattle.bc_leaves.specs.Parts as parts
 use Rattle.bc_image.specs.Formatted.{IsFormatted}
@@ -14,7 +15,7 @@ use Rattle.bc_image.specs.NewPair.{new_pair}
 use Rattle.bc_image.specs.Pair.{Pair}
 use Rattle.bc_image.specs.Reading.{View}
 use Rattle.bc_image.specs.Sound.{HasSuperblocks}
-use Rattle.bc_whole.specs.State.{Opening, OfInner}
+use Rattle.bc_whole.specs.State.{Opening, OfInner, OfLeaf}
 use Rattle.bc_known.specs.Acts.{Event, Keyed, WriteCache}
 use Rattle.bc_ranges.specs.Laws.{IsRunOf}
 
@@ -56,3 +57,23 @@ pub record WritesNode (p : Pair) (v : View) : Type 0 where
 
 abbrev pub HasNode : Type 0
 HasNode = (v : View) × WritesNode new_pair v
+
+-- and one that writes a leaf with a key that points to data
+pub record WritesLeaf (p : Pair) (v : View) : Type 0 where
+  pub opening : Opening
+  pub held : parts.State
+  pub next_seq : ℕ
+  pub first : Event
+  pub seat : ℕ
+  pub slot : ℕ
+  pub leaf : parts.Leaf
+  pub set : NodeSet
+  pub values : List Value
+  pub key : Key
+  pub is_key : In key set.keys
+  pub pointer : 0 < key.count
+  pub run : IsRunOf p v opening held next_seq (first
+      ∷ record { seat = seat; act = WriteCache (OfLeaf slot leaf set) values } ∷ [])
+
+abbrev pub HasLeaf : Type 0
+HasLeaf = (v : View) × WritesLeaf new_pair v
