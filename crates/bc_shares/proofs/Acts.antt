@@ -11,11 +11,15 @@ use Rattle.bc_data.specs.Data as flow
 use Rattle.bc_data.specs.Enabled.{steps_of}
 use Rattle.bc_data.specs.After as flow_step
 use Rattle.bc_meta.specs.Entries.{Entry}
+use Rattle.bc_meta.specs.Events.{GiveUp}
+use Rattle.bc_meta.specs.Layout.{Layout}
+use Rattle.bc_meta.specs.Acts as meta
+use Rattle.bc_meta.specs.Acts.{fold as fold_acts}
 use Rattle.bc_meta.specs.Records.{Stage, Nothing, Fixed, Ready, Sent, Safe, after_barrier}
 use Rattle.bc_leaves.specs.Parts as parts
 use Rattle.bc_leaves.specs.Events as parts_event
 use Rattle.bc_leaves.specs.After as parts_step
-use Rattle.bc_leaves.specs.Laws.{parts_of}
+use Rattle.bc_leaves.specs.Laws.{acts_of, parts_of}
 use Rattle.bc_whole.specs.State.{Opening, Write, OfData, OfEntry, OfSet, OfParent, OfLeaf, OfInner, OfPriorities, Outside, Chain, SameChain, NewChain}
 use Rattle.bc_whole.specs.Together.{is_quiet, is_quiet_step, released, shelved}
 use Rattle.bc_whole.specs.Run.{by}
@@ -24,7 +28,7 @@ use Rattle.bc_known.specs.Acts as known
 use Rattle.bc_known.specs.Asked.{AsksSteps}
 use Rattle.bc_known.specs.Run.{IsEnabled, IsRun, run}
 use Rattle.bc_events.specs.Run as core
-use Rattle.bc_shares.specs.Shares.{if_sealed, Entries, entries_in, Counts, counts_in, journal_share, use_of, SameBuckets, books_of}
+use Rattle.bc_shares.specs.Shares.{if_sealed, Entries, entries_in, Counts, counts_in, JournalShare, journal_share, use_of, SameBuckets, books_of}
 
 -- ---- facts that acts keep, a run of them keeps
 
@@ -62,10 +66,18 @@ journal_act MakeDurable = true
 journal_act (BeginBucket b) = true
 journal_act act = false
 
+abbrev next_in : State → ℕ → ℕ
+next_in st = st.whole.store.places.ring_next
+
+abbrev share : Entries → Counts → (ℕ → ℕ) → JournalShare
+share e c n = record { entries = e; counts = c; next = n }
+
 share_is : (a b : State) → entries_in b.whole.parts.records ≡ entries_in a.whole.parts.records
-    → counts_in (books_of b) ≡ counts_in (books_of a) → journal_share b ≡ journal_share a
-share_is a b e c = ap (λ (x : Entries). record { entries = x; counts = counts_in (books_of b) }) e
-    ∙ ap (λ (x : Counts). record { entries = entries_in a.whole.parts.records; counts = x }) c
+    → counts_in (books_of b) ≡ counts_in (books_of a) → next_in b ≡ next_in a
+    → journal_share b ≡ journal_share a
+share_is a b e c n = ap (λ (x : Entries). share x (counts_in (books_of b)) (next_in b)) e
+    ∙ ap (λ (x : Counts). share (entries_in a.whole.parts.records) x (next_in b)) c
+    ∙ ap (λ (x : ℕ → ℕ). share (entries_in a.whole.parts.records) (counts_in (books_of a)) x) n
 
 barrier_sealed : (g : Stage) (e : Entry) → if_sealed (after_barrier g) e ≡ if_sealed g e
 barrier_sealed Nothing e = refl
@@ -138,6 +150,36 @@ entries_failed w st i (OfInner slot inner set) values = refl
 entries_failed w st i (OfPriorities q part set) values = refl
 entries_failed w st i (Outside place) values = refl
 
+-- a write leaves each bucket's next place alone, and so does one that fails
+next_written : (w : Opening) (st : State) (i : ℕ) (x : Write) (values : List Value)
+    → next_in (after w st i (WriteCache x values)) ≡ next_in st
+next_written w st i OfEntry values = refl
+next_written w st i (OfData q place) values = refl
+next_written w st i (OfSet slot set) values = refl
+next_written w st i (OfParent slot set) values = refl
+next_written w st i (OfLeaf slot leaf set) values = refl
+next_written w st i (OfInner slot inner set) values = refl
+next_written w st i (OfPriorities q part set) values = refl
+next_written w st i (Outside place) values = refl
+
+next_failed : (w : Opening) (st : State) (i : ℕ) (x : Write) (values : List Value)
+    → next_in (after w st i (FailCache x values)) ≡ next_in st
+next_failed w st i OfEntry values = refl
+next_failed w st i (OfData q place) values = refl
+next_failed w st i (OfSet slot set) values = refl
+next_failed w st i (OfParent slot set) values = refl
+next_failed w st i (OfLeaf slot leaf set) values = refl
+next_failed w st i (OfInner slot inner set) values = refl
+next_failed w st i (OfPriorities q part set) values = refl
+next_failed w st i (Outside place) values = refl
+
+-- and so do buckets that are let go
+next_released : (w : Layout) (m : meta.State) (xs : List Step)
+    → (fold_acts w m (acts_of (released xs))).places.ring_next ≡ m.places.ring_next
+next_released w m [] = refl
+next_released w m (MakeNode i b ∷ xs) = next_released w (meta.after w m (meta.LetGo i b)) xs
+next_released w m (x ∷ xs) = next_released w m xs
+
 journal_one : (w : Opening) (st : State) (i : ℕ) (act : Act) → journal_act act ≡ false
     → IsEnabled w st i act → journal_share (after w st i act) ≡ journal_share st
 journal_one w st i (Keyed act slot keys) off on = absurd (cc)
@@ -145,19 +187,22 @@ journal_one w st i (known.Seal last_seq rest root chain) off on = absurd (cc)
 journal_one w st i MakeDurable off on = absurd (cc)
 journal_one w st i (BeginBucket b) off on = absurd (cc)
 journal_one w st i (Alone act) off on = share_is st (after w st i (Alone act)) refl
-    (counts_alone w.flow.books (books_of st) st.whole.flow.candidates i act on.asks)
+    (counts_alone w.flow.books (books_of st) st.whole.flow.candidates i act on.asks) refl
 journal_one w st i (WriteCache x values) off on =
     share_is st (after w st i (WriteCache x values)) (entries_written w st i x values on) refl
+    (next_written w st i x values)
 journal_one w st i (FailCache x values) off on =
     share_is st (after w st i (FailCache x values)) (entries_failed w st i x values) refl
+    (next_failed w st i x values)
 journal_one w st i CacheBarrier off on =
     let r = st.whole.parts.records in
     share_is st (after w st i CacheBarrier)
-    (ap (λ o. with_sealed o (entries_in r)) (barrier_sealed r.stage r.entry)) refl
+    (ap (λ o. with_sealed o (entries_in r)) (barrier_sealed r.stage r.entry)) refl refl
 journal_one w st i (Install un steps) off on = share_is st (after w st i (Install un steps))
     (ap (λ (p : parts.State). entries_in p.records)
     (released_parts (parts_step.after st.whole.parts (parts_event.Install un)) steps))
     (counts_installed w st.whole.flow st.whole.parts i un steps on.asks.2)
+    (next_released w.layout (meta.after w.layout st.whole.store (meta.Plain (GiveUp un))) steps)
 journal_one w st i act off on = refl
 
 pub journal_kept : IsKept (λ act. journal_act act ≡ false) (λ a b. journal_share b ≡ journal_share a)

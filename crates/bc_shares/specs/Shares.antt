@@ -67,11 +67,14 @@ counts_in k = record {
 pub record JournalShare : Type 0 where
   pub entries : Entries
   pub counts : Counts
+  -- the sector behind the entries of each journal bucket
+  pub next : ℕ → ℕ
 
 abbrev pub journal_share : State → JournalShare
 journal_share st = record {
   entries = entries_in st.whole.parts.records;
   counts = counts_in st.whole.flow.books;
+  next = st.whole.store.places.ring_next;
 }
 
 -- ---- buckets
