@@ -1,9 +1,12 @@
 -- What the parts of a running cache that are in memory stand for, in the core's state.
-use Rattle.std.specs.Prelude.{◌≡◌, ℕ, suc, ◌+◌, ◌%◌, ◌<◌, ◌≤◌, List, [], ◌∷◌, ◌++◌, length, reverse, Contains, Option, Some, None, slice_get}
+use Rattle.std.specs.Prelude.{◌≡◌, ℕ, suc, ◌+◌, ◌%◌, ◌<◌, ◌≤◌, List, [], ◌∷◌, ◌++◌, length, reverse, Contains, Option, Some, None, IfSome, slice_get, slice_index}
 use Rattle.bc_key.specs.Words.{ptr_word}
 use Rattle.bc_key.specs.declared.ptr.Ptr.{Ptr}
 use Rattle.bc_meta.specs.Entries.{Entry}
+use Rattle.bc_meta.specs.Facts.{In}
+use Rattle.bc_meta.specs.Layout.{Layout, entry_len}
 use Rattle.bc_meta.specs.Tree.{set_keys}
+use Rattle.bc_facts.specs.Layout.{IsLayoutOf}
 use Rattle.bc_leaves.specs.Keys.{last_said, ref_said}
 use Rattle.bc_leaves.specs.Parts.{Role, NoNode, Draft, Free, Leaving, Coming, Pending, AllFrom, AllUpTo, keys_of}
 use Rattle.bc_leaves.specs.Parts as parts
@@ -24,6 +27,7 @@ use Rattle.bc_bucket.specs.declared.bucket.Mark.{Mark}
 use Rattle.bc_bucket.specs.declared.bucket.Mark.TheVariants as marks
 use Rattle.bc_journal.specs.declared.place.Numbers.{Numbers}
 use Rattle.bc_journal.specs.Journal.{Journal}
+use Rattle.bc_journal.specs.Ring.{Ring}
 use Rattle.bc_places.specs.Stands.{IsCutInto, StandFor}
 use Rattle.bc_shares.specs.Shares.{Shape, shape_of, JournalShare, BucketsShare, buckets_in, LeafShare, leaf_share}
 use Rattle.bc_machine.specs.declared.part.BucketsPart.{BucketsPart}
@@ -102,11 +106,29 @@ abbrev pub sealed_numbers : Option Entry → Option Numbers
 sealed_numbers None = None
 sealed_numbers (Some e) = Some (numbers_in e)
 
--- The keys that wait, oldest first, and the numbers of the durable and of the sealed entry.
-pub record IsJournalOf (x : JournalShare) (j : Journal) : Type 0 where
+-- behind the sealed entry, which goes to this sector
+abbrev pub behind_sealed : Layout → Option Entry → ℕ → ℕ
+behind_sealed w None sector = sector
+behind_sealed w (Some e) sector = sector + entry_len w e
+
+-- The ring is the machine's, of the same layout. The machine goes on behind an entry once that is
+-- durable, and the ring once it is sealed.
+pub record IsRingOf (w : Opening) (x : JournalShare) (r : Ring) : Type 0 where
+  pub layout : IsLayoutOf r.geometry w.layout
+  pub before : w.before ≡ r.geometry.first_bucket
+  pub bucket : r.next.bucket ≡ x.entries.bucket
+  pub next : w.layout.first r.next.bucket + r.next.sector
+      ≡ behind_sealed w.layout x.entries.sealed (x.next x.entries.bucket)
+  -- no entry in a journal bucket has a greater number than the ring says
+  pub newest : (b : ℕ) (e : Entry) → In e (x.entries.ring b) → e.number ≤ slice_index r.newest b
+  pub sealed : IfSome x.entries.sealed (λ e. e.number ≤ slice_index r.newest x.entries.bucket)
+
+-- The keys that wait, oldest first, the numbers of the durable and the sealed entry, and the ring.
+pub record IsJournalOf (w : Opening) (x : JournalShare) (j : Journal) : Type 0 where
   pub waiting : j.waiting ≡ reverse x.entries.waiting
   pub durable : j.durable ≡ numbers_in x.entries.newest
   pub sealed : j.sealed ≡ sealed_numbers x.entries.sealed
+  pub ring : IsRingOf w x j.ring
 
 -- ---- buckets
 

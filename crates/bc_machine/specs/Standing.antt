@@ -227,8 +227,8 @@ spine_stays sp x e on courses off = from_each x e
 journal_stays : (j : Journal) (x : World) (e : Event) → IsEnabled x e → HasCourses x
     → touches_journal e.deed ≡ false → IsJournal j x → IsJournal j (after x e)
 journal_stays j x e on courses off = from_each x e
-    (λ o st. IsJournalOf (journal_share st.machine) j) on courses
-    (λ o is course follows h. subst (λ (s : JournalShare). IsJournalOf s j)
+    (λ o st. IsJournalOf o.opening.machine (journal_share st.machine) j) on courses
+    (λ o is course follows h. subst (λ (s : JournalShare). IsJournalOf o.opening.machine s j)
     (sym (law_journal o.opening (replay o x.log) e follows.enabled off)) h)
 
 buckets_stay : (p : BucketsPart) (x : World) (e : Event) → IsEnabled x e → HasCourses x

@@ -186,8 +186,8 @@ pub record HasBegun (b : Begun) (o : Origin) : Type 0 where
   pub spine : IfSome b.spine (IsSpineOf o.opening.machine o.parts)
   pub buckets : IfSome b.buckets
       (AreBucketsOf o.opening.machine (book.opened o.opening.machine.flow.books))
-  pub journal : IfSome b.journal
-      (IsJournalOf (journal_share (start o.opening o.parts o.next_seq).machine))
+  pub journal : IfSome b.journal (IsJournalOf o.opening.machine
+      (journal_share (start o.opening o.parts o.next_seq).machine))
   pub leaves : AreLeafParts o.opening o.parts b.leaf_parts 0 b.leaves
 
 -- the keys of each sector are in the leaf of the tree that has it
@@ -374,7 +374,7 @@ abbrev pub AreBuckets : BucketsPart → World → Type 0
 AreBuckets p x = FromEach x (λ o st. AreBucketsOf o.opening.machine (books_of st.machine) p)
 
 abbrev pub IsJournal : Journal → World → Type 0
-IsJournal j x = FromEach x (λ o st. IsJournalOf (journal_share st.machine) j)
+IsJournal j x = FromEach x (λ o st. IsJournalOf o.opening.machine (journal_share st.machine) j)
 
 abbrev pub AreLeaves : ℕ → NodeCache → World → Type 0
 AreLeaves part c x = FromEach x
