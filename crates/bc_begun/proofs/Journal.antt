@@ -13,6 +13,7 @@ use Rattle.bc_meta.specs.Entries.{Entry}
 use Rattle.bc_meta.specs.Records.{Records}
 use Rattle.bc_shares.specs.Shares.{entries_in, journal_share}
 use Rattle.bc_begun.specs.Laws.{LawJournal}
+use Rattle.bc_begun.proofs.Ring.{is_ring}
 
 abbrev numbers : ℕ → ℕ → Numbers
 numbers seq last_seq = record { seq = seq; last_seq = last_seq }
@@ -28,17 +29,19 @@ first_seen g es e newest older is = one (seen_entry g e.item) newest (seen_entri
     one a b xs ys same = cc
 
 pub law_journal : LawJournal
-law_journal p v layout x w st next_seq read j h entries resumed =
+law_journal p v layout x w st next_seq read j h sound found entries resumed =
     let records = h.opening.records in
     let o = w.machine.store in
     let newest : seen_entry v.geometry resumed.newest.item ≡ o.newest =
     first_seen v.geometry resumed.older resumed.newest o.newest o.older
     (ap (seen_entries v.geometry) (sym resumed.parts ∙ entries) ∙ h.opening.store.opens.means.entries) in
-    subst (λ (y : Journal). IsJournalOf (journal_share (start w st next_seq).machine) y) (sym resumed.is) (record {
+    subst (λ (y : Journal). IsJournalOf w.machine (journal_share (start w st next_seq).machine) y)
+    (sym resumed.is) (record {
       waiting = sym (ap (λ (y : Records). reverse y.waiting) records);
       durable = seq_same resumed.newest.item.seq resumed.newest.item.last_seq
           ∙ ap numbers_in newest ∙ sym (ap (λ (y : Records). numbers_in y.newest) records);
       sealed = sym (ap (λ (y : Records). sealed_numbers (entries_in y).sealed) records);
+      ring = is_ring p v layout x w.machine st read j h sound found entries resumed;
     })
   where
     seq_same : (seq last_seq : ℕ) → numbers (seq + 1 - 1) last_seq ≡ numbers seq last_seq

@@ -1,5 +1,6 @@
 pub mod Spine
 pub mod Buckets
+pub mod Ring
 pub mod Journal
 pub mod Said
 pub mod Order

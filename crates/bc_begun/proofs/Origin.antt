@@ -96,8 +96,8 @@ module _ {C B : Type 0} (cache_facts : C → DiskFacts) (backing_facts : B → D
     begun = record {
       spine = law_spine p v layout x w st h;
       buckets = law_buckets p v layout x w st k.buckets h on.bytes on.buckets on.reserves on.fill;
-      journal = law_journal p v layout x o.opening st next_seq read k.journal h on.entries
-          on.resumed;
+      journal = law_journal p v layout x o.opening st next_seq read k.journal h is
+          on.found on.entries on.resumed;
       leaves = leaves;
     }
 

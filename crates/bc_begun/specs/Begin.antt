@@ -3,7 +3,7 @@ use Rattle.std.specs.Prelude.{◌≡◌, ℕ, ◌+◌, List, [], ◌∷◌, Some
 use Rattle.bc_cache.specs.Slots.{NodeCache}
 use Rattle.bc_chosen.specs.Parts.{Parts, choices_of}
 use Rattle.bc_disk.specs.Disk.{DiskFacts}
-use Rattle.bc_entries.specs.Journal.{Journal as Read}
+use Rattle.bc_entries.specs.Journal.{HasJournal, Journal as Read}
 use Rattle.bc_flight.specs.Flight.{InFlight}
 use Rattle.bc_image.specs.Pair.{Pair}
 use Rattle.bc_image.specs.Reading.{View}
@@ -54,7 +54,8 @@ pub record BeginsOn {C B : Type 0} (cache_facts : C → DiskFacts) (backing_fact
   pub buckets : k.buckets.buckets ≡ x.buckets
   pub reserves : k.buckets.reserves ≡ x.reserves
   pub fill : k.buckets.fill ≡ []
-  -- the journal goes on behind the entries that were read
+  -- the journal goes on behind the entries that were read, which are all that the device has
+  pub found : HasJournal v.geometry p.cache read
   pub entries : read.entries ≡ v.reading.entries
   pub resumed : IsResumed v.geometry read k.journal
   -- so many parts have leaves, and each of those that the journal has keys of

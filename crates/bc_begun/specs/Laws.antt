@@ -4,13 +4,14 @@ use Rattle.bc_books.specs.Books.{opened}
 use Rattle.bc_cache.specs.Slots.{NodeCache}
 use Rattle.bc_chosen.specs.Parts.{ArePartsOf, Parts}
 use Rattle.bc_disk.specs.Disk.{DiskFacts}
-use Rattle.bc_entries.specs.Journal.{Journal as Read}
+use Rattle.bc_entries.specs.Journal.{HasJournal, Journal as Read}
 use Rattle.bc_events.specs.Run.{Opening, start}
 use Rattle.bc_facts.specs.Layout.{IsLayoutOf}
 use Rattle.bc_image.specs.Pair.{Pair}
 use Rattle.bc_image.specs.Reading.{IsView, View}
 use Rattle.bc_image.specs.Sound.{HasSoundParts}
 use Rattle.bc_journal.specs.Journal.{Journal}
+use Rattle.bc_known.specs.Laws.{IsSound}
 use Rattle.bc_leaves.specs.Parts as parts
 use Rattle.bc_machine.specs.Containers.{AreBucketsOf, AreLeavesOf, IsJournalOf, IsSpineOf}
 use Rattle.bc_machine.specs.World.{Origin, opening}
@@ -34,12 +35,14 @@ LawBuckets = (p : Pair) (v : View) (layout : Layout) (x : Parts) (w : whole.Open
     → AreBytes x.buckets → b.buckets ≡ x.buckets → b.reserves ≡ x.reserves → b.fill ≡ []
     → AreBucketsOf w (opened w.flow.books) b
 
--- behind the entries that were read
+-- behind the entries that were read, which are all that the device has
 abbrev pub LawJournal : Type 0
 LawJournal = (p : Pair) (v : View) (layout : Layout) (x : Parts) (w : Opening)
     (st : parts.State) (next_seq : ℕ) (read : Read) (j : Journal)
-    → IsOpenedWith p v layout x w.machine st → read.entries ≡ v.reading.entries
-    → IsResumed v.geometry read j → IsJournalOf (journal_share (start w st next_seq).machine) j
+    → IsOpenedWith p v layout x w.machine st → IsSound w.machine st
+    → HasJournal v.geometry p.cache read → read.entries ≡ v.reading.entries
+    → IsResumed v.geometry read j
+    → IsJournalOf w.machine (journal_share (start w st next_seq).machine) j
 
 -- each part has leaves that were read of the device, and the keys of the entries came to them
 abbrev pub LawLeaves : DiskFacts → Type 0

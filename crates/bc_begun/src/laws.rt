@@ -14,7 +14,8 @@ pub fn law_buckets()
     ensures { LawBuckets }
 {}
 
-/// The journal's newest entry is the machine's, and no keys wait.
+/// The journal's newest entry is the machine's, no keys wait, and the next entry goes where the
+/// machine has it.
 pub fn law_journal()
     ensures { LawJournal }
 {}

@@ -49,6 +49,7 @@ law_seen {C} {B} cache_facts backing_facts p v layout read pending count was rea
       buckets = made.buckets.buckets;
       reserves = made.buckets.reserves;
       fill = made.buckets.fill;
+      found = on.found;
       entries = on.entries;
       resumed = subst (IsResumed v.geometry read) (sym made.journal) on.resumed;
       leaves = subst (λ (cs : List NodeCache).

@@ -5,7 +5,7 @@ use Rattle.bc_alloc.specs.Reserves.{IsInOrder, Reserves}
 use Rattle.bc_bucket.specs.Buckets.{Buckets}
 use Rattle.bc_disk.specs.Disk.{DiskFacts}
 use Rattle.bc_disk.specs.declared.geometry.Geometry.{Geometry}
-use Rattle.bc_entries.specs.Journal.{Journal as Read}
+use Rattle.bc_entries.specs.Journal.{HasJournal, Journal as Read}
 use Rattle.bc_facts.specs.Layout.{IsLayoutOf}
 use Rattle.bc_image.specs.Pair.{Pair}
 use Rattle.bc_image.specs.Reading.{IsView, Reading, View}
@@ -56,7 +56,8 @@ pub record StandsOn {C B : Type 0} (cache_facts : C → DiskFacts) (backing_fact
   pub held : (s : ℕ) → image (ready.backing.offset + s) ≡ p.backing (v.backing.data_offset + s)
   pub size : ready.backing.size ≡ data_sectors p.backing_sectors v.backing
   pub bytes : AreBytes ready.buckets
-  -- the journal goes on behind the entries that were read
+  -- the journal goes on behind the entries that were read, which are all that the device has
+  pub found : HasJournal v.geometry p.cache read
   pub entries : read.entries ≡ v.reading.entries
   pub resumed : IsResumed v.geometry read ready.journal
   -- so many parts have leaves, and each of those that the journal has keys of
