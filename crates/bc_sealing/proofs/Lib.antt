@@ -1,0 +1,4 @@
+pub mod Acts
+pub mod Ring
+pub mod Read
+pub mod Stage
