@@ -259,7 +259,7 @@ module _ (p : Pair) (v : View) (layout : Layout) (x : Parts) (w : Opening) (st :
               (subst (λ (q : Ptr). IsTreeLeaf w range.from range.end q (shape_of (st.leaves k)))
               (sym (is.added.node.ptr ∙ of.ptr ∙ ptr_is is.key range.ptr is.names.points))
               (tree_leaf p v layout x w st h range k n f.1 f.2))));
-          loaded = is.added.node.loaded ∙ of.loaded;
+          loaded = λ on. is.added.node.loaded ∙ of.loaded;
           keys = λ s low high. keys_say (set_keys sets ++ added.keys_of more) leaf.keys s last.order
               last.shown
               ∙ ap (λ (l : List Key). ref_said (last_said l s)) (keys_are sets more n same level);

@@ -5,7 +5,7 @@ ghost use Rattle.bc_events.specs.Columns.{halt_of, entries_of, verdict_of};
 ghost use Rattle.bc_book.specs.Pass.{kept_of, events_in};
 ghost use Rattle.bc_book.specs.Told.{EndAt, kept_after, with_aside, HasRoom};
 
-use crate::halt::{halted_after, is_late};
+use crate::halt::{halted_after, outlasts_halt};
 use crate::pass::Pass;
 use crate::told::{Aside, Places, Told, told_of};
 use bc_disk::disk::Device;
@@ -180,7 +180,7 @@ impl Book {
         ensures { result ≡ verdict_of self.now.events event.now }
     {
         match self.halted {
-            Some(device) if !is_late(&event.deed) => Err(device),
+            Some(device) if !outlasts_halt(&event.deed) => Err(device),
             _ => Ok(()),
         }
     }

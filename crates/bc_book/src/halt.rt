@@ -1,14 +1,14 @@
 //! What a failed call halts, and what a halt doesn't keep out.
 ghost use Rattle.std.specs.Prelude.{◌≡◌};
-ghost use Rattle.bc_events.specs.Columns.{is_late, halt_of_failure, halt_by, halt_after};
+ghost use Rattle.bc_events.specs.Columns.{outlasts_halt, halt_of_failure, halt_by, halt_after};
 
 use bc_disk::disk::Device;
 use bc_events::event::{Deed, Event, Failure, UnpinKind};
 
 /// Whether a halt doesn't keep the deed out: it ends a claim or a pin, or a call of a device that
 /// was under way.
-pub fn is_late(deed: &Deed) -> bool
-    ensures { result ≡ is_late deed.now }
+pub fn outlasts_halt(deed: &Deed) -> bool
+    ensures { result ≡ outlasts_halt deed.now }
 {
     match deed {
         Deed::Release => true,

@@ -8,7 +8,7 @@ use Rattle.bc_books.specs.Books.{Setup, Books, opened}
 use Rattle.bc_books.specs.Enabled.{IsFresh, CanRaise}
 use Rattle.bc_books.specs.After.{fold}
 use Rattle.bc_books.specs.Invariant.{IsMetadata, IsInOrder}
-use Rattle.bc_books.specs.Laws.{Snapshot, durable_snapshot, sealed_snapshot, memory_snapshot, IsSeen, IsLive, IsUnneeded, IsInWindow, IsTold, MayHaveMetadata, IsApart, LawRaise, LawWindow, LawPlace, LawApart}
+use Rattle.bc_books.specs.Laws.{Snapshot, durable_snapshot, sealed_snapshot, memory_snapshot, IsSeen, IsLive, IsUnneeded, IsInWindow, IsReadByBytes, MayHaveMetadata, IsApart, LawRaise, LawWindow, LawPlace, LawApart}
 use Rattle.bc_books.proofs.Cases.{off, none}
 use Rattle.bc_books.proofs.Places.{pinned_fresh, pinned_spent, loose_free, chain_shelf}
 use Rattle.bc_books.proofs.Known.{newest}
@@ -70,7 +70,7 @@ module _ (w : Setup) (k : Books) (f : IsInOrder w k) where
         live = t.2;
       }
 
-  told : (b : ℕ) → IsTold k.generations b
+  told : (b : ℕ) → IsReadByBytes k.generations b
   told b =
       let sealed = f.dated.sealed b in let version = f.dated.version b in let ahead = f.dated.ahead b in
       let d = (stale_tells (k.generations.version b) (k.generations.durable b) (omega arith) (omega arith)).0 in record {

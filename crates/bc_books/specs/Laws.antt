@@ -77,7 +77,7 @@ pub record IsInWindow (version : ℕ) (r : Pointer) : Type 0 where
 
 -- the bytes of a bucket tell how far its oldest key is behind, and memory is at most one raise past
 -- the durable entry
-pub record IsTold (g : Generations) (b : ℕ) : Type 0 where
+pub record IsReadByBytes (g : Generations) (b : ℕ) : Type 0 where
   pub oldest : behind (g.version b % 256) (g.last_gc b % 256) + g.last_gc b ≡ g.version b
   pub ahead : behind (g.version b % 256) (g.durable b % 256) ≤ 1
 
@@ -85,7 +85,7 @@ pub record IsTold (g : Generations) (b : ℕ) : Type 0 where
 pub record HasWindow (w : Setup) (k : Books) : Type 0 where
   pub keys : (shot : Snapshot) (s : ℕ) (r : Pointer) → IsSeen k shot
       → k.index.at shot.count s ≡ Some r → IsInWindow (shot.version (w.bucket r.place)) r
-  pub buckets : (b : ℕ) → IsTold k.generations b
+  pub buckets : (b : ℕ) → IsReadByBytes k.generations b
 
 abbrev pub LawWindow : Type 0
 LawWindow = Always HasWindow

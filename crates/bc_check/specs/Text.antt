@@ -55,5 +55,5 @@ abbrev pub report_text : List BucketLine → Verdict → List ℕ
 report_text lines verdict = flat_map line_text lines ++ verdict_text verdict
 
 -- the text says the pair's verdict, and what its buckets hold, where they are asked for
-abbrev pub IsTold : Bool → Pair → Verdict → List ℕ → Type 0
-IsTold list p verdict text = IsVerdict p verdict × ((lines : List BucketLine) × ListsIf list p verdict lines × (text ≡ report_text lines verdict))
+abbrev pub Reports : Bool → Pair → Verdict → List ℕ → Type 0
+Reports list p verdict text = IsVerdict p verdict × ((lines : List BucketLine) × ListsIf list p verdict lines × (text ≡ report_text lines verdict))

@@ -12,8 +12,8 @@ use crate::read::read_of;
 use crate::verdict::CheckError;
 use bc_disk::disk::{Device, Disk};
 
-/// The sectors of a piece: as many are read of a device by one call at most.
-pub const PIECE: u64 = 256;
+/// So many sectors are read of a device by one call at most.
+pub const AT_ONCE: u64 = 256;
 
 /// The first sector that these bytes have different, counted from their front.
 fn first_other(one: &[u8], other: &[u8]) -> Option<u64>
@@ -88,7 +88,7 @@ pub fn run_apart<C: Disk, B: Disk>(
 {
     let mut done = 0;
     while done < count {
-        let piece = (count - done).min(PIECE);
+        let piece = (count - done).min(AT_ONCE);
         let bytes = 512 * piece as usize;
         let (one, other) = (&mut one[..bytes], &mut other[..bytes]);
         if let Some(k) = piece_apart(cache, backing, place + done, at + done, one, other)? {

@@ -4,7 +4,7 @@ ghost use Rattle.bc_replay.specs.Causes.{OfHeld};
 ghost use Rattle.bc_check.specs.Apart.{RowFitsOn, TellsRow, TellsRows};
 ghost use Rattle.bc_check.specs.Calls.{BothKept, CountsFault, IsWant, NoneFailed};
 
-use crate::apart::{PIECE, run_apart};
+use crate::apart::{AT_ONCE, run_apart};
 use crate::read::buffer;
 use crate::verdict::CheckError;
 use bc_disk::disk::Disk;
@@ -82,8 +82,8 @@ pub fn first_apart<C: Disk, B: Disk>(
     ensures good { OnOk result (NoneFailed (C.facts cache.old) (C.facts cache.new)
         (B.facts backing.old) (B.facts backing.new)) }
 {
-    let mut one = buffer(alloc, PIECE as usize)?;
-    let mut other = buffer(alloc, PIECE as usize)?;
+    let mut one = buffer(alloc, AT_ONCE as usize)?;
+    let mut other = buffer(alloc, AT_ONCE as usize)?;
     for i in 0..s.index.len() {
         let row = s.index.key(i);
         if let Some(sector) = row_apart(cache, backing, s, &row, &mut one, &mut other)? {

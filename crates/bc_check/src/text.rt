@@ -5,7 +5,7 @@ ghost use Rattle.std.specs.String.{string_bytes};
 ghost use Rattle.bc_replay.specs.Causes.{OfHeld};
 ghost use Rattle.bc_check.specs.Calls.{BothKept, CountsFault, EndsAlone, EndsAtSuper, NoneFailed};
 ghost use Rattle.bc_check.specs.Verdict.{IsCheckCause};
-ghost use Rattle.bc_check.specs.Text.{IsTold, counts_text, line_text, live_text, number_text, report_text, sound_text, use_text, used_text, verdict_text, words_of};
+ghost use Rattle.bc_check.specs.Text.{Reports, counts_text, line_text, live_text, number_text, report_text, sound_text, use_text, used_text, verdict_text, words_of};
 
 use crate::lines::BucketLine;
 use crate::pair::{Report, examine};
@@ -128,7 +128,7 @@ pub fn report_text(alloc: Global, report: &Report) -> Result<String, AllocError>
 
 /// What is said of a pair, and the text that says it.
 #[derive(Drop)]
-pub struct Told {
+pub struct Report {
     /// Whether it is sound.
     pub verdict: Verdict,
     /// The lines of the report.
@@ -142,8 +142,8 @@ pub fn tell_pair<C: Disk, B: Disk>(
     cache: &mut C,
     backing: &mut B,
     list: bool,
-) -> Result<Told, CheckError>
-    ensures found { IfOk result (λ r. OfHeld (λ p. IsTold list p r.verdict (string_bytes r.text))
+) -> Result<Report, CheckError>
+    ensures found { IfOk result (λ r. OfHeld (λ p. Reports list p r.verdict (string_bytes r.text))
         (C.facts cache.old) (B.facts backing.old)) }
     ensures refused { IfErr result (IsCheckCause (C.facts cache.old) (B.facts backing.old)) }
     ensures supers { IfErr result (EndsAtSuper (C.facts cache.old) (C.facts cache.new)
@@ -159,7 +159,7 @@ pub fn tell_pair<C: Disk, B: Disk>(
 {
     let report = examine(alloc, cache, backing, list)?;
     let text = report_text(alloc, &report)?;
-    Ok(Told {
+    Ok(Report {
         verdict: report.verdict,
         text,
     })

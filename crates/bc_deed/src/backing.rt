@@ -3,7 +3,7 @@ ghost use Rattle.std.specs.Prelude.{◌≡◌, ◌+◌, ◌*◌, ◌/◌, ◌<�
 ghost use Rattle.bc_model.specs.Sector.{values_of};
 ghost use Rattle.bc_parts.specs.Seat.{Holds};
 ghost use Rattle.bc_seats.specs.Seats.{Kept};
-ghost use Rattle.bc_events.specs.Columns.{is_late};
+ghost use Rattle.bc_events.specs.Columns.{outlasts_halt};
 ghost use Rattle.bc_machine.specs.World.{IsBacking, are_plain, changes};
 ghost use Rattle.bc_events.specs.declared.event.Deed.{Deed};
 ghost use Rattle.bc_events.specs.declared.event.Failure.{Failure};
@@ -38,7 +38,7 @@ fn called<C: Disk, B: Disk, R: Wait>(
     requires alone { (k : ℕ) → changes (length seat.old.run.start) (by seat.old.first deed) k
         ≡ (k == 5) }
     requires may { MayDo C.facts B.facts seat.old deed }
-    requires late { is_late deed ≡ true }
+    requires outlasts { outlasts_halt deed ≡ true }
     ensures kept { Kept (core C.facts B.facts) seat.old seat.new (λ k. k == 5) }
     ensures did { Did C.facts B.facts (Some deed) seat.old seat.new }
 {

@@ -89,18 +89,18 @@ abbrev pub halt_of : List Event → Option Device
 halt_of es = fold halt_after None es
 
 -- what a halt doesn't keep out: what ends a claim or a pin, and calls of devices that were under way
-abbrev pub is_late : Deed → Bool
-is_late deed.Release = true
-is_late (deed.Unpin (unpin.Place at count)) = true
-is_late (deed.Unpin (unpin.Dead candidate)) = true
-is_late (deed.CacheRead at first values) = true
-is_late (deed.CacheWrite at what values) = true
-is_late deed.CacheBarrier = true
-is_late (deed.BackingRead first values) = true
-is_late (deed.BackingWrite first of values) = true
-is_late deed.BackingBarrier = true
-is_late (deed.DeviceFault x) = true
-is_late d = false
+abbrev pub outlasts_halt : Deed → Bool
+outlasts_halt deed.Release = true
+outlasts_halt (deed.Unpin (unpin.Place at count)) = true
+outlasts_halt (deed.Unpin (unpin.Dead candidate)) = true
+outlasts_halt (deed.CacheRead at first values) = true
+outlasts_halt (deed.CacheWrite at what values) = true
+outlasts_halt deed.CacheBarrier = true
+outlasts_halt (deed.BackingRead first values) = true
+outlasts_halt (deed.BackingWrite first of values) = true
+outlasts_halt deed.BackingBarrier = true
+outlasts_halt (deed.DeviceFault x) = true
+outlasts_halt d = false
 
 abbrev pub verdict_by : Bool → Option Device → Result (Unit {0}) Device
 verdict_by true halted = Ok tt
@@ -110,4 +110,4 @@ verdict_by false (Some device) = Err device
 -- whether the event may follow these: after a halt only a late one does, and the halting device is
 -- named
 abbrev pub verdict_of : List Event → Event → Result (Unit {0}) Device
-verdict_of es e = verdict_by (is_late e.deed) (halt_of es)
+verdict_of es e = verdict_by (outlasts_halt e.deed) (halt_of es)

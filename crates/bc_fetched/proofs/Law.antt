@@ -26,7 +26,7 @@ use Rattle.bc_leaves.specs.Keys.{last_said, ref_said}
 use Rattle.bc_leaves.specs.Parts.{Coming, Draft, Free, IsLive, Leaving, NoNode, Pending, Role, keys_of, leaf_owner}
 use Rattle.bc_leaves.specs.Parts as parts
 use Rattle.bc_leaves.proofs.Said.{last_append, or_else}
-use Rattle.bc_machine.specs.Containers.{AreEntriesOf, IsInTree, IsTreeLeaf}
+use Rattle.bc_machine.specs.Containers.{AreEntriesOf, IsInTree, IsLeafFor, IsTreeLeaf}
 use Rattle.bc_machine.specs.Standing.{oldest_first, replay_is, replay_runs}
 use Rattle.bc_machine.specs.World.{IsCourseOf, Origin, replay}
 use Rattle.bc_events.specs.declared.event.Event.{Event}
@@ -50,7 +50,7 @@ use Rattle.bc_whole.specs.State as whole
 use Rattle.bc_whole.specs.State.{Opening}
 use Rattle.bc_whole.proofs.Kept.{Inv}
 use Rattle.bc_begun.proofs.Said.{keys_say}
-use Rattle.bc_fetched.specs.Fetched.{AreWritten, IsReadFor, LawFetched, LawFound, LawSets}
+use Rattle.bc_fetched.specs.Fetched.{AreWritten, LawFetched, LawFound, LawSets}
 use Rattle.bc_fetched.proofs.Settled.{reads}
 
 -- ---- a state of a course
@@ -264,15 +264,15 @@ module _ (w : Opening) (st : whole.State) (inv : Inv w st) (k : ℕ)
           (subst (λ (p : Ptr). AreNodeSets g (ptr_word p) Extents image (p.offset + g.node_sectors)
           p.offset sets) (sym (ptr_is key are.ptr are.points)) are.stand))
 
-      read_for : IsReadFor w (leaf_share st.parts k) leaf
+      read_for : IsLeafFor w (leaf_share st.parts k) leaf
       read_for = record {
         at = subst (λ a. IsTreeLeaf w a leaf.end leaf.ptr (shape_of (st.parts.leaves k)))
             (sym of.begins)
             (subst (λ b. IsTreeLeaf w from b leaf.ptr (shape_of (st.parts.leaves k))) (sym of.ends)
             (subst (λ (p : Ptr). IsTreeLeaf w from key.end p (shape_of (st.parts.leaves k)))
             (sym of.ptr) at));
-        loaded = of.loaded;
-        keys = λ s. keys_say (image_tree.set_keys sets) leaf.keys s of.last.order of.last.shown
+        loaded = λ on. of.loaded;
+        keys = λ s low high. keys_say (image_tree.set_keys sets) leaf.keys s of.last.order of.last.shown
             ∙ ap (λ l. ref_said (last_said l s)) (leaf_keys g sets)
             ∙ ap (λ l. ref_said (last_said (set_keys l) s)) (sym seen)
             ∙ ap ref_said (read_says none (sets_in w.layout image own bucket) written_here s)

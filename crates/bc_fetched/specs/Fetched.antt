@@ -8,17 +8,15 @@ use Rattle.bc_facts.specs.Torn.{NoTornRecord}
 use Rattle.bc_image.specs.Tree.{AreSetsAt}
 use Rattle.bc_key.specs.Key.{pointer_of, ptr_at}
 use Rattle.bc_key.specs.declared.key.Key.{Key}
-use Rattle.bc_leaves.specs.Keys.{last_said, ref_said}
-use Rattle.bc_leaves.specs.Parts.{keys_of}
-use Rattle.bc_machine.specs.Containers.{AreEntriesOf, IsTreeLeaf}
+use Rattle.bc_machine.specs.Containers.{IsLeafFor, IsTreeLeaf}
 use Rattle.bc_machine.specs.World.{IsCourseOf, IsOrigin, Origin, World, replay}
 use Rattle.bc_meta.specs.Layout.{sets_in}
 use Rattle.bc_meta.specs.Records.{Node}
-use Rattle.bc_meta.specs.Tree.{NodeSet, set_keys}
+use Rattle.bc_meta.specs.Tree.{NodeSet}
 use Rattle.bc_model.specs.Sector.{Image}
 use Rattle.bc_node.specs.Leaf.{IsLeafOf, Leaf}
 use Rattle.bc_set.specs.declared.set.Set.{Set}
-use Rattle.bc_shares.specs.Shares.{LeafShare, leaf_share, node_share, shape_of}
+use Rattle.bc_shares.specs.Shares.{leaf_share, node_share, shape_of}
 use Rattle.bc_whole.specs.State.{Opening}
 
 -- What reads of the cache device may give: of each sector one of the values that a read of it may
@@ -49,16 +47,6 @@ LawSets = OfReads (λ g o st image. (q : ℕ)
 
 -- ---- leaves
 
--- A leaf that was read says of each sector what the machine's leaf with its node says, and nothing
--- of it is pending.
-pub record IsReadFor (w : Opening) (x : LeafShare) (leaf : Leaf) : Type 0 where
-  pub at : IsTreeLeaf w leaf.from leaf.end leaf.ptr (shape_of x.leaf)
-  pub loaded : leaf.loaded ≡ true
-  pub keys : (s : ℕ) → ref_said (last_said leaf.keys s)
-      ≡ ref_said (last_said (keys_of x.leaf.pending ++ set_keys x.node.sets) s)
-  pub pending : (s : ℕ) → last_said leaf.pending s ≡ last_said (keys_of x.leaf.pending) s
-  pub entries : AreEntriesOf leaf.entries x.leaf.pending
-
 -- The leaf in this slot is one of the tree, of this key and from this sector on, and has nothing
 -- pending.
 pub record IsIdleLeaf (o : Origin) (st : State) (k from : ℕ) (key : Key) : Type 0 where
@@ -73,7 +61,9 @@ LawFound = OfReads (λ g o st image. (k from : ℕ) (key : Key) → pointer_of k
     (shape_of (st.machine.whole.parts.leaves k))
     → (sets : List Set) × AreSetsAt g image 0 key sets)
 
+-- Such a leaf that is read stands for the one in its slot: it says of each sector what the sets that
+-- are known of its node say.
 abbrev pub LawFetched : Type 0
 LawFetched = OfReads (λ g o st image. (k from : ℕ) (key : Key) (sets : List Set) (leaf : Leaf)
     → IsIdleLeaf o st k from key → AreSetsAt g image 0 key sets → IsLeafOf g key from sets leaf
-    → IsReadFor o.opening.machine (leaf_share st.machine.whole.parts k) leaf)
+    → IsLeafFor o.opening.machine (leaf_share st.machine.whole.parts k) leaf)

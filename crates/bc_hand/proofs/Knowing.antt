@@ -12,7 +12,7 @@ use Rattle.bc_parts.specs.Seat.{SeatView, Run}
 use Rattle.bc_parts.proofs.Interference.{Frame}
 use Rattle.bc_seats.specs.Seats.{own_events, IsSeat, Foreign, Since, Waited, Committed}
 use Rattle.bc_seats.proofs.Knowing.{still, lasts, held}
-use Rattle.bc_events.specs.Columns.{halt_of, verdict_of, verdict_by, is_late}
+use Rattle.bc_events.specs.Columns.{halt_of, verdict_of, verdict_by, outlasts_halt}
 use Rattle.bc_events.specs.Run.{Opening, line_after}
 use Rattle.bc_events.specs.declared.event.LineNumber.{LineNumber}
 use Rattle.bc_events.specs.declared.event.Deed.{Deed}
@@ -190,7 +190,7 @@ module _ {C B : Type 0} (cache_facts : C → DiskFacts) (backing_facts : B → D
             ∙ line_since v x seat.seat.live since;
         late = λ none. fresh_since v x seat.seat.live since (seat.fresh none) y view;
         running = λ off. running_view v es y there
-            (not_halted (is_late d) (halt_of es) is off);
+            (not_halted (outlasts_halt d) (halt_of es) is off);
         size = like.size ∙ ap (λ (o : Opening). o.machine.flow.books.size) alike;
         worker = like.worker v.first ∙ ap (λ (o : Opening). o.worker v.first) alike;
         plain = like.plain ∙ ap (λ (o : Opening). o.machine.flow.plain) (opening_seen v x since);

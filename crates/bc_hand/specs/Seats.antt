@@ -5,7 +5,7 @@ use Rattle.bc_disk.specs.declared.disk.Device.{Device}
 use Rattle.bc_parts.specs.declared.machine.Machine.{Ghosts}
 use Rattle.bc_parts.specs.Seat.{SeatView, PartsView, Holds}
 use Rattle.bc_seats.specs.Seats.{state_seen, own_events, IsSeat, Since, Waited, Committed}
-use Rattle.bc_events.specs.Columns.{halt_of, verdict_of, is_late}
+use Rattle.bc_events.specs.Columns.{halt_of, verdict_of, outlasts_halt}
 use Rattle.bc_events.specs.declared.event.Deed.{Deed}
 use Rattle.bc_events.specs.declared.event.Event.{Event}
 use Rattle.bc_book.specs.declared.book.Book.{Book}
@@ -156,7 +156,7 @@ module _ {C B : Type 0} (cache_facts : C → DiskFacts) (backing_facts : B → D
     pub note : IsFirmer (note v) (note_of y v.first)
     pub line : y.now.line v.first ≡ (world v).now.line v.first
     pub late : v.heard ≡ None → (data_of y).late v.first ≡ false
-    pub running : is_late d ≡ false → (data_of y).halted ≡ false
+    pub running : outlasts_halt d ≡ false → (data_of y).halted ≡ false
     pub size : y.opening.machine.flow.books.size ≡ (world v).opening.machine.flow.books.size
     pub worker : y.opening.worker v.first ≡ (world v).opening.worker v.first
     pub plain : y.opening.machine.flow.plain ≡ are_plain cache_facts backing_facts v.run.start
@@ -176,22 +176,6 @@ module _ {C B : Type 0} (cache_facts : C → DiskFacts) (backing_facts : B → D
   pub record Did (o : Option Deed) (v w : View) : Type 0 where
     pub is : did o v w
     pub seat : IsCoreSeat w
-
-  -- the run was halted by this device before the step did anything
-  abbrev pub IsHaltedBy : StepError → View → Type 0
-  IsHaltedBy (error.Fault device) w = Unit {0}
-  IsHaltedBy (error.Halted device) w = halt_of w.seen ≡ Some device
-  IsHaltedBy error.Memory w = Unit {0}
-
-  -- where its own call failed, a step has committed that
-  abbrev pub refused : (Device → Deed) → StepError → Option Deed
-  refused fault (error.Fault device) = Some (fault device)
-  refused fault (error.Halted device) = None
-  refused fault error.Memory = None
-
-  abbrev pub answered : {A : Type 0} → (A → Option Deed) → (Device → Deed) → Result A StepError → Option Deed
-  answered good fault (Ok a) = good a
-  answered good fault (Err e) = refused fault e
 
   -- ---- parts in hand
 

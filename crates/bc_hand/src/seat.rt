@@ -1,7 +1,7 @@
 //! Seats of a run.
 ghost use Rattle.std.specs.Prelude.{◌≡◌, ◌<◌, ℕ, true, false, length, None, Some, IfErr, OnOk, OnErr};
 ghost use Rattle.bc_parts.specs.Seat.{Holds};
-ghost use Rattle.bc_events.specs.Columns.{is_late, halt_of};
+ghost use Rattle.bc_events.specs.Columns.{outlasts_halt, halt_of};
 ghost use Rattle.bc_machine.specs.World.{changes};
 ghost use Rattle.bc_seats.specs.Seats.{Kept};
 ghost use Rattle.bc_hand.specs.Seats.{core, by, IsCoreSeat, MayDo, Did};
@@ -33,7 +33,7 @@ pub fn commit<C: Disk, B: Disk, R: Wait>(
     ensures ok { OnOk result (Did C.facts B.facts (Some deed) seat.old seat.new) }
     ensures err { OnErr result (Did C.facts B.facts None seat.old seat.new) }
     ensures halted { IfErr result (λ device. halt_of seat.new.seen ≡ Some device) }
-    ensures soon { OnErr result (is_late deed ≡ false) }
+    ensures soon { OnErr result (outlasts_halt deed ≡ false) }
 {
     let event = Event {
         seat: seat.number(),

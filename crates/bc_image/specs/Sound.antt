@@ -23,6 +23,7 @@ use Rattle.bc_image.specs.Tree.{Node, set_keys}
 use Rattle.bc_image.specs.Reading.{Reading, View, IsView, keys_of, key_of}
 use Rattle.bc_image.specs.Shown.{age_of, is_live}
 use Rattle.bc_image.specs.Uses.{Use, IsUsedFor, IsSpare}
+use Rattle.bc_model.specs.Pieces.{piece_sectors}
 
 -- ---- the superblocks and the uuid table
 
@@ -50,7 +51,7 @@ LiesWithin (suc level) from end key = (from < key.end) × (key.end ≤ end)
 -- the ranges of children cover the range of a node up to its end, each from the end of the one before on; they end at multiples of 256
 abbrev pub CoverUpTo : ℕ → List Key → ℕ → Type 0
 CoverUpTo zero children end = Unit {0}
-CoverUpTo (suc level) children end = All (λ c. c.end % 256 ≡ 0) children × Any (λ c. c.end ≡ end) children
+CoverUpTo (suc level) children end = All (λ c. c.end % piece_sectors ≡ 0) children × Any (λ c. c.end ≡ end) children
 
 -- each key of each of its sets lies in the node's range, and its children cover it
 pub record KeepsRange (n : Node) : Type 0 where

@@ -7,6 +7,7 @@ use Rattle.bc_image.specs.Tree.{node_of, set_keys}
 use Rattle.bc_key.specs.Key.{ptr_at}
 use Rattle.bc_key.specs.declared.key.Key.{Key}
 use Rattle.bc_key.specs.declared.ptr.Ptr.{Ptr}
+use Rattle.bc_model.specs.Pieces.{piece_sectors}
 use Rattle.bc_node.specs.Sets.{HaveNumber, taken_by}
 use Rattle.bc_node.specs.Writing.{set_of}
 use Rattle.bc_set.specs.declared.set.Set.{Set}
@@ -35,7 +36,7 @@ pub record Inner : Type 0 where
 pub record CoverRange (from end : ℕ) (children : List Key) : Type 0 where
   pub order : AllPairs (λ a b. a.end < b.end) children
   pub within : All (λ c. (from < c.end) × (c.end ≤ end)) children
-  pub multiples : All (λ c. c.end % 256 ≡ 0) children
+  pub multiples : All (λ c. c.end % piece_sectors ≡ 0) children
   pub reach : Any (λ c. c.end ≡ end) children
 
 -- the set of its children alone

@@ -3,6 +3,7 @@ ghost use Rattle.std.specs.Prelude.{◌≡◌, ◌↔◌, ◌%◌, All, Any, IsT
 ghost use Rattle.std.specs.Bool.{MatchBool};
 ghost use Rattle.bc_image.specs.Sound.{LiesWithin, CoverUpTo};
 ghost use Rattle.bc_image.specs.Tree.{set_keys};
+ghost use Rattle.bc_model.specs.Pieces.{piece_sectors};
 
 use bc_key::Key;
 use bc_set::Set;
@@ -42,8 +43,8 @@ pub fn lie_within(from: u64, end: u64, sets: &[Set]) -> bool
 
 /// Whether each of the children ends at a multiple of 256 sectors.
 fn are_multiples(children: &[Key]) -> bool
-    ensures { MatchBool result (All (λ c. c.end % 256 ≡ 0) children.now)
-        (Any (λ c. ¬ (c.end % 256 ≡ 0)) children.now) }
+    ensures { MatchBool result (All (λ c. c.end % piece_sectors ≡ 0) children.now)
+        (Any (λ c. ¬ (c.end % piece_sectors ≡ 0)) children.now) }
 {
     for child in children {
         if child.end % 256 != 0 {

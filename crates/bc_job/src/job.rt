@@ -1,6 +1,6 @@
 //! What a line of a trace asks for.
 ghost use Rattle.std.specs.Prelude.{◌≡◌, ◌+◌, ◌/◌, ◌<◌, ◌≤◌, ◌^◌, nat_lt};
-ghost use Rattle.bc_model.specs.Pieces.{piece_in};
+ghost use Rattle.bc_model.specs.Pieces.{piece_in, piece_sectors};
 ghost use Rattle.bc_job.specs.Asked.{line_of};
 
 use bc_events::event::LineNumber;
@@ -52,7 +52,7 @@ impl Job {
 
     /// The number of its first piece, where pieces are counted from sector 0.
     pub fn first_piece(&self) -> u64
-        ensures { result ≡ self.now.first / 256 }
+        ensures { result ≡ self.now.first / piece_sectors }
     {
         self.first / PIECE
     }
@@ -61,7 +61,7 @@ impl Job {
     pub fn end_piece(&self) -> u64
         requires some { 1 ≤ self.now.count }
         requires range { self.now.first + self.now.count < 2 ^ 64 }
-        ensures { result ≡ (self.now.first + self.now.count + 255) / 256 }
+        ensures { result ≡ (self.now.first + self.now.count + 255) / piece_sectors }
     {
         (self.first + u64::from(self.count) - 1) / PIECE + 1
     }
@@ -70,7 +70,7 @@ impl Job {
     pub fn piece(&self, number: u64) -> Piece
         requires some { 1 ≤ self.now.count }
         requires range { self.now.first + self.now.count < 2 ^ 64 }
-        requires number { (self.now.first / 256 ≤ number) × (number < (self.now.first + self.now.count + 255) / 256) }
+        requires number { (self.now.first / piece_sectors ≤ number) × (number < (self.now.first + self.now.count + 255) / piece_sectors) }
         ensures first { result.first ≡ (piece_in self.now.first self.now.count number).first }
         ensures count { result.count ≡ (piece_in self.now.first self.now.count number).count }
         ensures some { (1 ≤ result.count) × (self.now.first ≤ result.first) × (result.first + result.count ≤ self.now.first + self.now.count) }

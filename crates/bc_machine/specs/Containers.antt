@@ -78,10 +78,10 @@ AreEntriesOf None xs = xs ≡ []
 AreEntriesOf (Some e) xs = AllFrom e.first xs × AllUpTo e.last xs
 
 -- A leaf in memory is the one in a slot: its keys say what the node's sets say, and what is pending
--- over them.
+-- over them. One that was read from the device is never taken for one that this run wrote.
 pub record IsLeafFor (w : Opening) (x : LeafShare) (leaf : Leaf) : Type 0 where
   pub at : IsTreeLeaf w leaf.from leaf.end leaf.ptr (shape_of x.leaf)
-  pub loaded : leaf.loaded ≡ x.leaf.loaded
+  pub loaded : x.leaf.loaded ≡ true → leaf.loaded ≡ true
   pub keys : (s : ℕ) → leaf.from ≤ s → s < leaf.end → ref_said (last_said leaf.keys s)
       ≡ ref_said (last_said (keys_of x.leaf.pending ++ set_keys x.node.sets) s)
   pub pending : (s : ℕ) → last_said leaf.pending s ≡ last_said (keys_of x.leaf.pending) s

@@ -31,7 +31,7 @@ use Rattle.bc_events.specs.declared.event.LineNumber.{LineNumber}
 use Rattle.bc_events.specs.Writes.{map_some, with_beginning, write_of}
 use Rattle.bc_events.specs.Run as core
 use Rattle.bc_events.specs.Run.{acts_or_none}
-use Rattle.bc_events.specs.Columns.{Call, call_by, first_halt, halt_by, halt_after, halt_of, is_late, verdict_by, verdict_of}
+use Rattle.bc_events.specs.Columns.{Call, call_by, first_halt, halt_by, halt_after, halt_of, outlasts_halt, verdict_by, verdict_of}
 use Rattle.bc_events.specs.declared.event.UnpinKind.{UnpinKind}
 use Rattle.bc_events.specs.declared.event.UnpinKind.TheVariants as unpin
 use Rattle.bc_events.specs.declared.event.MarkForm.{MarkForm}
@@ -546,7 +546,7 @@ stays_halted es e d is = fold-append halt_after None es (e ∷ [])
 -- an event that is refused names the device that has halted the run
 pub names_halt : (es : List Event) (e : Event) (d : Device) → verdict_of es e ≡ Err d
     → halt_of es ≡ Some d
-names_halt es e d is = go (is_late e.deed) (halt_of es) is
+names_halt es e d is = go (outlasts_halt e.deed) (halt_of es) is
   where
     go : (b : Bool) (h : Option Device) → verdict_by b h ≡ Err d → h ≡ Some d
     go true h is = absurd (cc)

@@ -8,7 +8,7 @@ ghost use Rattle.bc_pair.specs.Found.{FindsAdopted};
 ghost use Rattle.bc_pair.specs.Made.{IsUnused, adopted_backing, adopted_cache, version_in_use};
 
 use crate::error::PairError;
-use crate::flags::{CLEAN, SET_UP};
+use crate::flags::CLEAN;
 use crate::read::read_pair;
 use crate::records::Records;
 use crate::write::write_pair;
@@ -17,6 +17,7 @@ use bc_super::backing::BackingSuper;
 use bc_super::cache::CacheSuper;
 use bc_super::division::geometry_of;
 use bc_super::error::SuperError;
+use bc_super::flags::SET_UP;
 use bc_super::layout::{Layout, lay_out};
 use bc_super::state::BackingState;
 use std::alloc::Global;

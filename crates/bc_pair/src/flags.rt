@@ -3,12 +3,10 @@ ghost use Rattle.std.specs.Prelude.{◌≡◌};
 ghost use Rattle.bc_pair.specs.Made.{flags_for};
 
 use bc_mode::Mode;
+use bc_super::flags::STATE;
 
-/// A cache device was set up.
-pub(crate) const SET_UP: u64 = 1;
-
-/// A backing device is clean, where its flags say no other state.
-pub(crate) const CLEAN: u64 = 1 << 61;
+/// A backing device is clean, where its flags say no other state: the state of number 1.
+pub(crate) const CLEAN: u64 = STATE;
 
 /// What a clean backing device says that names a mode: the mode's number stands in the lowest bits.
 pub(crate) fn flags_for(mode: Mode) -> u64

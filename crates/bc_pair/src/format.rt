@@ -9,7 +9,7 @@ ghost use Rattle.bc_pair.specs.Steps.{RefusesFormat};
 ghost use Rattle.bc_pair.specs.declared.error.PairError.TheVariants as errors;
 
 use crate::error::PairError;
-use crate::flags::{SET_UP, flags_for};
+use crate::flags::flags_for;
 pub use crate::pair::NewPair;
 use crate::records::Records;
 use crate::write::write_pair;
@@ -18,6 +18,7 @@ use bc_super::backing::BackingSuper;
 use bc_super::cache::CacheSuper;
 use bc_super::division::geometry_of;
 use bc_super::error::SuperError;
+use bc_super::flags::SET_UP;
 use bc_super::head::DATA_START;
 use bc_super::layout::{Layout, lay_out};
 use std::alloc::Global;

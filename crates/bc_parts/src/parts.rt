@@ -108,6 +108,8 @@ impl<M: Machine> Parts<M> {
         ensures new { result ≡ record seat.old { first = at; parts = []; promises = 0 } }
     {
         let table = &self.table.shared;
+        // Nobody reads this word: a step shows its operands to the rule of the table, and a split
+        // doesn't, so the number is stored first.
         table.store::<Mark<M>>(&mut seat.place, NOTE, u64::from(at));
         let place = table.split_seat::<Halves<M>>(&mut seat.place);
         let heard = seat.heard;
@@ -140,6 +142,7 @@ impl<M: Machine> Parts<M> {
         } = other;
         let table = &self.table.shared;
         table.join_seat::<Halves<M>>(&mut seat.place, place);
+        // What is loaded is the seat's to know, not the code's: it has seen all events now.
         table.load::<Look<M>>(&mut seat.place, COUNT);
         seat.heard = seat.heard.or(heard);
     }
@@ -160,6 +163,7 @@ impl<M: Machine> Parts<M> {
         let table = &self.table.shared;
         claim(rt, table, &mut seat.place, slot);
         let cargo = lift(table, &mut seat.place, slot);
+        // The load is the step by which the emptied slot goes home.
         table.load::<Lay<M>>(&mut seat.place, slot + CLAIMS);
         let Cargo::Part(value) = cargo else {
             unreachable!()
@@ -177,6 +181,7 @@ impl<M: Machine> Parts<M> {
     {
         let slot = part as usize;
         let table = &self.table.shared;
+        // The load is the step by which the slot comes, to be filled.
         table.load::<Fetch<M>>(&mut seat.place, slot + CLAIMS);
         fill(table, &mut seat.place, slot, Cargo::Part(value));
         clear(table, &mut seat.place, slot);
@@ -211,6 +216,8 @@ impl<M: Machine> Parts<M> {
         let mut book = take_book(rt, table, &mut seat.place, self.count);
         let made = M::reserve(&mut book, events as usize);
         let granted = granted(&made, events);
+        // Nobody reads this word: the store shows the rule of the table how many events are
+        // promised.
         table.store::<Promise<M>>(&mut seat.place, NOTE, u64::from(granted));
         put_back(table, &mut seat.place, self.count, book);
         made

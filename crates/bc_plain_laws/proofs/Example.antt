@@ -240,7 +240,7 @@ law_teeth = record {
   unstable = λ stable. let is : zero_value ≡ one_value = stable (λ s. zero_value)
       (λ s. in_besides (at_run 0 (one_value ∷ []) s)) 0 in absurd (cc);
   backing = part_of fresh;
-  told = refl;
+  disk = refl;
   course = (
     record {
       seat = refl;

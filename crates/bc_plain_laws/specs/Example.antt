@@ -115,7 +115,7 @@ pub record LawTeeth : Type 0 where
   pub run : HasRun fresh undoable a_write
   pub unstable : LeavesLastWrites 0 fresh.held (entries_of a_write) (shown_facts undoable) → ⊥
   pub backing : BackingPart Shown
-  pub told : backing.disk ≡ fresh
+  pub disk : backing.disk ≡ fresh
   pub course : IsRun (core untold shown_facts)
       (opening untold shown_facts (part.Cache tt ∷ part.Backing backing ∷ [])) an_answer
   pub wrong : IsLegal fresh.held (reverse (entries_of an_answer)) → ⊥

@@ -2,6 +2,7 @@
 ghost use Rattle.std.specs.Prelude.{◌≡◌, ◌%◌, All, Any, IfOk};
 ghost use Rattle.std.specs.Bool.{MatchBool};
 ghost use Rattle.bc_image.specs.Sound.{CoverUpTo, HasRanges, KeepsRange};
+ghost use Rattle.bc_model.specs.Pieces.{piece_sectors};
 
 use crate::children::children_of;
 use crate::node::{Node, set_keys};
@@ -12,8 +13,8 @@ use std::alloc::{AllocError, Global};
 
 // Whether each child ends at a multiple of 256.
 fn are_aligned(children: &[Key]) -> bool
-    ensures { MatchBool result (All (λ c. c.end % 256 ≡ 0) children.now)
-        (¬ (All (λ c. c.end % 256 ≡ 0) children.now)) }
+    ensures { MatchBool result (All (λ c. c.end % piece_sectors ≡ 0) children.now)
+        (¬ (All (λ c. c.end % piece_sectors ≡ 0) children.now)) }
 {
     for child in children {
         if child.end % 256 != 0 {

@@ -14,6 +14,7 @@ use Rattle.bc_facts.specs.Seen.{seen_entry, seen_set}
 use Rattle.bc_whole.specs.State.{Opening, Write, OfData, OfEntry, OfSet, OfParent, OfLeaf, OfInner, OfPriorities, Outside}
 use Rattle.bc_whole.specs.Together.{entry_of}
 use Rattle.bc_known.specs.Acts.{State, Act, Keyed, WriteCache, FailCache, Seal, Event, after}
+use Rattle.bc_model.specs.Pieces.{piece_sectors}
 
 -- ---- keys of data
 
@@ -64,9 +65,9 @@ IsWellWritten f st (OfSet i set) = AreNewKeys f.geometry f.size set.keys
 IsWellWritten f st (OfParent i set) =
     IsInnerSet f.geometry (st.inner_nodes i).first (st.inner_nodes i).end set
 IsWellWritten f st (OfLeaf i leaf set) = AreNewKeys f.geometry f.size set.keys
-    × (leaf.end % 256 ≡ 0)
+    × (leaf.end % piece_sectors ≡ 0)
 IsWellWritten f st (OfInner i inner set) = IsInnerSet f.geometry inner.first inner.end set
-    × (inner.end % 256 ≡ 0)
+    × (inner.end % piece_sectors ≡ 0)
 IsWellWritten f st (OfPriorities q part set) = Unit {0}
 -- nothing is written in front of the buckets or behind them
 IsWellWritten f st (Outside place) = ⊥

@@ -26,7 +26,7 @@ use Rattle.bc_replay.specs.declared.uses.Use.{Use}
 use Rattle.bc_replay.specs.declared.uses.Use.TheVariants as uses
 use Rattle.bc_replay.specs.Index.{IsIndexed}
 use Rattle.bc_replay.specs.Judge.{IsKnown, IsJudged, IsFirstOf, held_of}
-use Rattle.bc_replay.specs.Marks.{Mark, IsMarked, IsTold, IsClear, IsLeastMixed, AreMarked, IsLeastOf, lower_of, CountsNone, all_marks}
+use Rattle.bc_replay.specs.Marks.{Mark, IsMarked, IsMarkedFor, IsClear, IsLeastMixed, AreMarked, IsLeastOf, lower_of, CountsNone, all_marks}
 use Rattle.bc_replay.specs.Refused.{TellTrue, MayPoint, NoneBarred, AreData, IsFirstNode, IsFirstData, IsFirstPointer, KeepsWord}
 use Rattle.bc_replay.specs.Used.{Held, LiesIn, IsUse, IsMetTwice, IsTwice, HasNoTwice, IsLeastTwice, HasNoUse, CountsSpare, IsListed, AreUses}
 use Rattle.bc_replay.specs.Used.IsTwice.{kinds, nodes as two_nodes}
@@ -123,7 +123,7 @@ module _ (r : Rule) (gens : Gens) (uuid_bucket : Key) (seen : List Visit) (keys 
   pub first_twice : (table : List Use) (mixed two : Option ℕ) (b : ℕ) → AreMarked g marks table mixed → IsLeastOf (IsMetTwice g seen) two → lower_of mixed two ≡ Some b → IsLeastTwice h b
   first_twice table mixed two b are met is = let l = subst (λ (o : Option ℕ). IsLeastOf (IsTwice h) o) is (least_twice table mixed two are met) in record { twice = l.0; least = l.1 }
 
-  listed : (b : ℕ) (u : Use) → IsTold g marks b u → IsListed h u b
+  listed : (b : ℕ) (u : Use) → IsMarkedFor g marks b u → IsListed h u b
   listed b uses.None told = λ k use_. told k (to_mark k b use_)
   listed b uses.Super told = to_use uses.Super b told
   listed b uses.Journal told = to_use uses.Journal b told
@@ -135,7 +135,7 @@ module _ (r : Rule) (gens : Gens) (uuid_bucket : Key) (seen : List Visit) (keys 
   pub are_uses : (table : List Use) (mixed : Option ℕ) → AreMarked g marks table mixed → AreUses h table
   are_uses table mixed are = record { each = are.each; told = λ b low. listed b (use_at table b) (are.told b low) }
 
-  used_if : (b : ℕ) (u : Use) → u ≢ uses.None → IsTold g marks b u → HasNoUse h b → ⊥
+  used_if : (b : ℕ) (u : Use) → u ≢ uses.None → IsMarkedFor g marks b u → HasNoUse h b → ⊥
   used_if b u some told none = none u (to_use u b (marked_of g marks b u some told))
 
   pub spare_count : (table : List Use) (mixed : Option ℕ) → AreMarked g marks table mixed → (n count : ℕ) → n ≤ g.nbuckets → CountsNone table n count → CountsSpare h n count

@@ -9,7 +9,7 @@ use Rattle.std.proofs.lemmas.List.Elements.{Contains-append_left, Contains-appen
 use Rattle.bc_disk.specs.declared.geometry.Geometry.{Geometry}
 use Rattle.bc_replay.specs.declared.uses.Use.{Use}
 use Rattle.bc_replay.specs.declared.uses.Use.TheVariants as uses
-use Rattle.bc_replay.specs.Marks.{Mark, mark, IsMarked, IsTold, IsClear, IsLeastMixed, AreMarked, IsLeastOf, lower_of, CountsNone}
+use Rattle.bc_replay.specs.Marks.{Mark, mark, IsMarked, IsMarkedFor, IsClear, IsLeastMixed, AreMarked, IsLeastOf, lower_of, CountsNone}
 
 -- the use that a table has for a bucket
 abbrev pub use_at : List Use → ℕ → Use
@@ -36,7 +36,7 @@ module _ (g : Geometry) where
       go (inr new) = let same = is_one (mark kind bucket) (mark k b) new in inr (ap (λ (m : Mark). m.use_) same, ap (λ (m : Mark). m.bucket) same)
 
   -- what the table tells of a bucket
-  told_more : (marks more : List Mark) (b : ℕ) (u : Use) → (u ≡ uses.None → (k : Use) → IsMarked g (marks ++ more) k b → IsMarked g marks k b) → IsTold g marks b u → IsTold g (marks ++ more) b u
+  told_more : (marks more : List Mark) (b : ℕ) (u : Use) → (u ≡ uses.None → (k : Use) → IsMarked g (marks ++ more) k b → IsMarked g marks k b) → IsMarkedFor g marks b u → IsMarkedFor g (marks ++ more) b u
   told_more marks more b uses.None back told = λ k new. told k (back refl k new)
   told_more marks more b uses.Super back told = marked_more marks more uses.Super b told
   told_more marks more b uses.Journal back told = marked_more marks more uses.Journal b told
@@ -45,7 +45,7 @@ module _ (g : Geometry) where
   told_more marks more b uses.Node back told = marked_more marks more uses.Node b told
   told_more marks more b uses.Data back told = marked_more marks more uses.Data b told
 
-  told_of : (marks : List Mark) (b : ℕ) (u : Use) → u ≢ uses.None → IsMarked g marks u b → IsTold g marks b u
+  told_of : (marks : List Mark) (b : ℕ) (u : Use) → u ≢ uses.None → IsMarked g marks u b → IsMarkedFor g marks b u
   told_of marks b uses.None some marked = absurd (some refl)
   told_of marks b uses.Super some marked = marked
   told_of marks b uses.Journal some marked = marked
@@ -54,7 +54,7 @@ module _ (g : Geometry) where
   told_of marks b uses.Node some marked = marked
   told_of marks b uses.Data some marked = marked
 
-  pub marked_of : (marks : List Mark) (b : ℕ) (u : Use) → u ≢ uses.None → IsTold g marks b u → IsMarked g marks u b
+  pub marked_of : (marks : List Mark) (b : ℕ) (u : Use) → u ≢ uses.None → IsMarkedFor g marks b u → IsMarked g marks u b
   marked_of marks b uses.None some told = absurd (some refl)
   marked_of marks b uses.Super some told = told
   marked_of marks b uses.Journal some told = told
@@ -63,13 +63,13 @@ module _ (g : Geometry) where
   marked_of marks b uses.Node some told = told
   marked_of marks b uses.Data some told = told
 
-  pub none_told : (marks : List Mark) (b : ℕ) (u : Use) → u ≡ uses.None → IsTold g marks b u → (k : Use) → IsMarked g marks k b → ⊥
-  none_told marks b u is told = subst (λ (v : Use). IsTold g marks b v) is told
+  pub none_told : (marks : List Mark) (b : ℕ) (u : Use) → u ≡ uses.None → IsMarkedFor g marks b u → (k : Use) → IsMarked g marks k b → ⊥
+  none_told marks b u is told = subst (λ (v : Use). IsMarkedFor g marks b v) is told
 
   -- ---- the same table
 
   module _ (marks more : List Mark) (table : List Use) (fits : (b : ℕ) (k : Use) → b < g.nbuckets → IsMarked g (marks ++ more) k b → IsMarked g marks k b ⊎ ((use_at table b ≡ k) × (k ≢ uses.None))) where
-    same_told : (mixed : Option ℕ) → AreMarked g marks table mixed → (b : ℕ) → b < g.nbuckets → IsTold g (marks ++ more) b (use_at table b)
+    same_told : (mixed : Option ℕ) → AreMarked g marks table mixed → (b : ℕ) → b < g.nbuckets → IsMarkedFor g (marks ++ more) b (use_at table b)
     same_told mixed are b low = told_more marks more b (use_at table b) (λ none k new. old none k (fits b k low new)) (are.told b low)
       where
         old : use_at table b ≡ uses.None → (k : Use) → IsMarked g marks k b ⊎ ((use_at table b ≡ k) × (k ≢ uses.None)) → IsMarked g marks k b
@@ -134,10 +134,10 @@ module _ (g : Geometry) where
       unmarked : (mixed : Option ℕ) → AreMarked g marks table mixed → (k : Use) → IsMarked g marks k bucket → ⊥
       unmarked mixed are k = let each = are.each in none_told marks bucket (use_at table bucket) free (are.told bucket (omega (arith, each, within))) k
 
-      set_told : (mixed : Option ℕ) → AreMarked g marks table mixed → (b : ℕ) → b < g.nbuckets → IsTold g next b (use_at filled b)
+      set_told : (mixed : Option ℕ) → AreMarked g marks table mixed → (b : ℕ) → b < g.nbuckets → IsMarkedFor g next b (use_at filled b)
       set_told mixed are b low = elim (cases_eq b bucket) [
-        | inl same ↦ subst (λ n. IsTold g next n (use_at filled n)) (sym same) (subst (λ (u : Use). IsTold g next bucket u) (sym here) (told_of next bucket kind some (marked_last marks kind bucket)))
-        | inr other ↦ subst (λ (u : Use). IsTold g next b u) (sym (there b other)) (told_more marks (mark kind bucket ∷ []) b (use_at table b) (λ none k new. back other k (marked_cases marks kind bucket k b new)) (are.told b low))
+        | inl same ↦ subst (λ n. IsMarkedFor g next n (use_at filled n)) (sym same) (subst (λ (u : Use). IsMarkedFor g next bucket u) (sym here) (told_of next bucket kind some (marked_last marks kind bucket)))
+        | inr other ↦ subst (λ (u : Use). IsMarkedFor g next b u) (sym (there b other)) (told_more marks (mark kind bucket ∷ []) b (use_at table b) (λ none k new. back other k (marked_cases marks kind bucket k b new)) (are.told b low))
       ]
         where
           back : b ≢ bucket → (k : Use) → IsMarked g marks k b ⊎ ((kind ≡ k) × (bucket ≡ b)) → IsMarked g marks k b
@@ -171,7 +171,7 @@ module _ (g : Geometry) where
 
     -- another use than the one that there is
     module _ (within : bucket < length table) (used : use_at table bucket ≢ uses.None) (differs : use_at table bucket ≢ kind) where
-      mixed_told : (mixed : Option ℕ) → AreMarked g marks table mixed → (b : ℕ) → b < g.nbuckets → IsTold g next b (use_at table b)
+      mixed_told : (mixed : Option ℕ) → AreMarked g marks table mixed → (b : ℕ) → b < g.nbuckets → IsMarkedFor g next b (use_at table b)
       mixed_told mixed are b low = told_more marks (mark kind bucket ∷ []) b (use_at table b) (λ none k new. back none k (marked_cases marks kind bucket k b new)) (are.told b low)
         where
           back : use_at table b ≡ uses.None → (k : Use) → IsMarked g marks k b ⊎ ((kind ≡ k) × (bucket ≡ b)) → IsMarked g marks k b

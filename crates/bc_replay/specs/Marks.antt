@@ -31,9 +31,9 @@ abbrev pub IsMarked : Geometry → List Mark → Use → ℕ → Type 0
 IsMarked g marks kind bucket = IsLaidOut g kind bucket ⊎ Contains marks (mark kind bucket)
 
 -- the table has one of the bucket's uses, if there is one
-abbrev pub IsTold : Geometry → List Mark → ℕ → Use → Type 0
-IsTold g marks bucket uses.None = (kind : Use) → ¬ (IsMarked g marks kind bucket)
-IsTold g marks bucket kind = IsMarked g marks kind bucket
+abbrev pub IsMarkedFor : Geometry → List Mark → ℕ → Use → Type 0
+IsMarkedFor g marks bucket uses.None = (kind : Use) → ¬ (IsMarked g marks kind bucket)
+IsMarkedFor g marks bucket kind = IsMarked g marks kind bucket
 
 -- of each of the first n buckets it has the one use
 abbrev pub IsClear : Geometry → List Mark → List Use → ℕ → Type 0
@@ -49,7 +49,7 @@ pub record IsLeastMixed (g : Geometry) (marks : List Mark) (table : List Use) (b
 
 pub record AreMarked (g : Geometry) (marks : List Mark) (table : List Use) (mixed : Option ℕ) : Type 0 where
   pub each : length table ≡ g.nbuckets
-  pub told : (bucket : ℕ) → bucket < g.nbuckets → IsTold g marks bucket (slice_index_or table bucket uses.None)
+  pub told : (bucket : ℕ) → bucket < g.nbuckets → IsMarkedFor g marks bucket (slice_index_or table bucket uses.None)
   pub least : MatchOption mixed (IsClear g marks table g.nbuckets) (IsLeastMixed g marks table)
 
 -- ---- the marks of what was read

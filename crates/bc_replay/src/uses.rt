@@ -9,7 +9,7 @@ ghost use Rattle.bc_image.specs.Sound.{IsNodeKey};
 ghost use Rattle.bc_image.specs.Shown.{generation_of, age_of, is_live};
 ghost use Rattle.bc_key.specs.declared.key.Key.{Key};
 ghost use Rattle.bc_walk.specs.declared.visit.Visit.TheVariants as visits;
-ghost use Rattle.bc_replay.specs.Marks.{Mark, mark, lower_of, IsTold, AreMarked, key_marks, chain_marks, visit_marks, row_marks, all_marks, IsLeastOf, CountsNone};
+ghost use Rattle.bc_replay.specs.Marks.{Mark, mark, lower_of, IsMarkedFor, AreMarked, key_marks, chain_marks, visit_marks, row_marks, all_marks, IsLeastOf, CountsNone};
 ghost use Rattle.bc_replay.specs.Refused.{TellTrue};
 ghost use Rattle.bc_replay.specs.Used.{IsMetTwice};
 ghost use Rattle.bc_replay.specs.declared.uses.Use.TheVariants as uses;
@@ -82,7 +82,7 @@ pub struct Table {
 
 /// What the geometry alone says of a bucket.
 fn laid_out(g: &Geometry, bucket: u32) -> Use
-    ensures { IsTold g.now [] bucket result }
+    ensures { IsMarkedFor g.now [] bucket result }
 {
     let journal = u32::from(g.first_bucket);
     if bucket < journal {

@@ -1,7 +1,7 @@
 //! Devices that fail and stop at each call, and what a crash leaves of them then.
 ghost use Rattle.std.specs.Prelude.{◌≡◌, ◌*◌, length};
 
-use crate::serving::{image, serve, source};
+use crate::calls::{image, serve, source};
 use bc_book::pass::Pass;
 use bc_disk::crash::Pick;
 use bc_disk::mem_disk::MemDisk;

@@ -1,5 +1,5 @@
 //! Forced writes: what is acknowledged is there after a crash, and nothing else is promised.
-use crate::serving::{image, test_calls, test_serve};
+use crate::calls::{image, test_calls, test_serve};
 use bc_disk::crash::Pick;
 use bc_disk::mem_disk::MemDisk;
 use std::alloc::Global;

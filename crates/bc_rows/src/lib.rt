@@ -2,6 +2,8 @@
 #![tactic(auto)]
 
 #[cfg(test)]
+mod calls;
+#[cfg(test)]
 mod edits;
 #[cfg(test)]
 mod failing;
@@ -15,8 +17,6 @@ mod pair;
 mod pairs;
 #[cfg(test)]
 mod rows;
-#[cfg(test)]
-mod serving;
 #[cfg(test)]
 mod slow;
 #[cfg(test)]

@@ -1,7 +1,7 @@
 //! Commands over pairs of devices in memory.
 ghost use Rattle.std.specs.Prelude.{◌+◌, ◌*◌, ◌<◌, ◌≤◌, length};
 
-use crate::serving::test_end;
+use crate::calls::test_end;
 use bc_disk::mem_disk::MemDisk;
 use bc_disk::mem_sink::MemSink;
 use bc_disk::mem_source::MemSource;

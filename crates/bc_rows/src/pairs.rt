@@ -4,7 +4,7 @@ ghost use Rattle.std.specs.Prelude.{◌<◌, ◌≤◌};
 use crate::pair::{
     BACKING_SECTORS, CACHE_SECTORS, FORMAT, Pair, blank, formatted, made, run, test_run,
 };
-use crate::serving::{seal, test_calls, test_end};
+use crate::calls::{seal, test_calls, test_end};
 use bc_disk::crash::Pick;
 use bc_disk::mem_disk::MemDisk;
 use bc_disk::mem_sink::MemSink;

@@ -1,7 +1,7 @@
 //! The worked rows: what is printed, and the status.
 ghost use Rattle.std.specs.Prelude.{◌≡◌, ◌*◌, ◌<◌, length};
 
-use crate::serving::{image, seal, test_calls, test_serve};
+use crate::calls::{image, seal, test_calls, test_serve};
 use bc_bytes::put_u64;
 use bc_disk::mem_disk::MemDisk;
 use std::alloc::Global;

@@ -1,5 +1,5 @@
 //! Sources and sinks that fail, that are slow and that are full.
-use crate::serving::{image, serve, source, test_end, test_serve};
+use crate::calls::{image, serve, source, test_end, test_serve};
 use crate::slow::{SlowSink, SlowSource};
 use bc_disk::mem_disk::MemDisk;
 use bc_disk::mem_sink::MemSink;

@@ -11,7 +11,7 @@ use Rattle.bc_script.specs.declared.form.Form.TheVariants.{Quiet}
 use Rattle.bc_script.specs.declared.reason.Reason.{Reason}
 use Rattle.bc_script.specs.declared.reason.Reason.TheVariants.{Length, TooMany}
 use Rattle.bc_script.specs.Line.{◌>>=◌, form_in, is_comment, said_in, words}
-use Rattle.bc_script.specs.Serving.{if_served, line_in}
+use Rattle.bc_script.specs.Unserved.{if_served, line_in}
 use Rattle.bc_script.specs.Trace.{HasNoNewline, lines_of, line_of, phase_after, SpellAll, SpellTo, most_lines, IsRefused}
 use Rattle.bc_script.specs.Draft.{IsSoFar, Stops}
 use Rattle.bc_script.proofs.Cases.{by_test, by_le}

@@ -8,7 +8,7 @@ use Rattle.std.specs.Prelude.{Ok, Err}
 use Rattle.bc_script.specs.declared.form.Form.{Form}
 use Rattle.bc_script.specs.declared.reason.Reason.{Reason}
 use Rattle.bc_script.specs.Line.{Reads}
-use Rattle.bc_script.specs.Serving.{line_in}
+use Rattle.bc_script.specs.Unserved.{line_in}
 use Rattle.bc_script.specs.Trace.{lines_of, line_of, phase_after, ended, HasNoNewline, SpellAll, SpellTo, most_lines, IsRefused, IsFirstRefused}
 use Rattle.bc_script.proofs.Lines.{spell_length}
 use Rattle.bc_script.proofs.Cases.{by_test}

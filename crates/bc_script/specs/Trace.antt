@@ -13,7 +13,7 @@ use Rattle.bc_script.specs.declared.script.ScriptError.{ScriptError}
 use Rattle.bc_script.specs.declared.script.TraceError.{TraceError}
 use Rattle.bc_script.specs.declared.script.TraceError.TheVariants.{Script, Fault, Memory}
 use Rattle.bc_script.specs.Proper.{IsLine}
-use Rattle.bc_script.specs.Serving.{line_in}
+use Rattle.bc_script.specs.Unserved.{line_in}
 
 -- the lines of a text, each without its newline; the last may lack it
 abbrev pub lines_of : List ℕ → List (List ℕ)

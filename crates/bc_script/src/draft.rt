@@ -1,7 +1,7 @@
 //! A trace as far as it was read.
 ghost use Rattle.std.specs.Prelude.{◌≡◌, ◌+◌, ◌<◌, ◌≤◌, ◌∷◌, ◌++◌, [], List, ℕ, suc, length, OnOk, IfOk, IfErr, MatchOption, MatchResult};
 ghost use Rattle.bc_script.specs.Proper.{IsLine};
-ghost use Rattle.bc_script.specs.Serving.{line_in};
+ghost use Rattle.bc_script.specs.Unserved.{line_in};
 ghost use Rattle.bc_script.specs.Trace.{HasNoNewline, line_of, lines_of, SpellAll, IsTrace};
 
 use crate::form::Form;

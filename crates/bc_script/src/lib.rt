@@ -16,9 +16,9 @@ pub mod print;
 pub mod reason;
 pub mod script;
 mod seen;
-mod serving;
 mod simple;
 pub mod summary;
 #[cfg(test)]
 mod tests;
 pub mod trace;
+mod unserved;

@@ -3,7 +3,7 @@ ghost use Rattle.std.specs.Prelude.{◌≡◌, ◌+◌, ◌≤◌, ◌<◌, ◌^
 ghost use Rattle.std.specs.List.{position_or_len};
 ghost use Rattle.bc_script.specs.Line.{is_space, front, is_comment, is_phase_end, words, number_in, number_at, field_at, at_end, range_at, stamped_in, write_in, forced_in, read_in, asked_by, action_in, request_in, said_in, form_in};
 ghost use Rattle.bc_script.specs.Proper.{IsProper, IsProperForm, IsRange, IsLine};
-ghost use Rattle.bc_script.specs.Serving.{line_in};
+ghost use Rattle.bc_script.specs.Unserved.{line_in};
 ghost use Rattle.bc_script.specs.Trace.{line_of};
 ghost use Rattle.bc_script.specs.declared.line.Action.{Action};
 ghost use Rattle.bc_script.specs.declared.form.Form.{Form};
@@ -12,7 +12,7 @@ ghost use Rattle.bc_script.specs.declared.reason.Reason.{Reason};
 use crate::form::Form;
 use crate::line::{Action, Rounds};
 use crate::reason::Reason;
-use crate::serving::if_served;
+use crate::unserved::if_served;
 use crate::simple::simple_request;
 
 // The most bytes of a line, its newline not counted.

@@ -1,6 +1,7 @@
 -- Leaves that go, and those that come in their place.
 use Rattle.std.specs.Prelude.{◌≡◌, ℕ, suc, ◌+◌, ◌%◌, ◌<◌, ◌≤◌, List, ◌∷◌, length, take, drop, slice_get, [], Some, IfSome, option_to_list}
 use Rattle.bc_key.specs.declared.ptr.Ptr.{Ptr}
+use Rattle.bc_model.specs.Pieces.{piece_sectors}
 use Rattle.bc_spine.specs.declared.exchange.Exchange.{Exchange}
 use Rattle.bc_spine.specs.declared.leaf.LeafRange.{LeafRange}
 use Rattle.bc_spine.specs.Leaves.{CanReplace}
@@ -35,7 +36,7 @@ pub record CanCut (leaves : List LeafRange) (place cut : ℕ) : Type 0 where
   pub there : slice_get leaves place ≡ Some leaf
   pub above : leaf.from < cut
   pub below : cut < leaf.end
-  pub multiple : cut % 256 ≡ 0
+  pub multiple : cut % piece_sectors ≡ 0
 
 -- one leaf is cut in two at a sector
 pub record IsSplit (leaves : List LeafRange) (place cut : ℕ) (low high : Ptr) (e

@@ -1,6 +1,7 @@
 -- Leaves in the order of their ranges, which lie one behind the other.
 use Rattle.std.specs.Prelude.{◌≡◌, ◌≢◌, ℕ, suc, ◌%◌, ◌<◌, ◌≤◌, List, [], ◌∷◌, ◌++◌, length, All, AllPairs, Contains}
 use Rattle.bc_key.specs.declared.ptr.Ptr.{Ptr}
+use Rattle.bc_model.specs.Pieces.{piece_sectors}
 use Rattle.bc_spine.specs.declared.leaf.LeafRange.{LeafRange}
 
 -- what a `Leaves` is seen as
@@ -23,7 +24,7 @@ IsRow a (leaf ∷ leaves) b = (leaf.from ≡ a) × (a < leaf.end) × IsRow leaf.
 
 -- a leaf is cut off only at a multiple of 256 sectors
 abbrev pub EndsAtCut : LeafRange → Type 0
-EndsAtCut leaf = leaf.end % 256 ≡ 0
+EndsAtCut leaf = leaf.end % piece_sectors ≡ 0
 
 abbrev pub HaveTwoNumbers : LeafRange → LeafRange → Type 0
 HaveTwoNumbers a b = a.number ≢ b.number

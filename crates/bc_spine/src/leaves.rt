@@ -1,5 +1,6 @@
 //! The leaves of a tree.
 ghost use Rattle.std.specs.Prelude.{◌≡◌, ℕ, ◌+◌, ◌%◌, ◌^◌, ◌<◌, ◌≤◌, ◌++◌, [], ◌∷◌, length, take, drop, slice_get, Some, OnOk, OnErr, IfOk};
+ghost use Rattle.bc_model.specs.Pieces.{piece_sectors};
 ghost use Rattle.bc_spine.specs.declared.leaf.LeafRange.{LeafRange};
 ghost use Rattle.bc_spine.specs.Leaves.{AreCounted, AreLeaves, CanReplace, IsLeafAt, IsNumberAt, IsPushed, Spans};
 ghost use Rattle.bc_spine.specs.Numbers.{IsLeastFree};
@@ -51,7 +52,7 @@ impl Leaves {
     /// no memory is found, nothing has changed.
     pub fn push(&mut self, end: u64, ptr: Ptr) -> Result<(), AllocError>
         requires end { self.old.end < end }
-        requires cut { end % 256 ≡ 0 }
+        requires cut { end % piece_sectors ≡ 0 }
         requires counted { AreCounted 0 self.old.leaves }
         ensures ok { OnOk result (IsPushed self.old self.new end ptr) }
         ensures err { OnErr result ((self.new.leaves ≡ self.old.leaves)

@@ -6,12 +6,8 @@ ghost use Rattle.bc_state.specs.State.{IsCached, number_of, super_in};
 
 use bc_disk::disk::{Disk, Failed};
 use bc_super::backing::{BackingSuper, write_backing};
+use bc_super::flags::{BEHIND_STATE, STATE};
 use bc_super::state::BackingState;
-
-/// The place of the lower bit of the state in the flags, and that behind the upper one.
-const STATE: u64 = 1 << 61;
-
-const BEHIND: u64 = 1 << 63;
 
 /// The number that names a state.
 fn number_of(state: BackingState) -> u64
@@ -30,7 +26,7 @@ pub fn in_state(s: &BackingSuper, state: BackingState) -> BackingSuper
     ensures { result ≡ super_in state s.now }
 {
     let mut changed = *s;
-    changed.flags = s.flags % STATE + STATE * number_of(state) + BEHIND * (s.flags / BEHIND);
+    changed.flags = s.flags % STATE + STATE * number_of(state) + BEHIND_STATE * (s.flags / BEHIND_STATE);
     changed
 }
 

@@ -8,6 +8,7 @@ ghost use Rattle.bc_super.specs.Writing.{IsCacheBytes, IsCacheStored, IsCacheTor
 
 use crate::error::SuperError;
 use crate::fields::{Fields, get_fields, put_fields};
+use crate::flags::SET_UP;
 use crate::head::{DATA_START, SUPER_BYTES, SUPER_SECTOR, check_head, put_checksum};
 use crate::layout::{FEWEST_BUCKETS, is_block, is_bucket, most_buckets};
 use crate::list::{lists, put_list};
@@ -70,13 +71,20 @@ fn from_fields(fields: &Fields) -> CacheSuper
     }
 }
 
+// Whether the flags say that the device was set up.
+fn has_sync(flags: u64) -> bool
+    ensures { IsTrue result ↔ HasSync flags }
+{
+    flags & SET_UP == SET_UP
+}
+
 // Whether the journal's buckets are those that it may have.
 fn has_journal(bytes: &[u8], fields: &Fields) -> bool
     requires { 208 + 8 * fields.now.journal ≤ length bytes.now }
     ensures { IsTrue result ↔ HasJournal bytes.now fields.now }
 {
     let (first, count) = (fields.first_bucket, fields.journal);
-    let few = fields.flags & 1 == 1 && 0 < count && count < 8;
+    let few = has_sync(fields.flags) && 0 < count && count < 8;
     !few && u64::from(first) + u64::from(count) <= fields.nbuckets && lists(bytes, first, count)
 }
 
@@ -175,7 +183,28 @@ impl CacheSuper {
     pub fn is_set_up(&self) -> bool
         ensures { IsTrue result ↔ HasSync self.now.flags }
     {
-        self.flags & 1 == 1
+        has_sync(self.flags)
+    }
+
+    /// Bit 0 of the flags: 1 where the device was set up.
+    pub fn sync(&self) -> u64
+        ensures { result ≡ self.now.flags % 2 }
+    {
+        self.flags % 2
+    }
+
+    /// Bit 1 of the flags: 1 where discards are sent.
+    pub fn discard(&self) -> u64
+        ensures { result ≡ self.now.flags / 2 % 2 }
+    {
+        self.flags / 2 % 2
+    }
+
+    /// Bits 2 to 4 of the flags: which bucket is given up first.
+    pub fn replacement(&self) -> u64
+        ensures { result ≡ self.now.flags / 2 ^ 2 % 2 ^ 3 }
+    {
+        (self.flags >> 2) & 0b111
     }
 }
 

@@ -6,6 +6,7 @@ pub mod cache;
 pub mod division;
 pub mod error;
 pub mod fields;
+pub mod flags;
 pub mod head;
 pub mod laws;
 pub mod layout;

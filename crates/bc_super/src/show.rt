@@ -34,11 +34,10 @@ fn state_word(state: BackingState) -> &'static str
     }
 }
 
-// By bits 2 to 4 of a cache device's flags.
-fn replacement_word(flags: u64) -> &'static str
-    ensures { result.now ≡ replacement_text (flags / 2 ^ 2 % 2 ^ 3) }
+fn replacement_word(replacement: u64) -> &'static str
+    ensures { result.now ≡ replacement_text replacement }
 {
-    match (flags >> 2) & 0b111 {
+    match replacement {
         0 => "lru",
         1 => "fifo",
         2 => "random",
@@ -119,9 +118,9 @@ fn push_cache(text: &mut String, c: &CacheSuper) -> Result<(), AllocError>
     push_number(text, "buckets", u64::from(c.nbuckets))?;
     push_number(text, "first", u64::from(c.first_bucket))?;
     push_number(text, "journal", u64::from(c.journal))?;
-    push_pair(text, "replacement", replacement_word(c.flags))?;
-    push_number(text, "sync", c.flags % 2)?;
-    push_number(text, "discard", c.flags / 2 % 2)?;
+    push_pair(text, "replacement", replacement_word(c.replacement()))?;
+    push_number(text, "sync", c.sync())?;
+    push_number(text, "discard", c.discard())?;
     text.push_str("\n")
 }
 

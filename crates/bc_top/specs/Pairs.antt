@@ -14,9 +14,9 @@ use Rattle.bc_pair.specs.declared.error.PairError.{PairError}
 use Rattle.bc_pair.specs.declared.error.PairError.TheVariants as errors
 use Rattle.bc_pair.specs.declared.pair.NewPair.{NewPair}
 use Rattle.bc_check.specs.Calls.{BothKept, CountsFault, EndsAlone, EndsAtSuper, NoneFailed}
-use Rattle.bc_check.specs.Text.{IsTold}
+use Rattle.bc_check.specs.Text.{Reports}
 use Rattle.bc_check.specs.Verdict.{IsCheckCause}
-use Rattle.bc_check.specs.declared.text.Told.{Told}
+use Rattle.bc_check.specs.declared.text.Report.{Report}
 use Rattle.bc_check.specs.declared.verdict.CheckError.{CheckError}
 use Rattle.bc_replay.specs.Causes.{OfHeld}
 use Rattle.bc_super.specs.Reading.{ReadsCache, ReadsSuper}
@@ -52,11 +52,11 @@ EndsPrinting (Err e) status old new = IsStopped e status old new
 
 -- A command that tells a verdict: the sink took the text whole, and the status is the verdict's;
 -- or a put of it failed or took nothing.
-abbrev pub EndsChecking : Result Told CheckError → Status → StreamFacts → StreamFacts → Type 0
-EndsChecking (Ok told) status old new =
-    ((status ≡ verdict_status told.verdict) × Takes (string_bytes told.text) old new)
+abbrev pub EndsChecking : Result Report CheckError → Status → StreamFacts → StreamFacts → Type 0
+EndsChecking (Ok report) status old new =
+    ((status ≡ verdict_status report.verdict) × Takes (string_bytes report.text) old new)
     ⊎ ((status ≡ statuses.Sink)
-    × ((cause : WriteFault) × IsWriteFault cause (string_bytes told.text) old new))
+    × ((cause : WriteFault) × IsWriteFault cause (string_bytes report.text) old new))
 EndsChecking (Err e) status old new = (status ≡ status_of (check_stop e))
     × IsPutOf (message_text (message_of (check_stop e))) old new
 
@@ -114,8 +114,8 @@ module _ {C B : Type 0} (cache_facts : C → DiskFacts) (backing_facts : B → D
   -- nothing was written, and the pair's verdict was told, and what its buckets hold, where that is
   -- asked for and it is sound; or it was refused or a device failed
   pub record HasChecked (list : Bool) : Type 0 where
-    pub answer : Result Told CheckError
-    pub told : IfOk answer (λ r. OfHeld (λ p. IsTold list p r.verdict (string_bytes r.text))
+    pub answer : Result Report CheckError
+    pub reports : IfOk answer (λ r. OfHeld (λ p. Reports list p r.verdict (string_bytes r.text))
         (cache_facts cache) (backing_facts backing))
     pub cause : IfErr answer (IsCheckCause (cache_facts cache) (backing_facts backing))
     pub supers : IfErr answer (EndsAtSuper (cache_facts cache) (cache_facts cache')

@@ -5,7 +5,7 @@ ghost use Rattle.bc_top.specs.Pairs.{EndsChecking, EndsPrinting, EndsSilently, H
 
 use crate::exit::Exit;
 use crate::stop::{Stop, tell};
-use bc_check::{CheckError, Told, Verdict, tell_pair};
+use bc_check::{CheckError, Report, Verdict, tell_pair};
 use bc_disk::disk::Disk;
 use bc_disk::stream::Sink;
 use bc_output::put::put_all;
@@ -51,12 +51,12 @@ fn status_of(verdict: Verdict) -> Status
 }
 
 // Prints a verdict, which has its own status.
-fn end_checking<K: Sink>(answer: &Result<Told, CheckError>, out: &mut K) -> Status
+fn end_checking<K: Sink>(answer: &Result<Report, CheckError>, out: &mut K) -> Status
     ensures { EndsChecking answer.now result (K.facts out.old) (K.facts out.new) }
 {
     match answer {
-        Ok(told) => match put_all(out, told.text.as_bytes()) {
-            Ok(()) => status_of(told.verdict),
+        Ok(report) => match put_all(out, report.text.as_bytes()) {
+            Ok(()) => status_of(report.verdict),
             Err(_cut) => Status::Sink,
         },
         Err(error) => tell(&Stop::from(*error), out),

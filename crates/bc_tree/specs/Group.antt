@@ -3,6 +3,7 @@ use Rattle.std.specs.Prelude.{◌≡◌, ℕ, ◌+◌, ◌%◌, ◌^◌, ◌<◌
 use Rattle.bc_inner.specs.Inner.{Inner}
 use Rattle.bc_key.specs.declared.key.Key.{Key}
 use Rattle.bc_key.specs.declared.ptr.Ptr.{Ptr}
+use Rattle.bc_model.specs.Pieces.{piece_sectors}
 use Rattle.bc_tree.specs.Spine.{last_end}
 use Rattle.bc_tree.specs.declared.beside.Beside.{Beside}
 use Rattle.bc_tree.specs.declared.beside.Beside.TheVariants.{Comes, Goes, Moves, Stays, Under}
@@ -39,10 +40,10 @@ pub record IsFresh (level from end : ℕ) (children : List Key) (to : Ptr) (seq 
 -- two nodes that lie one behind the other between two sectors, and end at multiples of 256
 pub record AreNeighbours (from end : ℕ) (low high : Inner) : Type 0 where
   pub begins : from < low.end
-  pub middle : low.end % 256 ≡ 0
+  pub middle : low.end % piece_sectors ≡ 0
   pub rises : low.end < high.end
   pub ends : high.end ≡ end
-  pub multiple : end % 256 ≡ 0
+  pub multiple : end % piece_sectors ≡ 0
 
 -- two nodes above leaves that have all these children between them: so many of them go to the first
 pub record AreTwo (from end cut : ℕ) (all : List Key) (to : List Ptr) (seq : ℕ) (low high : Inner)

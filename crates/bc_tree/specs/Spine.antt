@@ -4,6 +4,7 @@ use Rattle.bc_disk.specs.declared.geometry.Geometry.{Geometry}
 use Rattle.bc_inner.specs.Inner.{CoverRange, Inner, children_set}
 use Rattle.bc_key.specs.Key.{ptr_at}
 use Rattle.bc_key.specs.declared.key.Key.{Key}
+use Rattle.bc_model.specs.Pieces.{piece_sectors}
 use Rattle.bc_set.specs.SetBytes.{bytes_of}
 use Rattle.bc_spine.specs.Leaves.{AreCounted, Leaves, Spans}
 use Rattle.bc_spine.specs.declared.leaf.LeafRange.{LeafRange}
@@ -27,7 +28,7 @@ pub record Spine : Type 0 where
 -- the ends rise from a sector on, by multiples of 256
 abbrev pub Rise : ℕ → List Key → Type 0
 Rise from [] = Unit {0}
-Rise from (key ∷ keys) = (from < key.end) × (key.end % 256 ≡ 0) × Rise key.end keys
+Rise from (key ∷ keys) = (from < key.end) × (key.end % piece_sectors ≡ 0) × Rise key.end keys
 
 -- the last of these ends; a sector where there is none
 abbrev pub last_end : ℕ → List Key → ℕ
@@ -119,7 +120,7 @@ pub record IsPlaceAt (spine : Spine) (sector : ℕ) (place : LeafPlace) : Type 0
   pub stands : place.range.ptr ≡ ptr_at key 0
   -- it begins where the child before it ends
   pub begins : place.range.from ≡ last_end parent.from (take place.child parent.children)
-  pub multiples : (place.range.from % 256 ≡ 0) × (place.range.end % 256 ≡ 0)
+  pub multiples : (place.range.from % piece_sectors ≡ 0) × (place.range.end % piece_sectors ≡ 0)
   -- before it are the children of the nodes before its parent, and those before its key
   pub before : place.leaf
       ≡ length (children_in (take place.node (bottom spine.root spine.below))) + place.child

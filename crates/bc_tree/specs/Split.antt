@@ -4,6 +4,7 @@ use Rattle.bc_disk.specs.declared.geometry.Geometry.{Geometry}
 use Rattle.bc_inner.specs.Inner.{Inner}
 use Rattle.bc_key.specs.declared.key.Key.{Key}
 use Rattle.bc_key.specs.declared.ptr.Ptr.{Ptr}
+use Rattle.bc_model.specs.Pieces.{piece_sectors}
 use Rattle.bc_node.specs.Leaf.{IsFull, Leaf}
 use Rattle.bc_spine.specs.Exchange.{IsSplit}
 use Rattle.bc_tree.specs.Needs.{fits_node, words}
@@ -75,7 +76,7 @@ pub record IsLeafSplit (spine : Spine) (leaf : Leaf) (to : List Ptr) (seq : ℕ)
   pub place : LeafPlace
   pub stands : IsPlaceAt spine leaf.from place
   pub cut : ℕ
-  pub within : (leaf.from < cut) × (cut < leaf.end) × (cut % 256 ≡ 0)
+  pub within : (leaf.from < cut) × (cut < leaf.end) × (cut % piece_sectors ≡ 0)
   pub middle : IsNearMiddle leaf.from leaf.keys cut
   pub high : Leaf
   pub halves : AreHalves spine.geometry leaf cut to seq plan.first high

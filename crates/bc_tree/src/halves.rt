@@ -4,6 +4,7 @@
 ghost use Rattle.std.specs.Prelude.{◌≡◌, ◌+◌, ◌%◌, ◌^◌, ◌<◌, ◌≤◌, ◌∷◌, [], true, false, length, slice_get, Some, IfOk, OnOk};
 ghost use Rattle.bc_inner.specs.Inner.{Inner};
 ghost use Rattle.bc_key.specs.declared.key.Key.{Key};
+ghost use Rattle.bc_model.specs.Pieces.{piece_sectors};
 ghost use Rattle.bc_tree.specs.Change.{CanChange};
 ghost use Rattle.bc_tree.specs.Group.{AreNeighbours};
 ghost use Rattle.bc_tree.specs.Needs.{fits_node, has_room, words};
@@ -164,7 +165,7 @@ impl Spine {
     ) -> Result<Plan, AllocError>
         requires stands { IsPlaceAt self.old two.low.from place.now }
         requires cut { (place.now.range.from < two.low.end) × (two.low.end < place.now.range.end)
-            × (two.low.end % 256 ≡ 0) }
+            × (two.low.end % piece_sectors ≡ 0) }
         requires end { two.high.end ≡ place.now.range.end }
         requires fits { 0 < length self.old.below
             → fits_node self.old.geometry (words self.old.root.children + 3) ≡ true }

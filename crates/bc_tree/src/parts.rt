@@ -3,6 +3,7 @@ ghost use Rattle.std.specs.Prelude.{◌≡◌, ◌↔◌, ◌+◌, ◌<◌, ◌�
 ghost use Rattle.bc_extent.specs.Extents.{IsInOrder, IsPart, IsRange, Shows};
 ghost use Rattle.bc_extent.specs.LastKey.{last_key};
 ghost use Rattle.bc_key.specs.Key.{start_of};
+ghost use Rattle.bc_model.specs.Pieces.{piece_sectors};
 ghost use Rattle.bc_tree.specs.Parts.{AreParts, IsCutTo, IsNearMiddle, LiesBetween, Meets, bounded};
 
 use bc_extent::Extents;
@@ -83,13 +84,13 @@ pub fn keys_between(
 /// Where a leaf of these keys is cut in two, so that each half has about half of them: within its
 /// range, at a multiple of 256 sectors.
 pub fn cut_of(keys: &Extents, from: u64, end: u64) -> u64
-    requires begins { from % 256 ≡ 0 }
-    requires ends { end % 256 ≡ 0 }
-    requires long { from + 256 < end }
+    requires begins { from % piece_sectors ≡ 0 }
+    requires ends { end % piece_sectors ≡ 0 }
+    requires long { from + piece_sectors < end }
     requires within { All (LiesBetween from end) keys.now.keys }
     ensures above { from < result }
     ensures below { result < end }
-    ensures multiple { result % 256 ≡ 0 }
+    ensures multiple { result % piece_sectors ≡ 0 }
     ensures middle { IsNearMiddle from keys.now.keys result }
 {
     if keys.is_empty() {

@@ -1,6 +1,7 @@
 //! Plans for a leaf that is split in two.
 ghost use Rattle.std.specs.Prelude.{◌≡◌, ◌+◌, ◌%◌, ◌<◌, ◌≤◌, true, length, slice_get, Some, IfErr, IfOk};
 ghost use Rattle.bc_inner.specs.Inner.{Inner};
+ghost use Rattle.bc_model.specs.Pieces.{piece_sectors};
 ghost use Rattle.bc_tree.specs.LastKeys.{StandsInFor};
 ghost use Rattle.bc_tree.specs.Needs.{IsNeeded, fits_node, split_needs, words};
 ghost use Rattle.bc_tree.specs.Plan.{Fits, IsOfSpine, above_count, moves, new_count};
@@ -69,7 +70,7 @@ impl Spine {
     ) -> Result<Plan, AllocError>
         requires stands { IsPlaceAt self.old two.low.from place.now }
         requires cut { (place.now.range.from < two.low.end) × (two.low.end < place.now.range.end)
-            × (two.low.end % 256 ≡ 0) }
+            × (two.low.end % piece_sectors ≡ 0) }
         requires end { two.high.end ≡ place.now.range.end }
         requires fits { (node : Inner)
             → slice_get (bottom self.old.root self.old.below) place.now.node ≡ Some node
@@ -107,7 +108,7 @@ impl Spine {
     ) -> Result<Plan, AllocError>
         requires stands { IsPlaceAt self.old two.low.from place.now }
         requires cut { (place.now.range.from < two.low.end) × (two.low.end < place.now.range.end)
-            × (two.low.end % 256 ≡ 0) }
+            × (two.low.end % piece_sectors ≡ 0) }
         requires end { two.high.end ≡ place.now.range.end }
         requires places { (node : Inner)
             → slice_get (bottom self.old.root self.old.below) place.now.node ≡ Some node
@@ -141,7 +142,7 @@ impl Spine {
         seq: u64,
     ) -> Result<Plan, PlanError>
         requires leaf { IsOfSpine self.old leaf.now }
-        requires long { leaf.now.from + 256 < leaf.now.end }
+        requires long { leaf.now.from + piece_sectors < leaf.now.end }
         requires places { (n : Needs)
             × IsNeeded (split_needs self.old) self.old leaf.now.from (Some n)
             × (length to.now ≡ n.tree + n.moving) }

@@ -23,7 +23,7 @@ const MOST_BLOCK: u64 = 8;
 const LEAST_BUCKET: u64 = 64;
 // The most sectors of a bucket.
 const MOST_BUCKET: u64 = 32_768;
-// The fewest sectors before the data.
+// The fewest sectors before the data, as bc_super has them; this crate stands on no format.
 const LEAST_OFFSET: u64 = 16;
 // The most sectors before the data.
 const MOST_OFFSET: u64 = 1 << 40;

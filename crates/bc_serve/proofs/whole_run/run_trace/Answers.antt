@@ -1,4 +1,4 @@
-use Rattle.bc_serve.proofs.Ran.{has_run, outside, stable, survives}
+use Rattle.bc_serve.proofs.Promised.{has_run, outside, stable, survives}
 use Rattle.bc_serve.proofs.whole_run.run_trace.Goals as goal
 
 pub returns-clause-run : goal.returns-clause-run

@@ -1,5 +1,5 @@
 use Rattle.std.proofs.Common.{◌∙◌, ap, ℕ, List}
-use Rattle.bc_script.specs.Serving.{line_in}
+use Rattle.bc_script.specs.Unserved.{line_in}
 use Rattle.bc_script.proofs.draft.Draft.end_line.Goals as goal
 
 pub returns-clause-text : goal.returns-clause-text

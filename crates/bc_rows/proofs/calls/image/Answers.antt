@@ -1,6 +1,6 @@
 use Rattle.std.proofs.Common.{ap, arith, length}
 use Rattle.bc_disk.specs.Memory.{Memory}
-use Rattle.bc_rows.proofs.serving.image.Goals as goal
+use Rattle.bc_rows.proofs.calls.image.Goals as goal
 
 pub write_backing-requires : goal.write_backing-requires
 write_backing-requires c =

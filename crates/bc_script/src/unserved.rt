@@ -2,7 +2,7 @@
 //! read, so that it is never answered `done` for what wasn't done.
 ghost use Rattle.std.specs.Prelude.{◌≡◌, ℕ, IfOk};
 ghost use Rattle.bc_script.specs.Proper.{IsProperForm, IsLine};
-ghost use Rattle.bc_script.specs.Serving.{if_served, is_of_other_worker};
+ghost use Rattle.bc_script.specs.Unserved.{if_served, is_of_other_worker};
 ghost use Rattle.bc_script.specs.Trace.{line_of};
 ghost use Rattle.bc_script.specs.declared.form.Form.{Form};
 
