@@ -1,10 +1,10 @@
 //! The rows of the commands that make, show and check a pair.
 ghost use Rattle.std.specs.Prelude.{◌<◌, ◌≤◌};
 
+use crate::calls::{seal, test_calls, test_end};
 use crate::pair::{
     BACKING_SECTORS, CACHE_SECTORS, FORMAT, Pair, blank, formatted, made, run, test_run,
 };
-use crate::calls::{seal, test_calls, test_end};
 use bc_disk::crash::Pick;
 use bc_disk::mem_disk::MemDisk;
 use bc_disk::mem_sink::MemSink;

@@ -12,8 +12,8 @@ ghost use Rattle.bc_script.specs.declared.reason.Reason.{Reason};
 use crate::form::Form;
 use crate::line::{Action, Rounds};
 use crate::reason::Reason;
-use crate::unserved::if_served;
 use crate::simple::simple_request;
+use crate::unserved::if_served;
 
 // The most bytes of a line, its newline not counted.
 const MOST_BYTES: usize = 80;

@@ -26,7 +26,9 @@ pub fn in_state(s: &BackingSuper, state: BackingState) -> BackingSuper
     ensures { result ≡ super_in state s.now }
 {
     let mut changed = *s;
-    changed.flags = s.flags % STATE + STATE * number_of(state) + BEHIND_STATE * (s.flags / BEHIND_STATE);
+    changed.flags = s.flags % STATE
+        + STATE * number_of(state)
+        + BEHIND_STATE * (s.flags / BEHIND_STATE);
     changed
 }
 
