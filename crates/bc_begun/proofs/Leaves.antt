@@ -9,6 +9,7 @@ use Rattle.bc_chosen.specs.Waiting.{all_waiting, waiting, waiting_at}
 use Rattle.bc_chosen.proofs.Parts.{law_chosen, law_stands}
 use Rattle.bc_disk.specs.Disk.{DiskFacts, IfTold}
 use Rattle.bc_disk.specs.declared.geometry.Geometry.{Geometry}
+use Rattle.bc_facts.specs.Layout.{IsLayoutOf}
 use Rattle.bc_facts.specs.Seen.{bucket_of, seen_sets}
 use Rattle.bc_facts.proofs.Place.{by_lt}
 use Rattle.bc_image.specs.Pair.{Pair}
@@ -306,6 +307,8 @@ module _ (p : Pair) (v : View) (layout : Layout) (x : Parts) (w : Opening) (st :
         → IsLeafPart g x.tree.leaves x.pending count d part cache
         → AreLeavesOf w st count part cache
     leaves_of count part cache is = record {
+      layout = subst (λ (a : Geometry). IsLayoutOf a w.layout) (sym is.geometry)
+          (subst (IsLayoutOf v.geometry) (sym h.opening.layout_is) h.divided);
       rest = λ i c there. in_its_part x.pending count part c.number
           (no_other d g x.tree.leaves x.pending count part i c cache is there).0;
       leaves = λ i c there.

@@ -140,7 +140,7 @@ module _ {C B : Type 0} (cache_facts : C → DiskFacts) (backing_facts : B → D
           opened = s.2;
           seq = refl;
           origin = at;
-          seen = inr (o s.0 s.1 h s.3, record { is = refl; origin = at; course = tt });
+          seen = λ untorn. record { is = refl; origin = at; course = untorn };
         },
       )
 

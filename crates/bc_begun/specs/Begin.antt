@@ -8,7 +8,7 @@ use Rattle.bc_flight.specs.Flight.{InFlight}
 use Rattle.bc_image.specs.Pair.{Pair}
 use Rattle.bc_image.specs.Reading.{View}
 use Rattle.bc_journal.specs.Journal.{Journal}
-use Rattle.bc_machine.specs.World.{IsOrigin, IsView, Origin, World, seen_from}
+use Rattle.bc_machine.specs.World.{IsOrigin, IsSeenFrom, IsUntorn, Origin, World, replay, seen_from}
 use Rattle.bc_machine.specs.declared.part.BackingPart.{BackingPart}
 use Rattle.bc_machine.specs.declared.part.BucketsPart.{BucketsPart}
 use Rattle.bc_machine.specs.declared.part.CorePart.{CorePart}
@@ -68,4 +68,4 @@ pub record IsSeenAs (p : Pair) (v : View) (layout : Layout) (x : Parts) (next_se
   pub opened : IsOpeningOf p v layout (choices_of v.geometry v.reading x) o.opening.machine o.parts
   pub seq : o.next_seq ≡ next_seq
   pub origin : IsOrigin y o
-  pub seen : IsView y (seen_from o y)
+  pub seen : IsUntorn o (replay o []) → IsSeenFrom o y (seen_from o y)

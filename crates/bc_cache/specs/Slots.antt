@@ -27,10 +27,12 @@ pub record IsSlotOf (slots : List (Option Cached)) (number slot : ℕ) : Type 0 
   pub has : HasLeaf slots slot number
   pub only : (other : ℕ) → HasLeaf slots other number → other ≡ slot
 
--- Another leaf may come into the slot: it is empty, or nobody holds its leaf, of which nothing is pending.
+-- Another leaf may come into the slot: it is empty, or nobody holds its leaf, of which nothing is
+-- pending, and no entry of the journal holds a key that is in no set.
 abbrev pub CanGo : Option Cached → Type 0
 CanGo None = Unit {0}
 CanGo (Some cached) = (cached.held ≡ false) × (cached.leaf.pending ≡ [])
+    × (cached.leaf.entries ≡ None)
 
 -- no slot is such
 abbrev pub NoneCanGo : List (Option Cached) → Type 0

@@ -52,7 +52,8 @@ fn free_since(slot: &Option<Cached>) -> Option<u64>
     match slot {
         None => Some(0),
         Some(cached) => {
-            if cached.held || !cached.leaf.pending().is_empty() {
+            let leaf = &cached.leaf;
+            if cached.held || !leaf.pending().is_empty() || leaf.entries().is_some() {
                 return None;
             }
             Some(cached.used)

@@ -91,7 +91,7 @@ module _ {C B : Type 0} (cache_facts : C → DiskFacts) (backing_facts : B → D
     leaves_from i n (c ∷ cs) is on = (
       (
         omega (arith, is),
-        λ o origin. subst
+        λ o origin course. subst
             (λ j. AreLeavesOf o.opening.machine o.parts run.begun.leaf_parts j c)
             (omega (arith, is)) (on o origin).0,
       ),
@@ -151,13 +151,13 @@ module _ {C B : Type 0} (cache_facts : C → DiskFacts) (backing_facts : B → D
         → k.backing.offset + k.backing.size ≤ (backing_facts k.backing.disk).sectors
         → StandFrom (core cache_facts backing_facts) run 0 (parts_of tree k)
     begins seats claims settled_cache settled_backing inside = (
-      (refl, λ o is. is.begun.spine),
+      (refl, λ o is course. is.begun.spine),
       (
         (refl, flight seats claims),
         (
-          (refl, λ o is. is.begun.buckets),
+          (refl, λ o is course. is.begun.buckets),
           (
-            (refl, λ o is. is.begun.journal),
+            (refl, λ o is course. is.begun.journal),
             (
               (refl, cache settled_cache),
               (

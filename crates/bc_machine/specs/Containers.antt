@@ -87,10 +87,11 @@ pub record IsLeafFor (w : Opening) (x : LeafShare) (leaf : Leaf) : Type 0 where
   pub pending : (s : ℕ) → last_said leaf.pending s ≡ last_said (keys_of x.leaf.pending) s
   pub entries : AreEntriesOf leaf.entries x.leaf.pending
 
--- Of so many parts, the one of this number has the leaves whose numbers leave it as a rest. A leaf
--- of its that is in no slot of the cache has nothing pending.
+-- Of so many parts, the one of this number has the leaves whose numbers leave it as a rest, and reads
+-- them as they lie. A leaf of its that is in no slot of the cache has nothing pending.
 pub record AreLeavesOf (w : Opening) (st : parts.State) (count part : ℕ) (cache : NodeCache) :
     Type 0 where
+  pub layout : IsLayoutOf cache.geometry w.layout
   pub rest : (i : ℕ) (c : Cached) → slice_get cache.slots i ≡ Some (Some c) → c.number % count ≡ part
   pub leaves : (i : ℕ) (c : Cached) → slice_get cache.slots i ≡ Some (Some c)
       → IsLeafFor w (leaf_share st c.number) c.leaf

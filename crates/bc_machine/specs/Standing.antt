@@ -119,7 +119,7 @@ view_before x e y (inr (o, seen)) = (
     record {
       is = refl;
       origin = origin_before x e o seen.origin;
-      course = seen.course.1;
+      course = seen.course.1.1;
     },
   ),
   seen.is,
@@ -135,19 +135,6 @@ leads_each x e P Q leads h = λ y view. let one = view_before x e y view in
 pub in_each : (x : World) (e : Event) (P : World → Type 0)
     → ((y : World) → IsView x y → P y → P (after y e)) → InEach x P → InEach (after x e) P
 in_each x e P keeps h = leads_each x e P P keeps h
-
--- from each of them the run so far is a run of the core
-abbrev pub HasCourses : World → Type 0
-HasCourses x = (o : Origin) → IsOrigin x o → IsCourseOf o x.log
-
-course_event : (x : World) (e : Event) → IsEnabled x e → HasCourses x → HasCourses (after x e)
-course_event x e on h = λ o is. let before = origin_before x e o is in
-    (on.follows o before (h o before), h o before)
-
-pub courses : (x : World) (es : List Event) → HasCourses x → IsCourse IsEnabled after x es
-    → HasCourses (fold after x es)
-courses x [] h run = h
-courses x (e ∷ es) h run = courses (after x e) es (course_event x e run.0 h) run.1
 
 pub begun_stays : (x : World) (es : List Event) → (fold after x es).begun ≡ x.begun
 begun_stays x [] = refl
@@ -179,7 +166,7 @@ pub replay_runs : (o : Origin) (es : List Event) → IsCourseOf o es
     → core.IsRun o.opening (core.start o.opening o.parts o.next_seq) (oldest_first es)
 replay_runs o [] on = tt
 replay_runs o (e ∷ es) on = runs_behind o.opening (core.start o.opening o.parts o.next_seq)
-    (oldest_first es) (e ∷ []) (replay_runs o es on.1)
+    (oldest_first es) (e ∷ []) (replay_runs o es on.1.1)
     (subst (λ st. core.IsEnabled o.opening st e) (replay_is o es) on.0.enabled, tt)
 
 happens : (x : World) (o : Origin) (e : Event) → IsOrigin x o → IsCourseOf o x.log
@@ -194,12 +181,12 @@ happens x o e is course on = record {
 -- ---- parts in memory
 
 -- what holds of the parts in memory, from each opening, holds behind an event that keeps it there
-from_each : (x : World) (e : Event) (P : Origin → core.State → Type 0) → IsEnabled x e → HasCourses x
+from_each : (x : World) (e : Event) (P : Origin → core.State → Type 0)
     → ((o : Origin) → IsOrigin x o → IsCourseOf o x.log → CanFollow (seen_from o x) e
     → P o (replay o x.log) → P o (core.after o.opening (replay o x.log) e))
     → FromEach x P → FromEach (after x e) P
-from_each x e P on courses keeps h = λ o is. let before = origin_before x e o is in
-    keeps o before (courses o before) (on.follows o before (courses o before)) (h o before)
+from_each x e P keeps h = λ o is course. let before = origin_before x e o is in
+    keeps o before course.1.1 course.0 (h o before course.1.1)
 
 same_spine : (w : whole.Opening) (a b : known.State) (sp : Spine) → SameSpine a b
     → IsSpineOf w a.whole.parts sp → IsSpineOf w b.whole.parts sp
@@ -213,10 +200,10 @@ same_spine w a b sp same h = record {
   end = same.end ∙ h.end;
 }
 
-spine_stays : (sp : Spine) (x : World) (e : Event) → IsEnabled x e → HasCourses x
+spine_stays : (sp : Spine) (x : World) (e : Event)
     → touches_spine e.deed ≡ false → IsSpine sp x → IsSpine sp (after x e)
-spine_stays sp x e on courses off = from_each x e
-    (λ o st. IsSpineOf o.opening.machine st.machine.whole.parts sp) on courses
+spine_stays sp x e off = from_each x e
+    (λ o st. IsSpineOf o.opening.machine st.machine.whole.parts sp)
     (λ o is course follows h. same_spine o.opening.machine (replay o x.log).machine
     (core.after o.opening (replay o x.log) e).machine sp
     (subst (λ (st : core.State). SameSpine st.machine (core.after o.opening st e).machine)
@@ -224,17 +211,17 @@ spine_stays sp x e on courses off = from_each x e
     (law_spine o.opening o.parts o.next_seq (oldest_first x.log) e
     (happens x o e is course follows.enabled) off)) h)
 
-journal_stays : (j : Journal) (x : World) (e : Event) → IsEnabled x e → HasCourses x
+journal_stays : (j : Journal) (x : World) (e : Event)
     → touches_journal e.deed ≡ false → IsJournal j x → IsJournal j (after x e)
-journal_stays j x e on courses off = from_each x e
-    (λ o st. IsJournalOf o.opening.machine (journal_share st.machine) j) on courses
+journal_stays j x e off = from_each x e
+    (λ o st. IsJournalOf o.opening.machine (journal_share st.machine) j)
     (λ o is course follows h. subst (λ (s : JournalShare). IsJournalOf o.opening.machine s j)
     (sym (law_journal o.opening (replay o x.log) e follows.enabled off)) h)
 
-buckets_stay : (p : BucketsPart) (x : World) (e : Event) → IsEnabled x e → HasCourses x
+buckets_stay : (p : BucketsPart) (x : World) (e : Event)
     → touches_buckets e.deed ≡ false → AreBuckets p x → AreBuckets p (after x e)
-buckets_stay p x e on courses off = from_each x e
-    (λ o st. AreBucketsOf o.opening.machine (books_of st.machine) p) on courses
+buckets_stay p x e off = from_each x e
+    (λ o st. AreBucketsOf o.opening.machine (books_of st.machine) p)
     (λ o is course follows h. record {
       cut = h.cut;
       data_from = h.data_from;
@@ -316,12 +303,13 @@ leaf_same x o e k is course follows off some = subst (λ (st : core.State). Name
     (λ names there. law_leaf o.opening o.parts o.next_seq (oldest_first x.log) e
     (happens x o e is course follows.enabled) k off names there) follows.names some
 
-leaves_stay : (part : ℕ) (c : NodeCache) (x : World) (e : Event) → IsEnabled x e → HasCourses x
+leaves_stay : (part : ℕ) (c : NodeCache) (x : World) (e : Event)
     → touches_leaves x.begun.leaf_parts part e.deed ≡ false → AreLeaves part c x
     → AreLeaves part c (after x e)
-leaves_stay part c x e on courses off = from_each x e
-    (λ o st. AreLeavesOf o.opening.machine st.machine.whole.parts x.begun.leaf_parts part c) on courses
+leaves_stay part c x e off = from_each x e
+    (λ o st. AreLeavesOf o.opening.machine st.machine.whole.parts x.begun.leaf_parts part c)
     (λ o is course follows h. record {
+      layout = h.layout;
       rest = h.rest;
       leaves = λ i cached at. let one = h.leaves i cached at in
           subst (λ (s : LeafShare). IsLeafFor o.opening.machine s cached.leaf)
@@ -392,32 +380,32 @@ module _ {C B : Type 0} (cache_facts : C → DiskFacts) (backing_facts : B → D
         (sym (called_none Backing (call_by e.deed) x.backing off)) h.inside;
   }
 
-  part_stays : (n k : ℕ) (p : CorePart C B) (x : World) (e : Event) → IsEnabled x e → HasCourses x
+  part_stays : (n k : ℕ) (p : CorePart C B) (x : World) (e : Event)
       → x.begun.leaf_parts ≡ n - 6 → changes n e k ≡ false
       → StandsAs cache_facts backing_facts k p x → StandsAs cache_facts backing_facts k p (after x e)
-  part_stays n k part.Absent x e on courses count off h = record {
+  part_stays n k part.Absent x e count off h = record {
     not_flight = h.not_flight;
     not_backing = h.not_backing;
     plain = h.plain;
   }
-  part_stays n k (part.Spine sp) x e on courses count off h =
-      (h.0, spine_stays sp x e on courses (number_off n k 0 e h.0 off) h.1)
-  part_stays n k (part.Flight f) x e on courses count off h =
+  part_stays n k (part.Spine sp) x e count off h =
+      (h.0, spine_stays sp x e (number_off n k 0 e h.0 off) h.1)
+  part_stays n k (part.Flight f) x e count off h =
       (h.0, in_each x e (IsFlightOf f) (λ y view on. flight_stays f y e (number_off n k 1 e h.0 off) on) h.1)
-  part_stays n k (part.Buckets p) x e on courses count off h =
-      (h.0, buckets_stay p x e on courses (number_off n k 2 e h.0 off) h.1)
-  part_stays n k (part.Journal j) x e on courses count off h =
-      (h.0, journal_stays j x e on courses (number_off n k 3 e h.0 off) h.1)
-  part_stays n k (part.Cache c) x e on courses count off h =
+  part_stays n k (part.Buckets p) x e count off h =
+      (h.0, buckets_stay p x e (number_off n k 2 e h.0 off) h.1)
+  part_stays n k (part.Journal j) x e count off h =
+      (h.0, journal_stays j x e (number_off n k 3 e h.0 off) h.1)
+  part_stays n k (part.Cache c) x e count off h =
       (h.0, cache_stays c x e (number_off n k 4 e h.0 off) h.1)
-  part_stays n k (part.Backing b) x e on courses count off h = (
+  part_stays n k (part.Backing b) x e count off h = (
     h.0,
     in_each x e (IsBackingOf cache_facts backing_facts b)
         (λ y view on. backing_stays b y e (number_off n k 5 e h.0 off) on) h.1,
   )
-  part_stays n k (part.Leaves c) x e on courses count off h = (
+  part_stays n k (part.Leaves c) x e count off h = (
     h.0,
-    leaves_stay (k - 6) c x e on courses
+    leaves_stay (k - 6) c x e
         (subst (λ m. touches_leaves m (k - 6) e.deed ≡ false) (sym count) (leaves_off n k e h.0 off)) h.1,
   )
 
@@ -429,5 +417,5 @@ module _ {C B : Type 0} (cache_facts : C → DiskFacts) (backing_facts : B → D
       → StandsAs cache_facts backing_facts k p
       (after (fold after (opening cache_facts backing_facts start) es) e)
   frames start es k p e run on off h = let x = opening cache_facts backing_facts start in
-      part_stays (length start) k p (fold after x es) e on
-      (courses x es (λ o is. tt) run) (ap (λ (b : Begun). b.leaf_parts) (begun_stays x es)) off h
+      part_stays (length start) k p (fold after x es) e
+      (ap (λ (b : Begun). b.leaf_parts) (begun_stays x es)) off h

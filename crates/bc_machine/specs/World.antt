@@ -12,6 +12,9 @@ use Rattle.bc_disk.specs.Device.{Content, DeviceModel, next_count, quiet, writte
 use Rattle.bc_disk.specs.Disk.{DiskFacts, StandsFor}
 use Rattle.bc_disk.specs.declared.disk.Device.{Device}
 use Rattle.bc_disk.specs.declared.disk.Device.TheVariants.{Cache, Backing}
+use Rattle.bc_disk.specs.declared.geometry.Geometry.{Geometry}
+use Rattle.bc_facts.specs.Layout.{IsLayoutOf}
+use Rattle.bc_facts.specs.Torn.{NoTornRecord}
 use Rattle.bc_flight.specs.Flight.{InFlight, claim_of, claim_at}
 use Rattle.bc_flight.specs.declared.claim.Claim.{Claim}
 use Rattle.bc_flight.specs.declared.claim.Share.{Share}
@@ -166,10 +169,17 @@ pub record Follows (w : Opening) (st : State) (e : Event) : Type 0 where
   pub enabled : core.IsEnabled w st e
   pub names : NamesItsChange st.machine.whole.parts e.deed
 
--- each of them follows behind those before it
+-- The premise on torn records, of one state: whatever the cache device may leave, no record that is
+-- read there as a whole one is so by chance.
+abbrev pub IsUntorn : Origin → State → Type 0
+IsUntorn o st = (g : Geometry) → IsLayoutOf g o.opening.machine.layout
+    → NoTornRecord g o.opening.machine.store.image st.machine.whole.store.places
+
+-- Each of them follows behind those before it, and no torn record matched by chance on the way.
 abbrev pub IsCourseOf : Origin → List Event → Type 0
-IsCourseOf o [] = Unit {0}
-IsCourseOf o (e ∷ es) = Follows o.opening (replay o es) e × IsCourseOf o es
+IsCourseOf o [] = IsUntorn o (replay o [])
+IsCourseOf o (e ∷ es) =
+    Follows o.opening (replay o es) e × IsUntorn o (replay o (e ∷ es)) × IsCourseOf o es
 
 -- the state of a run as it is from that opening
 abbrev pub seen_from : Origin → World → World
@@ -363,9 +373,9 @@ IsFlight f x = InEach x (IsFlightOf f)
 -- ---- parts in memory
 
 -- A part in memory stands for its share of the core's state, whatever sound opening the run goes on
--- from.
+-- from, as long as no torn record matched by chance.
 abbrev pub FromEach : World → (Origin → State → Type 0) → Type 0
-FromEach x P = (o : Origin) → IsOrigin x o → P o (replay o x.log)
+FromEach x P = (o : Origin) → IsOrigin x o → IsCourseOf o x.log → P o (replay o x.log)
 
 abbrev pub IsSpine : Spine → World → Type 0
 IsSpine sp x = FromEach x (λ o st. IsSpineOf o.opening.machine st.machine.whole.parts sp)

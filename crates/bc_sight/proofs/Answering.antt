@@ -63,7 +63,8 @@ generation_of o r ref is same = ap generation_in (ap ref_of (sym is) ∙ same)
     generation_in (Some x) = x.generation
 
 -- the pointer is of the bucket's present use
-module _ (x : World) (o : Origin) (is : IsOrigin x o) (now : BucketsPart) (there : AreBuckets now x)
+module _ (x : World) (o : Origin) (is : IsOrigin x o) (course : IsCourseOf o x.log)
+    (now : BucketsPart) (there : AreBuckets now x)
     (leaf : Leaf) (before : Buckets) (read : ℕ → Option Value) (c : Claim)
     (knows : Knows o leaf before read c) (s : ℕ) (covers : Covers c s)
     (live : IsStillLive leaf before now.buckets s) where
@@ -92,7 +93,7 @@ module _ (x : World) (o : Origin) (is : IsOrigin x o) (now : BucketsPart) (there
 
   in_now : o.opening.machine.before + q < length now.buckets.records
   in_now = let e = behind_before in let k = live.known in
-      let a = knows.uses.cut.buckets in let b = (there o is).cut.buckets in omega arith
+      let a = knows.uses.cut.buckets in let b = (there o is course).cut.buckets in omega arith
 
   version_is : pointer.0.version ≡ o.opening.machine.flow.books.version q
       + (bucket_of before (o.opening.machine.before + q)).uses
@@ -103,7 +104,7 @@ module _ (x : World) (o : Origin) (is : IsOrigin x o) (now : BucketsPart) (there
   pub present : (replay o x.log).machine.whole.flow.books.generations.version
       (o.opening.machine.flow.books.bucket pointer.0.place) ≡ pointer.0.version
   present = ap (λ k. (replay o x.log).machine.whole.flow.books.generations.version k) in_bucket
-      ∙ ((there o is).records q in_now).uses
+      ∙ ((there o is course).records q in_now).uses
       ∙ ap (λ n. o.opening.machine.flow.books.version q + n)
       (ap (λ k. (bucket_of now.buckets k).uses) behind_before ∙ live.still
       ∙ ap (λ k. (bucket_of before k).uses) (sym behind_before))
@@ -150,9 +151,9 @@ module _ {C B : Type 0} (cache_facts : C → DiskFacts) (backing_facts : B → D
     known_value x o is course since there same s value covers (inr (from, live)) =
         let k = claim_since cache_facts backing_facts v x works.seat (λ o c. Knows o leaf before read c) since knows o is course in
         inr (
-          (pointer x o is now there leaf before read (claim_from o x.log v.first) k s covers live).0,
-          (pointer x o is now there leaf before read (claim_from o x.log v.first) k s covers live).1,
-          present x o is now there leaf before read (claim_from o x.log v.first) k s covers live,
+          (pointer x o is course now there leaf before read (claim_from o x.log v.first) k s covers live).0,
+          (pointer x o is course now there leaf before read (claim_from o x.log v.first) k s covers live).1,
+          present x o is course now there leaf before read (claim_from o x.log v.first) k s covers live,
           k.read_is s ∙ from,
         )
 

@@ -69,7 +69,7 @@ slot_of : (part : ℕ) (c : NodeCache) (x : World) (o : Origin) → AreLeaves pa
     → (s : ℕ) → cached.leaf.from ≤ s → s < cached.leaf.end
     → (books_of (replay o x.log).machine).index.leaf s ≡ cached.number
 slot_of part c x o on is course slot cached at s low high =
-    let leaf = (on o is).leaves slot cached at in
+    let leaf = (on o is course).leaves slot cached at in
     let first = leaf.at.first in
     let end = leaf.at.end_is in
     law_slots x o is course cached.number s leaf.at.role (omega arith, omega arith)
@@ -80,7 +80,7 @@ sight_of : (part : ℕ) (c : NodeCache) (x : World) (o : Origin) → AreLeaves p
     → (s : ℕ) → cached.leaf.from ≤ s → s < cached.leaf.end
     → ref_of (latest (books_of (replay o x.log).machine).index s) ≡ said_in cached.leaf s
 sight_of part c x o on is course slot cached at s low high =
-    let leaf = (on o is).leaves slot cached at in
+    let leaf = (on o is course).leaves slot cached at in
     let first = leaf.at.first in
     let end = leaf.at.end_is in
     sym (law_keys x o is course cached.number s leaf.at.role (omega arith, omega arith))
@@ -99,7 +99,7 @@ uses_of : (p : BucketsPart) (x : World) (o : Origin) → AreBuckets p x → IsOr
     → r.version ≡ o.opening.machine.flow.books.version q
     + (bucket_of p.buckets (o.opening.machine.before + q)).uses
 uses_of p x o on is course s q r at bucket within same =
-    let b = (on o is).records q within in
+    let b = (on o is course).records q within in
     let near = subst (λ n. IsNear ((books_of (replay o x.log).machine).generations.version n) r.version)
     bucket (law_ages x o is course s r at) in
     one_version ((books_of (replay o x.log).machine).generations.version q) r.version near
