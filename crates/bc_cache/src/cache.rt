@@ -100,7 +100,7 @@ impl NodeCache {
     }
 
     /// Notes that a slot was used.
-    fn touch(&mut self, slot: u32)
+    pub fn touch(&mut self, slot: u32)
         requires { IsOccupied self.old.slots slot }
         ensures { IsUsed slot self.old self.new }
     {

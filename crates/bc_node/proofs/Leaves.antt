@@ -21,8 +21,8 @@ use Rattle.bc_set.specs.declared.set.SetKind.TheVariants.{Extents}
 use Rattle.bc_node.specs.declared.error.NodeError.{NodeError}
 use Rattle.bc_node.specs.declared.error.NodeError.TheVariants.{Ranges, Memory}
 use Rattle.bc_node.specs.Leaf.{Leaf, AreLast, AreLastOfAll, ArePut, AreAdded, AreWithin, AreProperKeys, KeepsKeys, LieWithin, IsLeafOf, IsFull, pending_set}
-use Rattle.bc_node.specs.Loading.{AreHeldSets, AreLeafSets, IsHeldLeaf, IsNotLoaded, good}
-use Rattle.bc_node.specs.Sets.{AreSetsFrom, HaveNumber}
+use Rattle.bc_node.specs.Loading.{AreHeldSets, AreLeafSets, IsDecoded, IsHeldLeaf, IsNotDecoded, IsNotLoaded, good}
+use Rattle.bc_node.specs.Sets.{AreSetsFrom, AreSetsOf, HaveNumber}
 
 pub number_here : (sets : List Set) (d : Set) → HaveNumber sets (get_or sets 0 d).seq
 number_here [] d = tt
@@ -145,3 +145,33 @@ module _ (from end : ℕ) where
 
   pub keeps_sent : (keys pending none : List Key) → KeepsKeys from end keys pending → none ≡ [] → KeepsKeys from end keys none
   keeps_sent keys pending none so is = keeps_list so.list keys none so.within so.last is
+
+-- ---- a leaf of bytes
+
+key_points : (key : Key) → 0 < key.count → pointer_of key ≡ Some (ptr_at key 0)
+key_points key count = let test : nat_lt 0 key.count ≡ true = lt-ltb 0 key.count count in rw test refl
+
+pub decoded : (g : Geometry) (key : Key) (from : ℕ) (bytes : List ℕ) (sets : List Set)
+    (r : Result Leaf NodeError) → 0 < key.count → sets ≢ []
+    → AreSetsOf g (ptr_word (ptr_at key 0)) Extents bytes sets → IfOk r (IsLeafOf g key from sets)
+    → IfOk r (IsDecoded g key from bytes)
+decoded g key from bytes sets (Err e) count some are is = tt
+decoded g key from bytes sets (Ok leaf) count some are is = record {
+  sets = sets;
+  stand = λ image has. record {
+    ptr = ptr_at key 0;
+    points = key_points key count;
+    stand = are image (ptr_at key 0).offset has;
+    some = some;
+  };
+  leaf_of = is;
+}
+
+pub undecoded : (g : Geometry) (key : Key) (from : ℕ) (bytes : List ℕ) (sets : List Set)
+    (r : Result Leaf NodeError) → AreSetsOf g (ptr_word (ptr_at key 0)) Extents bytes sets
+    → IfErr r (λ e. (e ≡ Memory) ⊎ ((e ≡ Ranges) × ¬ (LieWithin key from sets)))
+    → IfErr r (IsNotDecoded g key from bytes)
+undecoded g key from bytes sets (Ok leaf) are is = tt
+undecoded g key from bytes sets (Err e) are (inl is) = subst (IsNotDecoded g key from bytes) (sym is) tt
+undecoded g key from bytes sets (Err e) are (inr p) =
+    subst (IsNotDecoded g key from bytes) (sym p.0) (sets, are, p.1)

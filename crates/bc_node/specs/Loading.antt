@@ -7,14 +7,15 @@ use Rattle.bc_image.specs.Tree.{AreSetsAt}
 use Rattle.bc_key.specs.Key.{ptr_at}
 use Rattle.bc_key.specs.Words.{ptr_word}
 use Rattle.bc_key.specs.declared.key.Key.{Key}
-use Rattle.bc_record.specs.Sectors.{bytes_in}
+use Rattle.bc_model.specs.Sector.{Image, values_of}
+use Rattle.bc_record.specs.Sectors.{Has, bytes_in}
 use Rattle.bc_set.specs.declared.set.Set.{Set}
 use Rattle.bc_set.specs.declared.set.SetKind.{SetKind}
 use Rattle.bc_set.specs.declared.set.SetKind.TheVariants.{Extents}
 use Rattle.bc_set.specs.SetBytes.{IsRefused}
 use Rattle.bc_node.specs.declared.error.NodeError.{NodeError}
 use Rattle.bc_node.specs.declared.error.NodeError.TheVariants.{First, Ranges, Fault, Memory}
-use Rattle.bc_node.specs.Sets.{AreSetsFrom}
+use Rattle.bc_node.specs.Sets.{AreSetsFrom, AreSetsOf}
 use Rattle.bc_node.specs.Leaf.{Leaf, IsLeafOf, LieWithin}
 
 -- what a device, where it tells what it holds, has as the sets of the node that begins at a sector
@@ -48,3 +49,23 @@ IsHeldLeaf g key from facts leaf = (sets : List Set) × AreLeafSets g key facts 
 abbrev pub IsNotLoaded : Geometry → Key → ℕ → DiskFacts → DiskFacts → NodeError → Type 0
 IsNotLoaded g key from old new Ranges = ((sets : List Set) × AreLeafSets g key old sets × ¬ (LieWithin key from sets)) × IsCounted good old new
 IsNotLoaded g key from old new e = IsUnread g (ptr_word (ptr_at key 0)) Extents (ptr_at key 0).offset old new e
+
+-- ---- by its bytes
+
+-- These are the bytes of the leaf that a key points to, of a range that begins at a sector: wherever
+-- an image has them there, its sets are those of the leaf.
+pub record IsDecoded (g : Geometry) (key : Key) (from : ℕ) (bytes : List ℕ) (leaf : Leaf) :
+    Type 0 where
+  pub sets : List Set
+  pub stand : (image : Image) → Has image (ptr_at key 0).offset (values_of bytes)
+      → AreSetsAt g image 0 key sets
+  pub leaf_of : IsLeafOf g key from sets leaf
+
+-- why bytes aren't those of such a leaf
+abbrev pub IsNotDecoded : Geometry → Key → ℕ → List ℕ → NodeError → Type 0
+IsNotDecoded g key from bytes (First cause) =
+    IsRefused (ptr_word (ptr_at key 0)) g.set_magic Extents bytes cause
+IsNotDecoded g key from bytes Ranges = (sets : List Set)
+    × AreSetsOf g (ptr_word (ptr_at key 0)) Extents bytes sets × ¬ (LieWithin key from sets)
+IsNotDecoded g key from bytes Fault = ⊥
+IsNotDecoded g key from bytes Memory = Unit {0}

@@ -8,7 +8,7 @@ ghost use Rattle.bc_set.specs.declared.set.SetKind.{SetKind};
 ghost use Rattle.bc_set.specs.SetBytes.{bytes_of};
 ghost use Rattle.bc_node.specs.declared.error.NodeError.{NodeError};
 ghost use Rattle.bc_node.specs.Leaf.{ArePut, AreAdded, AreWithin, AreProperKeys, IsAppended, IsFull, IsLeafOf, IsNewLeaf, IsRewritten, IsSameNode, LieWithin, noted_for, pending_set, whole_set};
-ghost use Rattle.bc_node.specs.Loading.{IsHeldLeaf, IsNotLoaded, good};
+ghost use Rattle.bc_node.specs.Loading.{IsDecoded, IsHeldLeaf, IsNotDecoded, IsNotLoaded, good};
 ghost use Rattle.bc_node.specs.Sets.{AreProper, taken_by};
 ghost use Rattle.bc_node.specs.Writing.{HasSet, put_values, set_of};
 
@@ -17,7 +17,7 @@ use crate::keys::words_in;
 use crate::last::{lie_within, put_sets, put_within};
 use crate::load::{load_sets, word_of};
 use crate::pending::{Entries, add_all, noted_for};
-use crate::read::{in_blocks, sectors_of};
+use crate::read::{in_blocks, read_sets, sectors_of};
 use crate::write::write_map;
 use bc_disk::disk::{Disk, Failed};
 use bc_disk::geometry::Geometry;
@@ -120,6 +120,27 @@ impl Leaf {
     {
         let ptr = key.ptrs[0];
         let sets = load_sets(alloc, disk, g, ptr.offset, word_of(&ptr), SetKind::Extents)?;
+        leaf_of(alloc, g, key, from, sets.as_slice())
+    }
+
+    /// The leaf that a key points to by its first pointer, whose range begins at a sector, of the
+    /// bytes of the whole node.
+    ///
+    /// The refusal is `First` where the bytes don't begin with a set, `Ranges` where a key of any of
+    /// its sets lies outside its range, and `Memory`.
+    pub fn decode(
+        alloc: Global,
+        g: &Geometry,
+        key: &Key,
+        from: u64,
+        bytes: &[u8],
+    ) -> Result<Leaf, NodeError>
+        requires pointer { 0 < key.now.count }
+        requires whole { length bytes.now ≡ 512 * g.now.node_sectors }
+        ensures ok { IfOk result (IsDecoded g.now key.now from bytes.now) }
+        ensures refused { IfErr result (IsNotDecoded g.now key.now from bytes.now) }
+    {
+        let sets = read_sets(alloc, g, word_of(&key.ptrs[0]), SetKind::Extents, bytes)?;
         leaf_of(alloc, g, key, from, sets.as_slice())
     }
 

@@ -1,5 +1,5 @@
 //! The superblock of a cache device.
-ghost use Rattle.std.specs.Prelude.{◌≡◌, ◌↔◌, ◌+◌, ◌*◌, ◌^◌, ◌<◌, ◌≤◌, length, IsTrue, IfOk, IfErr, OnOk, OnErr, IsErrOf};
+ghost use Rattle.std.specs.Prelude.{◌≡◌, ◌↔◌, ◌+◌, ◌*◌, ◌/◌, ◌%◌, ◌^◌, ◌<◌, ◌≤◌, length, IsTrue, IfOk, IfErr, OnOk, OnErr, IsErrOf};
 ghost use Rattle.bc_disk.specs.Disk.{IsKept, IsCounted};
 ghost use Rattle.bc_super.specs.Super.{fields_in};
 ghost use Rattle.bc_super.specs.Cache.{IsUsableCache, IsCacheSuper, IsCacheRefused, FirstLayoutFault, IsFirstBucket, IsLayout, IsInitialised, HasJournal, HasSync, cache_of};
