@@ -1,6 +1,6 @@
 pub mod Reason
 pub mod Line
-pub mod Serving
+pub mod Unserved
 pub mod Proper
 pub mod Trace
 pub mod Draft

@@ -5,5 +5,5 @@ pub mod Answering
 pub mod Lines
 pub mod Failing
 pub mod Whole
-pub mod Ran
+pub mod Promised
 pub mod Counted
