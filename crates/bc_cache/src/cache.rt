@@ -69,6 +69,13 @@ impl NodeCache {
         })
     }
 
+    /// How the cache device is divided, whose leaves these are.
+    pub fn geometry(&self) -> &Geometry
+        ensures { result.now ≡ self.now.geometry }
+    {
+        &self.g
+    }
+
     /// How many slots there are.
     pub fn len(&self) -> u32
         ensures { result ≡ length self.now.slots }

@@ -4,7 +4,6 @@ use Rattle.bc_disk.specs.Device.{Among}
 use Rattle.bc_disk.specs.declared.geometry.Geometry.{Geometry}
 use Rattle.bc_events.specs.Run.{State}
 use Rattle.bc_facts.specs.Layout.{IsLayoutOf}
-use Rattle.bc_facts.specs.Torn.{NoTornRecord}
 use Rattle.bc_image.specs.Tree.{AreSetsAt}
 use Rattle.bc_key.specs.Key.{pointer_of, ptr_at}
 use Rattle.bc_key.specs.declared.key.Key.{Key}
@@ -20,11 +19,10 @@ use Rattle.bc_shares.specs.Shares.{leaf_share, node_share, shape_of}
 use Rattle.bc_whole.specs.State.{Opening}
 
 -- What reads of the cache device may give: of each sector one of the values that a read of it may
--- give. No torn record matched by chance.
+-- give.
 pub record MayBeRead (g : Geometry) (o : Origin) (st : State) (image : Image) : Type 0 where
   pub layout : IsLayoutOf g o.opening.machine.layout
   pub values : (s : ℕ) → Among (image s) (st.machine.whole.flow.cache.reads s)
-  pub no_torn : NoTornRecord g o.opening.machine.store.image st.machine.whole.store.places
 
 -- of each image that reads may give in a state of a run, as it is from an opening
 abbrev pub OfReads : (Geometry → Origin → State → Image → Type 0) → Type 0
