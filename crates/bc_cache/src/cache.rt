@@ -69,13 +69,6 @@ impl NodeCache {
         })
     }
 
-    /// How the cache device is divided, whose leaves these are.
-    pub fn geometry(&self) -> &Geometry
-        ensures { result.now ≡ self.now.geometry }
-    {
-        &self.g
-    }
-
     /// How many slots there are.
     pub fn len(&self) -> u32
         ensures { result ≡ length self.now.slots }
@@ -265,6 +258,17 @@ impl NodeCache {
         ensures { result.now ≡ self.now.geometry }
     {
         &self.g
+    }
+
+    /// The leaf in a slot.
+    pub fn leaf(&self, slot: u32) -> &Leaf
+        requires { IsOccupied self.now.slots slot }
+        ensures { IsLeafIn self.now.slots slot result.now }
+    {
+        match &self.slots[slot as usize] {
+            Some(cached) => &cached.leaf,
+            None => unreachable!(),
+        }
     }
 
     /// The leaf in a slot, to be changed.

@@ -28,7 +28,7 @@ use Rattle.bc_leaves.specs.Parts as parts
 use Rattle.bc_leaves.proofs.Said.{last_append, or_else}
 use Rattle.bc_machine.specs.Containers.{AreEntriesOf, IsInTree, IsLeafFor, IsTreeLeaf}
 use Rattle.bc_machine.specs.Standing.{oldest_first, replay_is, replay_runs}
-use Rattle.bc_machine.specs.World.{IsCourseOf, Origin, replay}
+use Rattle.bc_machine.specs.World.{IsCourseOf, IsUntorn, Origin, replay}
 use Rattle.bc_events.specs.declared.event.Event.{Event}
 use Rattle.bc_meta.specs.Facts.{In}
 use Rattle.bc_meta.specs.Layout.{Layout, is_within, node_end, sets_from, sets_in}
@@ -124,12 +124,18 @@ module _ (w : Opening) (x : parts.State) (sound : IsSound w x) (st : whole.State
     sets q known = written (st.parts.records.nodes q)
         (sets_in w.layout image (st.parts.records.nodes q).owner q) known (held q)
 
+-- no torn record matched by chance in the state to which a course leads
+untorn_now : (o : Origin) (es : List Event) → IsCourseOf o es → IsUntorn o (replay o es)
+untorn_now o [] course = course
+untorn_now o (e ∷ es) course = course.1.0
+
 pub law_sets : LawSets
 law_sets x o is course g image given q known =
     let st = (replay o x.log).machine.whole in
     let w = o.opening.machine in
     sets w o.parts is.sound st (inv_course o is.sound x.log course) g given.layout
-    (no_chance g w.layout given.layout w.store.image st.store.places given.no_torn) image given.values
+    (no_chance g w.layout given.layout w.store.image st.store.places
+    (untorn_now o x.log course g given.layout)) image given.values
     q known
 
 -- ---- leaves
