@@ -177,7 +177,7 @@ some_read n ss some (inr (lost, of, is)) e = cons (sym is ∙ e)
     cons : lost ∷ written_sets n.sent n.last n.sets ≡ [] → ⊥
     cons e = cc
 
-ptr_is : (key : Key) (ptr : Ptr) → pointer_of key ≡ Some ptr → ptr_at key 0 ≡ ptr
+pub ptr_is : (key : Key) (ptr : Ptr) → pointer_of key ≡ Some ptr → ptr_at key 0 ≡ ptr
 ptr_is key ptr = by_lt 0 key.count
     (λ b. (if b then Some (ptr_at key 0) else None) ≡ Some ptr → ptr_at key 0 ≡ ptr)
     (λ _ e. some_same (ptr_at key 0) ptr e) (λ _ e. absurd (cc))
