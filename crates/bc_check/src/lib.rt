@@ -23,7 +23,7 @@ mod window;
 
 pub use lines::{BucketLine, list_buckets};
 pub use pair::{Report, check_pair, examine};
-pub use text::{Report, report_text, tell_pair};
+pub use text::{ReportText, report_text, tell_pair};
 pub use totals::{Totals, count_sectors};
 pub use verdict::{CheckError, Verdict};
 pub use window::first_aged;

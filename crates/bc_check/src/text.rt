@@ -128,7 +128,7 @@ pub fn report_text(alloc: Global, report: &Report) -> Result<String, AllocError>
 
 /// What is said of a pair, and the text that says it.
 #[derive(Drop)]
-pub struct Report {
+pub struct ReportText {
     /// Whether it is sound.
     pub verdict: Verdict,
     /// The lines of the report.
@@ -142,7 +142,7 @@ pub fn tell_pair<C: Disk, B: Disk>(
     cache: &mut C,
     backing: &mut B,
     list: bool,
-) -> Result<Report, CheckError>
+) -> Result<ReportText, CheckError>
     ensures found { IfOk result (λ r. OfHeld (λ p. Reports list p r.verdict (string_bytes r.text))
         (C.facts cache.old) (B.facts backing.old)) }
     ensures refused { IfErr result (IsCheckCause (C.facts cache.old) (B.facts backing.old)) }
@@ -159,7 +159,7 @@ pub fn tell_pair<C: Disk, B: Disk>(
 {
     let report = examine(alloc, cache, backing, list)?;
     let text = report_text(alloc, &report)?;
-    Ok(Report {
+    Ok(ReportText {
         verdict: report.verdict,
         text,
     })

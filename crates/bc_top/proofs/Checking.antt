@@ -7,7 +7,7 @@ use Rattle.bc_disk.specs.Stream.{StreamFacts}
 use Rattle.bc_disk.specs.declared.disk.Device.TheVariants as device
 use Rattle.bc_check.specs.Calls.{BothKept, CountsFault}
 use Rattle.bc_check.specs.Verdict.{IsCheckCause, IsReason}
-use Rattle.bc_check.specs.declared.text.Report.{Report}
+use Rattle.bc_check.specs.declared.text.ReportText.{ReportText}
 use Rattle.bc_check.specs.declared.verdict.CheckError.{CheckError}
 use Rattle.bc_check.specs.declared.verdict.CheckError.TheVariants as checks
 use Rattle.bc_check.specs.declared.verdict.Verdict.{Verdict}
@@ -52,7 +52,7 @@ by_reason (errors.Fault d) status reason is = absurd reason
 by_reason errors.Memory status reason is = absurd reason
 by_reason why status reason is = unsound is
 
-module _ (cache cache' backing backing' : DiskFacts) (answer : Result Report CheckError) (status : Status) (old new : StreamFacts) (cause : IfErr answer (IsCheckCause cache backing))
+module _ (cache cache' backing backing' : DiskFacts) (answer : Result ReportText CheckError) (status : Status) (old new : StreamFacts) (cause : IfErr answer (IsCheckCause cache backing))
     (faults : IfErr answer (λ e. CountsFault e cache cache' backing backing')) (ends : EndsChecking answer status old new) where
   rises_at : (e : CheckError) → CountsFault e cache cache' backing backing' → IsCheckCause cache backing e → status ≡ status_of (check_stop e) → status ≡ statuses.Device → OneHasRisen cache cache' backing backing'
   rises_at (checks.Fault device.Cache) counts cause is six = inl (subst (HasRisen cache.faults) (sym counts.0) (next_rises cache.faults))
@@ -88,7 +88,7 @@ module _ (cache cache' backing backing' : DiskFacts) (answer : Result Report Che
   ending : Ending status
   ending = go answer cause ends
     where
-      go : (r : Result Report CheckError) → IfErr r (IsCheckCause cache backing) → EndsChecking r status old new → Ending status
+      go : (r : Result ReportText CheckError) → IfErr r (IsCheckCause cache backing) → EndsChecking r status old new → Ending status
       go (Ok told) cause (inl done) = by_verdict told.verdict status done.0
       go (Ok told) cause (inr short) = cut short.0
       go (Err e) cause ends = by_error e cause ends.0
@@ -96,7 +96,7 @@ module _ (cache cache' backing backing' : DiskFacts) (answer : Result Report Che
   pub checking_rises : status ≡ statuses.Device → OneHasRisen cache cache' backing backing'
   checking_rises six = go answer cause faults ends
     where
-      go : (r : Result Report CheckError) → IfErr r (IsCheckCause cache backing) → IfErr r (λ e. CountsFault e cache cache' backing backing') → EndsChecking r status old new → OneHasRisen cache cache' backing backing'
+      go : (r : Result ReportText CheckError) → IfErr r (IsCheckCause cache backing) → IfErr r (λ e. CountsFault e cache cache' backing backing') → EndsChecking r status old new → OneHasRisen cache cache' backing backing'
       go (Ok told) cause faults (inl done) = absurd (never (by_verdict told.verdict status done.0))
         where
           never : Ending status → ⊥
@@ -132,7 +132,7 @@ module _ (cache cache' backing backing' : DiskFacts) (answer : Result Report Che
       by_told (verdicts.Age sector) is = cc
       by_told (verdicts.Agree sector) is = cc
 
-      go : (r : Result Report CheckError) → IfErr r (IsCheckCause cache backing) → EndsChecking r status old new → HasStopped old new
+      go : (r : Result ReportText CheckError) → IfErr r (IsCheckCause cache backing) → EndsChecking r status old new → HasStopped old new
       go (Ok told) cause (inl done) = absurd (by_told told.verdict done.0)
       go (Ok told) cause (inr short) = fault_stops short.1.0 _ old new short.1.1
       go (Err e) cause ends = absurd (not_eight e cause ends.0)

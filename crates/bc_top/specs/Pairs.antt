@@ -16,7 +16,7 @@ use Rattle.bc_pair.specs.declared.pair.NewPair.{NewPair}
 use Rattle.bc_check.specs.Calls.{BothKept, CountsFault, EndsAlone, EndsAtSuper, NoneFailed}
 use Rattle.bc_check.specs.Text.{Reports}
 use Rattle.bc_check.specs.Verdict.{IsCheckCause}
-use Rattle.bc_check.specs.declared.text.Report.{Report}
+use Rattle.bc_check.specs.declared.text.ReportText.{ReportText}
 use Rattle.bc_check.specs.declared.verdict.CheckError.{CheckError}
 use Rattle.bc_replay.specs.Causes.{OfHeld}
 use Rattle.bc_super.specs.Reading.{ReadsCache, ReadsSuper}
@@ -52,7 +52,7 @@ EndsPrinting (Err e) status old new = IsStopped e status old new
 
 -- A command that tells a verdict: the sink took the text whole, and the status is the verdict's;
 -- or a put of it failed or took nothing.
-abbrev pub EndsChecking : Result Report CheckError → Status → StreamFacts → StreamFacts → Type 0
+abbrev pub EndsChecking : Result ReportText CheckError → Status → StreamFacts → StreamFacts → Type 0
 EndsChecking (Ok report) status old new =
     ((status ≡ verdict_status report.verdict) × Takes (string_bytes report.text) old new)
     ⊎ ((status ≡ statuses.Sink)
@@ -114,7 +114,7 @@ module _ {C B : Type 0} (cache_facts : C → DiskFacts) (backing_facts : B → D
   -- nothing was written, and the pair's verdict was told, and what its buckets hold, where that is
   -- asked for and it is sound; or it was refused or a device failed
   pub record HasChecked (list : Bool) : Type 0 where
-    pub answer : Result Report CheckError
+    pub answer : Result ReportText CheckError
     pub reports : IfOk answer (λ r. OfHeld (λ p. Reports list p r.verdict (string_bytes r.text))
         (cache_facts cache) (backing_facts backing))
     pub cause : IfErr answer (IsCheckCause (cache_facts cache) (backing_facts backing))

@@ -5,7 +5,7 @@ ghost use Rattle.bc_top.specs.Pairs.{EndsChecking, EndsPrinting, EndsSilently, H
 
 use crate::exit::Exit;
 use crate::stop::{Stop, tell};
-use bc_check::{CheckError, Report, Verdict, tell_pair};
+use bc_check::{CheckError, ReportText, Verdict, tell_pair};
 use bc_disk::disk::Disk;
 use bc_disk::stream::Sink;
 use bc_output::put::put_all;
@@ -51,7 +51,7 @@ fn status_of(verdict: Verdict) -> Status
 }
 
 // Prints a verdict, which has its own status.
-fn end_checking<K: Sink>(answer: &Result<Report, CheckError>, out: &mut K) -> Status
+fn end_checking<K: Sink>(answer: &Result<ReportText, CheckError>, out: &mut K) -> Status
     ensures { EndsChecking answer.now result (K.facts out.old) (K.facts out.new) }
 {
     match answer {
