@@ -293,7 +293,7 @@ fn form_of(text: &[u8]) -> Result<Form, Reason>
 
 /// What the text of a line says, without its newline, where it is served.
 #[inline(always)]
-#[tactic(auto, unfolding(crate::specs::Serving::line_in))]
+#[tactic(auto, unfolding(crate::specs::Unserved::line_in))]
 pub(crate) fn line_of(text: &[u8]) -> Result<Form, Reason>
     ensures found { result ≡ line_in text.now }
     ensures proper { IfOk result (λ form. (phase : ℕ) → IsLine (line_of phase form)) }
