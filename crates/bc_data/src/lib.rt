@@ -32,6 +32,10 @@
 //!   through places that the seat pinned, as a write does, and only if the key is still the one
 //!   that was seen.
 //!
+//! The first two may come in either order: neither a pin nor a write to pinned places asks for a
+//! claim, and a claim asks for no places. The third asks for both. `bc_events` tells a write that
+//! claims first.
+//!
 //! A write that goes around the cache (`BackingWrite Around`) has its point in the history when the
 //! device has it. So nothing may be keyed there, in any index that a crash may find: none was seen
 //! and that is durable, or the keys were dropped and that is durable. A run that uses the backing
