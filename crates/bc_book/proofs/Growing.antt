@@ -9,12 +9,12 @@ use Rattle.bc_events.specs.declared.event.Event.{Event}
 use Rattle.bc_events.specs.Columns.{entry_by, entries_of, halt_after, halt_of}
 use Rattle.bc_book.specs.declared.pass.Record.{Record}
 use Rattle.bc_book.specs.declared.pass.Pass.{Pass}
-use Rattle.bc_book.specs.declared.told.Places.{Places}
-use Rattle.bc_book.specs.declared.told.Aside.{Aside}
-use Rattle.bc_book.specs.declared.told.Aside.TheVariants as aside
-use Rattle.bc_book.specs.declared.told.Told.{Told}
+use Rattle.bc_book.specs.declared.filed.Places.{Places}
+use Rattle.bc_book.specs.declared.filed.Aside.{Aside}
+use Rattle.bc_book.specs.declared.filed.Aside.TheVariants as aside
+use Rattle.bc_book.specs.declared.filed.Filed.{Filed}
 use Rattle.bc_book.specs.Pass.{Kept, kept_of, event_of, events_by, events_in}
-use Rattle.bc_book.specs.Told.{GrowsTo, EndAt, with_entry, with_aside, kept_after, IsTold, IsKept}
+use Rattle.bc_book.specs.Filed.{GrowsTo, EndAt, with_entry, with_aside, kept_after, IsFiled, IsKept}
 use Rattle.bc_book.proofs.Lists.{stays_same, stays_more}
 
 -- ---- the lists
@@ -78,7 +78,7 @@ grows_aside ks (aside.Deed x) = record {
   others = stays_more ks.others (x ∷ []);
 }
 
-grows_after : (ks : Kept) (t : Told) → GrowsTo ks (kept_after ks t)
+grows_after : (ks : Kept) (t : Filed) → GrowsTo ks (kept_after ks t)
 grows_after ks t =
     grows_on ks (with_entry ks t.entry) (kept_after ks t) (grows_entry ks t.entry)
     (grows_aside (with_entry ks t.entry) t.aside)
@@ -148,22 +148,22 @@ pub record Grown (p q : Pass) (e : Event) : Type 0 where
   pub events : events_in q ≡ events_in p ++ e ∷ []
   pub kept : IsKept q
 
-module _ (p q : Pass) (t : Told) (e : Event) (at : Places)
-    (is : IsKept p) (ends : EndAt (kept_of p) at) (told : IsTold at t e)
+module _ (p q : Pass) (t : Filed) (e : Event) (at : Places)
+    (is : IsKept p) (ends : EndAt (kept_of p) at) (filed : IsFiled at t e)
     (ks : kept_of q ≡ kept_after (kept_of p) t)
     (rs : q.records.items ≡ p.records.items ++ t.record ∷ []) where
-  told_with : (more : Kept) → GrowsTo (kept_after (kept_of p) t) more
+  filed_with : (more : Kept) → GrowsTo (kept_after (kept_of p) t) more
       → events_by more q.records.items ≡ events_in p ++ e ∷ []
-  told_with more grows =
+  filed_with more grows =
       ap (λ (l : List Record). events_by more l) rs
       ∙ events_more more p.records.items t.record
       ∙ ap (λ (l : List Event). l ++ event_of more t.record ∷ [])
       (is.stay more (grows_on (kept_of p) _ more (grows_after (kept_of p) t) grows))
-      ∙ ap (λ (x : Event). events_in p ++ x ∷ []) (told.tells (kept_of p) more ends grows)
+      ∙ ap (λ (x : Event). events_in p ++ x ∷ []) (filed.tells (kept_of p) more ends grows)
 
   events : events_in q ≡ events_in p ++ e ∷ []
   events =
-      told_with (kept_of q)
+      filed_with (kept_of q)
       (subst (λ (k : Kept). GrowsTo k (kept_of q)) ks (grows_same (kept_of q)))
 
   entries : q.entries.items ≡ entries_of (events_in q)
@@ -172,7 +172,7 @@ module _ (p q : Pass) (t : Told) (e : Event) (at : Places)
       ∙ entries_aside (with_entry (kept_of p) t.entry) t.aside
       ∙ entries_entry (kept_of p) t.entry
       ∙ ap (λ (l : List Entry). l ++ option_to_list t.entry) is.entries
-      ∙ ap (λ (o : Option Entry). entries_of (events_in p) ++ option_to_list o) told.entry
+      ∙ ap (λ (o : Option Entry). entries_of (events_in p) ++ option_to_list o) filed.entry
       ∙ sym (entries_more (events_in p) e)
       ∙ sym (ap (λ (l : List Event). entries_of l) events)
 
@@ -182,7 +182,7 @@ module _ (p q : Pass) (t : Told) (e : Event) (at : Places)
     kept = record {
       entries = entries;
       stay = λ more grows.
-          told_with more (subst (λ (k : Kept). GrowsTo k more) ks grows) ∙ sym events;
+          filed_with more (subst (λ (k : Kept). GrowsTo k more) ks grows) ∙ sym events;
     };
   }
 

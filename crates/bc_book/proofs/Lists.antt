@@ -1,7 +1,7 @@
 -- What a list has at its places as it grows.
 use Rattle.std.proofs.Common.{◌≡◌, ℕ, zero, suc, List, [], ◌∷◌, ◌++◌, length, Some, refl, subst}
 use Rattle.std.specs.Prelude.{slice_get}
-use Rattle.bc_book.specs.Told.{Stays}
+use Rattle.bc_book.specs.Filed.{Stays}
 
 -- an item that is put behind the others stands at the next place
 pub get_end : {A : Type 0} (xs : List A) (x : A) (n : ℕ) → length xs ≡ n

@@ -1,3 +1,3 @@
 pub mod Pass
-pub mod Told
+pub mod Filed
 pub mod Book

@@ -12,7 +12,7 @@ use Rattle.bc_events.specs.declared.event.Event.{Event}
 use Rattle.bc_book.specs.declared.pass.Reading.{Reading}
 use Rattle.bc_book.specs.declared.pass.Insertion.{Insertion}
 use Rattle.bc_book.specs.declared.pass.Record.{Record}
-use Rattle.bc_book.specs.declared.pass.Record.TheVariants as told
+use Rattle.bc_book.specs.declared.pass.Record.TheVariants as records
 use Rattle.bc_book.specs.declared.pass.Pass.{Pass}
 
 -- the lists in which a record names a place
@@ -75,29 +75,29 @@ event_by seat d = record { seat = seat; deed = d }
 
 -- the event that a record tells, beside these lists
 abbrev pub event_of : Kept → Record → Event
-event_of ks (told.Claim seat first count share) = event_by seat (deed.Claim first count share)
-event_of ks (told.Release seat) = event_by seat deed.Release
-event_of ks (told.Look seat leaf) = event_by seat (deed.Look leaf)
-event_of ks (told.Pin full seat at count) = event_by seat (deed.Pin at count full)
-event_of ks (told.Entry seat place) =
+event_of ks (records.Claim seat first count share) = event_by seat (deed.Claim first count share)
+event_of ks (records.Release seat) = event_by seat deed.Release
+event_of ks (records.Look seat leaf) = event_by seat (deed.Look leaf)
+event_of ks (records.Pin full seat at count) = event_by seat (deed.Pin at count full)
+event_of ks (records.Entry seat place) =
     event_by seat (deed_at deed_of_entry (slice_get ks.entries place))
-event_of ks (told.LineFault seat of place) =
+event_of ks (records.LineFault seat of place) =
     event_by seat (deed_at (fault_of_entry of) (slice_get ks.entries place))
-event_of ks (told.Insertion seat place) =
+event_of ks (records.Insertion seat place) =
     event_by seat (deed_at (insert_of ks.entries) (slice_get ks.insertions place))
-event_of ks (told.CacheRead seat at place) =
+event_of ks (records.CacheRead seat at place) =
     event_by seat (deed_at (read_of at) (slice_get ks.readings place))
-event_of ks (told.CacheWrite seat at place) =
+event_of ks (records.CacheWrite seat at place) =
     event_by seat (deed_at (deed.CacheWrite at written.Data) (slice_get ks.beside place))
-event_of ks (told.CacheBarrier seat) = event_by seat deed.CacheBarrier
-event_of ks (told.BackingRead seat first place) =
+event_of ks (records.CacheBarrier seat) = event_by seat deed.CacheBarrier
+event_of ks (records.BackingRead seat first place) =
     event_by seat (deed_at (deed.BackingRead first) (slice_get ks.beside place))
-event_of ks (told.BackingCopy seat first place) =
+event_of ks (records.BackingCopy seat first place) =
     event_by seat (deed_at (deed.BackingWrite first None) (slice_get ks.beside place))
-event_of ks (told.BackingBarrier seat) = event_by seat deed.BackingBarrier
-event_of ks (told.LineFrom seat of) = event_by seat (deed.LineFrom of)
-event_of ks (told.LineDone seat of) = event_by seat (deed.LineDone of)
-event_of ks (told.Other seat place) = event_by seat (deed_at (λ d. d) (slice_get ks.others place))
+event_of ks (records.BackingBarrier seat) = event_by seat deed.BackingBarrier
+event_of ks (records.LineFrom seat of) = event_by seat (deed.LineFrom of)
+event_of ks (records.LineDone seat of) = event_by seat (deed.LineDone of)
+event_of ks (records.Other seat place) = event_by seat (deed_at (λ d. d) (slice_get ks.others place))
 
 -- the events of which these are the records
 abbrev pub events_by : Kept → List Record → List Event

@@ -3,11 +3,11 @@ ghost use Rattle.std.specs.Prelude.{◌≡◌, ℕ, ◌+◌, ◌<◌, ◌≤◌,
 ghost use Rattle.std.specs.Prelude.{MatchResult, OnOk};
 ghost use Rattle.bc_events.specs.Columns.{halt_of, entries_of, verdict_of};
 ghost use Rattle.bc_book.specs.Pass.{kept_of, events_in};
-ghost use Rattle.bc_book.specs.Told.{EndAt, kept_after, with_aside, HasRoom};
+ghost use Rattle.bc_book.specs.Filed.{EndAt, kept_after, with_aside, HasRoom};
 
+use crate::filed::{Aside, Filed, Places, filed_event};
 use crate::halt::{halted_after, outlasts_halt};
 use crate::pass::Pass;
-use crate::told::{Aside, Places, Told, told_of};
 use bc_disk::disk::Device;
 use bc_events::event::Event;
 use std::alloc::{AllocError, Global};
@@ -26,7 +26,7 @@ impl Model for Book {
     ghost use Rattle.bc_events.specs.Columns.{halt_of};
     ghost use Rattle.bc_book.specs.Book.{BookView};
     ghost use Rattle.bc_book.specs.Pass.{events_in};
-    ghost use Rattle.bc_book.specs.Told.{IsKept, HasRoom};
+    ghost use Rattle.bc_book.specs.Filed.{IsKept, HasRoom};
 
     ghost Value = { BookView };
 
@@ -78,17 +78,17 @@ fn put_aside(pass: &mut Pass, aside: Aside)
 }
 
 // Puts what an event was taken apart into.
-fn put_told(pass: &mut Pass, told: Told)
+fn put_filed(pass: &mut Pass, filed: Filed)
     requires { HasRoom pass.old 1 }
-    ensures kept { kept_of pass.new ≡ kept_after (kept_of pass.old) told }
-    ensures records { pass.new.records.items ≡ pass.old.records.items ++ told.record ∷ [] }
+    ensures kept { kept_of pass.new ≡ kept_after (kept_of pass.old) filed }
+    ensures records { pass.new.records.items ≡ pass.old.records.items ++ filed.record ∷ [] }
     ensures room { (n : ℕ) → HasRoom pass.old (n + 1) → HasRoom pass.new n }
 {
-    let Told {
+    let Filed {
         record,
         entry,
         aside,
-    } = told;
+    } = filed;
     put_aside(pass, aside);
     put(&mut pass.records, record);
     match entry {
@@ -155,8 +155,8 @@ impl Book {
     {
         let halted = halted_after(self.halted, &event);
         let places = places_of(&self.pass);
-        let told = told_of(event, places);
-        put_told(&mut self.pass, told);
+        let filed = filed_event(event, places);
+        put_filed(&mut self.pass, filed);
         self.room -= 1;
         self.halted = halted;
     }

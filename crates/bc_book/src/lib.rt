@@ -6,7 +6,7 @@
 //! the list one of whole events, each would take the room of the largest, which has the change of a
 //! tree in it, and a value that an event has and the history too would be there twice. So the book
 //! keeps a short record for each event, the history, and lists of what a record has no room for:
-//! a record names its place there. `pass` says what is kept, `told` how an event is taken apart,
+//! a record names its place there. `pass` says what is kept, `filed` how an event is taken apart,
 //! and `events_in` of `specs/Pass` how it is told again; `halt` says what a failed call halts.
 //!
 //! Putting an event takes no memory, since it is put after its device call was made, when no error
@@ -14,8 +14,8 @@
 #![tactic(auto)]
 
 pub mod book;
+pub(crate) mod filed;
 pub mod halt;
 pub mod pass;
 #[cfg(test)]
 mod tests;
-pub(crate) mod told;

@@ -1,7 +1,7 @@
 use Rattle.std.proofs.Common.{◌+◌, ◌≤◌, length, vec_capacity}
-use Rattle.bc_book.specs.Told.{HasRoom}
+use Rattle.bc_book.specs.Filed.{HasRoom}
 use Rattle.bc_book.proofs.Growing.{room_more}
-use Rattle.bc_book.proofs.book.put_told.Goals as goal
+use Rattle.bc_book.proofs.book.put_filed.Goals as goal
 
 pub returns-in-Some-clause-room : goal.returns-in-Some-clause-room
 returns-in-Some-clause-room c = λ n h.

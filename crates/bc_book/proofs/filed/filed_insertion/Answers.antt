@@ -4,7 +4,7 @@ use Rattle.bc_model.specs.declared.history.Entry.TheVariants as entry
 use Rattle.bc_book.specs.declared.pass.Insertion.{Insertion}
 use Rattle.bc_book.specs.Pass.{event_by, deed_at, insert_of, insert_of_entry}
 use Rattle.bc_book.proofs.Lists.{get_end}
-use Rattle.bc_book.proofs.told.told_of_insertion.Goals as goal
+use Rattle.bc_book.proofs.filed.filed_insertion.Goals as goal
 
 pub returns : goal.returns
 returns c =

@@ -3,7 +3,7 @@ ghost use Rattle.std.specs.Prelude.{◌≡◌, Option, Some, None};
 ghost use Rattle.bc_events.specs.Columns.{entry_by};
 ghost use Rattle.bc_events.specs.declared.event.Deed.TheVariants as deed;
 ghost use Rattle.bc_book.specs.Pass.{event_by, deed_of_entry, read_of};
-ghost use Rattle.bc_book.specs.Told.{IsTold, failed_write};
+ghost use Rattle.bc_book.specs.Filed.{IsFiled, failed_write};
 
 use crate::pass::{Insertion, Reading, Record};
 use bc_events::event::{Deed, Event, Failure, LineNumber, Written};
@@ -33,22 +33,22 @@ pub(crate) enum Aside {
 
 /// A record, with what it puts into the history and beside it.
 #[derive(Drop)]
-pub(crate) struct Told {
+pub(crate) struct Filed {
     pub(crate) record: Record,
     pub(crate) entry: Option<Entry>,
     pub(crate) aside: Aside,
 }
 
 // What an entry tells.
-fn told_of_entry(seat: u32, entry: Entry, places: Places) -> Told
+fn filed_entry(seat: u32, entry: Entry, places: Places) -> Filed
     requires { entry_by (deed_of_entry entry) ≡ Some entry }
-    ensures { IsTold places result (event_by seat (deed_of_entry entry)) }
+    ensures { IsFiled places result (event_by seat (deed_of_entry entry)) }
 {
     let record = Record::Entry {
         seat,
         entry: places.entries,
     };
-    Told {
+    Filed {
         record,
         entry: Some(entry),
         aside: Aside::Nothing,
@@ -56,15 +56,15 @@ fn told_of_entry(seat: u32, entry: Entry, places: Places) -> Told
 }
 
 // A deed that is kept whole.
-fn told_of_deed(seat: u32, deed: Deed, places: Places) -> Told
+fn filed_deed(seat: u32, deed: Deed, places: Places) -> Filed
     requires { entry_by deed ≡ None }
-    ensures { IsTold places result (event_by seat deed) }
+    ensures { IsFiled places result (event_by seat deed) }
 {
     let record = Record::Other {
         seat,
         deed: places.others,
     };
-    Told {
+    Filed {
         record,
         entry: None,
         aside: Aside::Deed(deed),
@@ -72,14 +72,14 @@ fn told_of_deed(seat: u32, deed: Deed, places: Places) -> Told
 }
 
 // A write of the backing device: a line's, or a copy of what the cache has.
-fn told_of_write(
+fn filed_write(
     seat: u32,
     first: u64,
     of: Option<LineNumber>,
     values: Values,
     places: Places,
-) -> Told
-    ensures { IsTold places result (event_by seat (deed.BackingWrite first of values)) }
+) -> Filed
+    ensures { IsFiled places result (event_by seat (deed.BackingWrite first of values)) }
 {
     match of {
         Some(of) => {
@@ -89,7 +89,7 @@ fn told_of_write(
                 first,
                 values,
             };
-            told_of_entry(seat, entry, places)
+            filed_entry(seat, entry, places)
         }
         None => {
             let record = Record::BackingCopy {
@@ -97,7 +97,7 @@ fn told_of_write(
                 first,
                 values: places.beside,
             };
-            Told {
+            Filed {
                 record,
                 entry: None,
                 aside: Aside::Values(values),
@@ -107,7 +107,7 @@ fn told_of_write(
 }
 
 // The keys of a line's write, as they come into a leaf.
-fn told_of_insertion(
+fn filed_insertion(
     seat: u32,
     leaf: u32,
     keys: Keys,
@@ -115,8 +115,8 @@ fn told_of_insertion(
     first: u64,
     values: Values,
     places: Places,
-) -> Told
-    ensures { IsTold places result (event_by seat (deed.InsertWrite leaf keys of first values)) }
+) -> Filed
+    ensures { IsFiled places result (event_by seat (deed.InsertWrite leaf keys of first values)) }
 {
     let entry = Entry::Write {
         worker: of.worker,
@@ -129,7 +129,7 @@ fn told_of_insertion(
         keys,
         entry: places.entries,
     };
-    Told {
+    Filed {
         record: Record::Insertion {
             seat,
             insertion: places.insertions,
@@ -140,8 +140,8 @@ fn told_of_insertion(
 }
 
 // An answer of a read.
-fn told_of_answer(seat: u32, of: LineNumber, first: u64, values: Values, places: Places) -> Told
-    ensures { IsTold places result (event_by seat (deed.Answer of first values)) }
+fn filed_answer(seat: u32, of: LineNumber, first: u64, values: Values, places: Places) -> Filed
+    ensures { IsFiled places result (event_by seat (deed.Answer of first values)) }
 {
     let entry = Entry::Read {
         worker: of.worker,
@@ -149,34 +149,34 @@ fn told_of_answer(seat: u32, of: LineNumber, first: u64, values: Values, places:
         first,
         values,
     };
-    told_of_entry(seat, entry, places)
+    filed_entry(seat, entry, places)
 }
 
 // A flush begins.
-fn told_of_flush_from(seat: u32, of: LineNumber, places: Places) -> Told
-    ensures { IsTold places result (event_by seat (deed.FlushFrom of)) }
+fn filed_flush_from(seat: u32, of: LineNumber, places: Places) -> Filed
+    ensures { IsFiled places result (event_by seat (deed.FlushFrom of)) }
 {
     let entry = Entry::FlushFrom {
         worker: of.worker,
         line: of.line,
     };
-    told_of_entry(seat, entry, places)
+    filed_entry(seat, entry, places)
 }
 
 // It is acknowledged.
-fn told_of_flush_done(seat: u32, of: LineNumber, places: Places) -> Told
-    ensures { IsTold places result (event_by seat (deed.FlushDone of)) }
+fn filed_flush_done(seat: u32, of: LineNumber, places: Places) -> Filed
+    ensures { IsFiled places result (event_by seat (deed.FlushDone of)) }
 {
     let entry = Entry::FlushDone {
         worker: of.worker,
         line: of.line,
     };
-    told_of_entry(seat, entry, places)
+    filed_entry(seat, entry, places)
 }
 
 // A write is acknowledged.
-fn told_of_durable(seat: u32, of: LineNumber, first: u64, count: u32, places: Places) -> Told
-    ensures { IsTold places result (event_by seat (deed.Durable of first count)) }
+fn filed_durable(seat: u32, of: LineNumber, first: u64, count: u32, places: Places) -> Filed
+    ensures { IsFiled places result (event_by seat (deed.Durable of first count)) }
 {
     let entry = Entry::Durable {
         worker: of.worker,
@@ -184,18 +184,18 @@ fn told_of_durable(seat: u32, of: LineNumber, first: u64, count: u32, places: Pl
         first,
         count,
     };
-    told_of_entry(seat, entry, places)
+    filed_entry(seat, entry, places)
 }
 
 // A write of the backing device failed.
-fn told_of_failed_write(
+fn filed_failed_write(
     seat: u32,
     first: u64,
     of: Option<LineNumber>,
     values: Values,
     places: Places,
-) -> Told
-    ensures { IsTold places result (event_by seat (failed_write first of values)) }
+) -> Filed
+    ensures { IsFiled places result (event_by seat (failed_write first of values)) }
 {
     match of {
         Some(of) => {
@@ -204,7 +204,7 @@ fn told_of_failed_write(
                 of,
                 entry: places.entries,
             };
-            Told {
+            Filed {
                 record,
                 entry: Some(Entry::Tried { first, values }),
                 aside: Aside::Nothing,
@@ -216,33 +216,33 @@ fn told_of_failed_write(
                 of: None,
                 values,
             };
-            told_of_deed(seat, Deed::DeviceFault { failure }, places)
+            filed_deed(seat, Deed::DeviceFault { failure }, places)
         }
     }
 }
 
 // A call of a device failed.
-fn told_of_fault(seat: u32, failure: Failure, places: Places) -> Told
-    ensures { IsTold places result (event_by seat (deed.DeviceFault failure)) }
+fn filed_fault(seat: u32, failure: Failure, places: Places) -> Filed
+    ensures { IsFiled places result (event_by seat (deed.DeviceFault failure)) }
 {
     match failure {
-        Failure::BackingWrite { first, of, values } => told_of_failed_write(
+        Failure::BackingWrite { first, of, values } => filed_failed_write(
             seat, first, of, values, places,
         ),
-        failure => told_of_deed(seat, Deed::DeviceFault { failure }, places),
+        failure => filed_deed(seat, Deed::DeviceFault { failure }, places),
     }
 }
 
 // A read of the cache device.
-fn told_of_reading(seat: u32, at: u64, reading: Reading, places: Places) -> Told
-    ensures { IsTold places result (event_by seat (read_of at reading)) }
+fn filed_reading(seat: u32, at: u64, reading: Reading, places: Places) -> Filed
+    ensures { IsFiled places result (event_by seat (read_of at reading)) }
 {
     let record = Record::CacheRead {
         seat,
         at,
         reading: places.readings,
     };
-    Told {
+    Filed {
         record,
         entry: None,
         aside: Aside::Reading(reading),
@@ -250,8 +250,8 @@ fn told_of_reading(seat: u32, at: u64, reading: Reading, places: Places) -> Told
 }
 
 // A write of the cache device.
-fn told_of_cache_write(seat: u32, at: u64, what: Written, values: Values, places: Places) -> Told
-    ensures { IsTold places result (event_by seat (deed.CacheWrite at what values)) }
+fn filed_cache_write(seat: u32, at: u64, what: Written, values: Values, places: Places) -> Filed
+    ensures { IsFiled places result (event_by seat (deed.CacheWrite at what values)) }
 {
     match what {
         Written::Data => {
@@ -260,7 +260,7 @@ fn told_of_cache_write(seat: u32, at: u64, what: Written, values: Values, places
                 at,
                 values: places.beside,
             };
-            Told {
+            Filed {
                 record,
                 entry: None,
                 aside: Aside::Values(values),
@@ -268,15 +268,15 @@ fn told_of_cache_write(seat: u32, at: u64, what: Written, values: Values, places
         }
         what => {
             let deed = Deed::CacheWrite { at, what, values };
-            told_of_deed(seat, deed, places)
+            filed_deed(seat, deed, places)
         }
     }
 }
 
 // A deed that is no call of a device and puts no entry.
-fn told_of_hold(seat: u32, deed: Deed, places: Places) -> Told
+fn filed_hold(seat: u32, deed: Deed, places: Places) -> Filed
     requires { entry_by deed ≡ None }
-    ensures { IsTold places result (event_by seat deed) }
+    ensures { IsFiled places result (event_by seat deed) }
 {
     let record = match deed {
         Deed::Claim {
@@ -299,9 +299,9 @@ fn told_of_hold(seat: u32, deed: Deed, places: Places) -> Told
         },
         Deed::LineFrom { of } => Record::LineFrom { seat, of },
         Deed::LineDone { of } => Record::LineDone { seat, of },
-        deed => return told_of_deed(seat, deed, places),
+        deed => return filed_deed(seat, deed, places),
     };
-    Told {
+    Filed {
         record,
         entry: None,
         aside: Aside::Nothing,
@@ -309,62 +309,60 @@ fn told_of_hold(seat: u32, deed: Deed, places: Places) -> Told
 }
 
 // A deed that puts no entry.
-fn told_of_call(seat: u32, deed: Deed, places: Places) -> Told
+fn filed_call(seat: u32, deed: Deed, places: Places) -> Filed
     requires { entry_by deed ≡ None }
-    ensures { IsTold places result (event_by seat deed) }
+    ensures { IsFiled places result (event_by seat deed) }
 {
     match deed {
         Deed::CacheRead { at, first, values } => {
-            told_of_reading(seat, at, Reading { first, values }, places)
+            filed_reading(seat, at, Reading { first, values }, places)
         }
-        Deed::CacheWrite { at, what, values } => told_of_cache_write(
-            seat, at, what, values, places,
-        ),
+        Deed::CacheWrite { at, what, values } => filed_cache_write(seat, at, what, values, places),
         Deed::BackingRead { first, values } => {
             let record = Record::BackingRead {
                 seat,
                 first,
                 values: places.beside,
             };
-            Told {
+            Filed {
                 record,
                 entry: None,
                 aside: Aside::Values(values),
             }
         }
-        Deed::CacheBarrier => Told {
+        Deed::CacheBarrier => Filed {
             record: Record::CacheBarrier { seat },
             entry: None,
             aside: Aside::Nothing,
         },
-        Deed::BackingBarrier => Told {
+        Deed::BackingBarrier => Filed {
             record: Record::BackingBarrier { seat },
             entry: None,
             aside: Aside::Nothing,
         },
-        deed => told_of_hold(seat, deed, places),
+        deed => filed_hold(seat, deed, places),
     }
 }
 
 /// The event taken apart, where these are the next places.
-pub(crate) fn told_of(event: Event, places: Places) -> Told
-    ensures { IsTold places result event }
+pub(crate) fn filed_event(event: Event, places: Places) -> Filed
+    ensures { IsFiled places result event }
 {
     let Event { seat, deed } = event;
     match deed {
-        Deed::BackingWrite { first, of, values } => told_of_write(seat, first, of, values, places),
+        Deed::BackingWrite { first, of, values } => filed_write(seat, first, of, values, places),
         Deed::InsertWrite {
             leaf,
             keys,
             of,
             first,
             values,
-        } => told_of_insertion(seat, leaf, keys, of, first, values, places),
-        Deed::Answer { of, first, values } => told_of_answer(seat, of, first, values, places),
-        Deed::FlushFrom { of } => told_of_flush_from(seat, of, places),
-        Deed::FlushDone { of } => told_of_flush_done(seat, of, places),
-        Deed::Durable { of, first, count } => told_of_durable(seat, of, first, count, places),
-        Deed::DeviceFault { failure } => told_of_fault(seat, failure, places),
-        deed => told_of_call(seat, deed, places),
+        } => filed_insertion(seat, leaf, keys, of, first, values, places),
+        Deed::Answer { of, first, values } => filed_answer(seat, of, first, values, places),
+        Deed::FlushFrom { of } => filed_flush_from(seat, of, places),
+        Deed::FlushDone { of } => filed_flush_done(seat, of, places),
+        Deed::Durable { of, first, count } => filed_durable(seat, of, first, count, places),
+        Deed::DeviceFault { failure } => filed_fault(seat, failure, places),
+        deed => filed_call(seat, deed, places),
     }
 }

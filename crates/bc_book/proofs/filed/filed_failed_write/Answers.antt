@@ -3,7 +3,7 @@ use Rattle.bc_model.specs.declared.history.Entry.{Entry}
 use Rattle.bc_model.specs.declared.history.Entry.TheVariants as entry
 use Rattle.bc_book.specs.Pass.{event_by, deed_at, fault_of_entry}
 use Rattle.bc_book.proofs.Lists.{get_end}
-use Rattle.bc_book.proofs.told.told_of_failed_write.Goals as goal
+use Rattle.bc_book.proofs.filed.filed_failed_write.Goals as goal
 
 pub returns-in-Some : goal.returns-in-Some
 returns-in-Some c =

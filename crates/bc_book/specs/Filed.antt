@@ -1,4 +1,4 @@
--- What it is to take an event apart so that it can be told again.
+-- What it is to take an event apart so that it can be filed again.
 use Rattle.std.specs.Prelude.{◌≡◌, ℕ, ◌+◌, ◌≤◌, List, [], ◌∷◌, ◌++◌, length, slice_get}
 use Rattle.std.specs.Prelude.{Option, Some, None, vec_capacity}
 use Rattle.bc_model.specs.declared.history.Entry.{Entry}
@@ -10,10 +10,10 @@ use Rattle.bc_events.specs.declared.event.Deed.TheVariants as deed
 use Rattle.bc_events.specs.declared.event.Event.{Event}
 use Rattle.bc_events.specs.Columns.{entry_by, entries_of}
 use Rattle.bc_book.specs.declared.pass.Pass.{Pass}
-use Rattle.bc_book.specs.declared.told.Places.{Places}
-use Rattle.bc_book.specs.declared.told.Aside.{Aside}
-use Rattle.bc_book.specs.declared.told.Aside.TheVariants as aside
-use Rattle.bc_book.specs.declared.told.Told.{Told}
+use Rattle.bc_book.specs.declared.filed.Places.{Places}
+use Rattle.bc_book.specs.declared.filed.Aside.{Aside}
+use Rattle.bc_book.specs.declared.filed.Aside.TheVariants as aside
+use Rattle.bc_book.specs.declared.filed.Filed.{Filed}
 use Rattle.bc_book.specs.Pass.{Kept, kept_of, event_of, events_by, events_in}
 
 -- what a list has at a place stays there
@@ -48,14 +48,14 @@ with_aside ks (aside.Reading x) = record ks { readings = ks.readings ++ x ∷ []
 with_aside ks (aside.Insertion x) = record ks { insertions = ks.insertions ++ x ∷ [] }
 with_aside ks (aside.Deed x) = record ks { others = ks.others ++ x ∷ [] }
 
-abbrev pub kept_after : Kept → Told → Kept
+abbrev pub kept_after : Kept → Filed → Kept
 kept_after ks t = with_aside (with_entry ks t.entry) t.aside
 
 abbrev pub failed_write : ℕ → Option LineNumber → List Value → Deed
 failed_write first of values = deed.DeviceFault (failure.BackingWrite first of values)
 
 -- at these places the record tells the event, whatever is put behind it
-pub record IsTold (p : Places) (t : Told) (e : Event) : Type 0 where
+pub record IsFiled (p : Places) (t : Filed) (e : Event) : Type 0 where
   pub entry : t.entry ≡ entry_by e.deed
   pub tells : (ks more : Kept) → EndAt ks p
       → GrowsTo (kept_after ks t) more → event_of more t.record ≡ e
