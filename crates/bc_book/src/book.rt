@@ -174,7 +174,7 @@ impl Book {
         Ok(())
     }
 
-    /// Whether the event may stand behind the others: after a halt only a late one does. `Err`
+    /// Whether the event may stand behind the others: after a halt only one that outlasts it does. `Err`
     /// names the device that halted the run.
     pub fn admits(&self, event: &Event) -> Result<(), Device>
         ensures { result ≡ verdict_of self.now.events event.now }
