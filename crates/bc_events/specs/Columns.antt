@@ -107,7 +107,7 @@ verdict_by true halted = Ok tt
 verdict_by false None = Ok tt
 verdict_by false (Some device) = Err device
 
--- whether the event may follow these: after a halt only a late one does, and the halting device is
--- named
+-- whether the event may follow these: after a halt only one that outlasts it does, and the halting
+-- device is named
 abbrev pub verdict_of : List Event → Event → Result (Unit {0}) Device
 verdict_of es e = verdict_by (outlasts_halt e.deed) (halt_of es)
