@@ -97,18 +97,16 @@ module _ {C B : Type 0} (cache_facts : C → DiskFacts) (backing_facts : B → D
         let one = held_told x.cache.told x.held (cache_facts old).holds (cache_facts old).may_leave
         (and_left x.cache.told x.backing.told is.told) on.stands.content in (
           one.0,
-          (
-            λ s. subst (Among (one.0 s))
-                (sym ((held_at cache_facts backing_facts v x since o is course).reads s)) (one.2 s),
-            subst (λ (h : Option Image). IfTold h (λ image. Has image at values)) one.1 read,
-          ),
+          λ s. subst (Among (one.0 s))
+              (sym ((held_at cache_facts backing_facts v x since o is course).reads s)) (one.2 s),
+          subst (λ (h : Option Image). IfTold h (λ image. Has image at values)) one.1 read,
         )
 
     -- behind the read it may read the same
     behind : (x : World) (i : ℕ) → MayStandIn x at values
         → MayStandIn (after x (by i (node_read at))) at values
     behind x i h = λ o is course.
-        h o (origin_before x (by i (node_read at)) o is) course.1.1
+        h o (origin_before x (by i (node_read at)) o is) course.2
 
     pub stand_at : (w : View cache_facts backing_facts) → IsCoreSeat cache_facts backing_facts v
         → Holds v.parts 4

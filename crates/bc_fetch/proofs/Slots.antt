@@ -148,7 +148,7 @@ module _ (w : Opening) (st : parts.State) (count part : ℕ) (cache : NodeCache)
         where
           go : (cached.number ≡ k) ⊎ (cached.number ≢ k) → (st.leaves k).pending ≡ []
           go (inl e) = subst (λ n. (st.leaves n).pending ≡ []) e
-              (nothing cached.leaf.entries (st.leaves cached.number).pending can.1.1
+              (nothing cached.leaf.entries (st.leaves cached.number).pending can.2
               (h.leaves slot cached there).entries)
           go (inr ne) = h.others k its live (missed k misses (λ c at same. ne
               (ap number_of (some_is (Some cached) (Some c) (slice_get cache.slots slot) there at) ∙ same)))

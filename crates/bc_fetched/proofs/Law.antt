@@ -127,7 +127,7 @@ module _ (w : Opening) (x : parts.State) (sound : IsSound w x) (st : whole.State
 -- no torn record matched by chance in the state to which a course leads
 untorn_now : (o : Origin) (es : List Event) → IsCourseOf o es → IsUntorn o (replay o es)
 untorn_now o [] course = course
-untorn_now o (e ∷ es) course = course.1.0
+untorn_now o (e ∷ es) course = course.1
 
 pub law_sets : LawSets
 law_sets x o is course g image given q known =

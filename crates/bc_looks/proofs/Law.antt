@@ -183,7 +183,7 @@ slots_in : (o : Origin) → IsSound o.opening.machine o.parts → AreInSlots o.o
     → (es : List Event) → IsCourseOf o es → HasSlots (replay o es)
 slots_in o sound first [] on = first
 slots_in o sound first (e ∷ es) on = slot_event o.opening (replay o es) e.seat e.deed
-    (inv_course o sound es on.1.1).fits on.0 (slots_in o sound first es on.1.1)
+    (inv_course o sound es on.2).fits on.0 (slots_in o sound first es on.2)
 
 pub law_slots : LawSlots
 law_slots x o is course = slots_in o is.sound is.slots x.log course

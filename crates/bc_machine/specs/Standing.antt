@@ -119,7 +119,7 @@ view_before x e y (inr (o, seen)) = (
     record {
       is = refl;
       origin = origin_before x e o seen.origin;
-      course = seen.course.1.1;
+      course = seen.course.2;
     },
   ),
   seen.is,
@@ -166,7 +166,7 @@ pub replay_runs : (o : Origin) (es : List Event) → IsCourseOf o es
     → core.IsRun o.opening (core.start o.opening o.parts o.next_seq) (oldest_first es)
 replay_runs o [] on = tt
 replay_runs o (e ∷ es) on = runs_behind o.opening (core.start o.opening o.parts o.next_seq)
-    (oldest_first es) (e ∷ []) (replay_runs o es on.1.1)
+    (oldest_first es) (e ∷ []) (replay_runs o es on.2)
     (subst (λ st. core.IsEnabled o.opening st e) (replay_is o es) on.0.enabled, tt)
 
 happens : (x : World) (o : Origin) (e : Event) → IsOrigin x o → IsCourseOf o x.log
@@ -186,7 +186,7 @@ from_each : (x : World) (e : Event) (P : Origin → core.State → Type 0)
     → P o (replay o x.log) → P o (core.after o.opening (replay o x.log) e))
     → FromEach x P → FromEach (after x e) P
 from_each x e P keeps h = λ o is course. let before = origin_before x e o is in
-    keeps o before course.1.1 course.0 (h o before course.1.1)
+    keeps o before course.2 course.0 (h o before course.2)
 
 same_spine : (w : whole.Opening) (a b : known.State) (sp : Spine) → SameSpine a b
     → IsSpineOf w a.whole.parts sp → IsSpineOf w b.whole.parts sp

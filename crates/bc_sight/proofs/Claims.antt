@@ -80,7 +80,7 @@ module _ {C B : Type 0} (cache_facts : C → DiskFacts) (backing_facts : B → D
       (λ y e may foreign before o is course. subst (P o)
       (sym (foreign_event o.opening (replay o y.log) e v.first
       (λ same. foreign.0 v.first (omega arith) seat.seat.live (sym same))))
-      (before o (origin_before y e o is) course.1.1)) since h
+      (before o (origin_before y e o is) course.2)) since h
 
   -- what it knows goes on while others act
   pub claim_waited : (v w : View cache_facts backing_facts) → IsCoreSeat cache_facts backing_facts v
@@ -102,4 +102,4 @@ module _ {C B : Type 0} (cache_facts : C → DiskFacts) (backing_facts : B → D
       subst (λ i. ClaimAt Q i (world cache_facts backing_facts w)) (sym did.is.same.first)
       (subst (ClaimAt Q v.first) (sym did.is.state)
       (λ o is course. let before = origin_before did.is.before (by v.first d) o is in
-      makes o before course.1.1 (claim_since v did.is.before seat P did.is.since h o before course.1.1)))
+      makes o before course.2 (claim_since v did.is.before seat P did.is.since h o before course.2)))

@@ -171,7 +171,7 @@ pub held_stays : (x : World) (e : Event) → IsHeld x → IsHeld (after x e)
 held_stays x e h o is course =
     subst (Alike (held_after x.held e.deed))
     (sym (held_event x o e.seat e.deed course.0.enabled))
-    (alike_after x.held (cache_of (replay o x.log)) e.deed (h o (origin_before x e o is) course.1.1))
+    (alike_after x.held (cache_of (replay o x.log)) e.deed (h o (origin_before x e o is) course.2))
 
 module _ {C B : Type 0} (cache_facts : C → DiskFacts) (backing_facts : B → DiskFacts) where
   first_held : (start : List (CorePart C B)) → IsHeld (opening cache_facts backing_facts start)
