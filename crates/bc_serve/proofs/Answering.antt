@@ -15,7 +15,7 @@ use Rattle.bc_hand.proofs.Knowing.{View}
 use Rattle.bc_deed.specs.Flushed.{HasDone}
 use Rattle.bc_job.specs.Asked.{line_of}
 use Rattle.bc_job.specs.Deeds.{IsHaltOf, AreReadDeeds, WriteStop, read_deeds, writes_deeds}
-use Rattle.bc_job.specs.Requests.{HasFlushedFor, HasNotFlushed, HasNotRead, HasNotWritten, HasRead, HasWritten, IsRefusedRead, IsRefusedWrite}
+use Rattle.bc_job.specs.Requests.{HasFlushedFor, HasNotFlushed, HasNotRead, HasNotWritten, HasRead, HasWritten, IsRefusedRead, IsRefusedWrite, WhereOutside}
 use Rattle.bc_job.specs.declared.error.RequestError.{RequestError}
 use Rattle.bc_job.specs.declared.error.RequestError.TheVariants as request
 use Rattle.bc_job.specs.declared.job.Job.{Job}
@@ -24,7 +24,9 @@ use Rattle.bc_script.specs.declared.answer.Answer.{Answer}
 use Rattle.bc_script.specs.declared.answer.Answer.TheVariants.{Done, Runs, Refused}
 use Rattle.bc_script.specs.declared.answer.Refusal.TheVariants as refusal
 use Rattle.bc_script.specs.Served.{MayTry, ServesFlush, ServesRead, forced_writes, writes}
-use Rattle.bc_serve.specs.Causes.{CallsBacking, HasAnswered, IsCaused, WritingServes, entries_by, has_failed}
+use Rattle.bc_serve.specs.Answered.{HasAnswered, HasAnsweredFlush, HasAnsweredRead, HasAnsweredWrite, WritingServes}
+use Rattle.bc_serve.specs.Causes.{CallsBacking, IsCaused, entries_by, has_failed}
+use Rattle.bc_serve.specs.Deeds.{AreFlushingDeeds, AreReadingDeeds, AreWritingDeeds}
 use Rattle.bc_serve.specs.Refusals.{refusal_of}
 use Rattle.bc_serve.proofs.Lists.{calls_both, caused_behind, entries_both}
 use Rattle.bc_serve.proofs.Stamps.{AllOwn, all_own, length_patterns, own_up_to, writes_same}
@@ -220,21 +222,35 @@ all_read of (p ∷ ps) values ds h =
       calls = subst CallsBacking (sym h.5) (tt, (refl, (tt, (tt, rest.calls))));
     }
 
+-- ---- refused requests
+
+-- what was refused by a piece wasn't out of range
+refused_writing : (error : RequestError) (job : Job) (values : List Value) (ds : List Deed)
+    → IsRefusedWrite error job values ds
+    → WhereOutside error (ds ≡ []) (IsRefusedWrite error job values ds)
+refused_writing request.OutOfRange job values ds why = absurd why.stop
+refused_writing (request.Fault d) job values ds why = why
+refused_writing (request.Halted d) job values ds why = why
+refused_writing request.Memory job values ds why = why
+
+refused_reading : (error : RequestError) (job : Job) (ds : List Deed) → IsRefusedRead error job ds
+    → WhereOutside error (ds ≡ []) (IsRefusedRead error job ds)
+refused_reading request.OutOfRange job ds why = absurd why.stop
+refused_reading (request.Fault d) job ds why = why
+refused_reading (request.Halted d) job ds why = why
+refused_reading request.Memory job ds why = why
+
 module _ {C B : Type 0} (cache_facts : C → DiskFacts) (backing_facts : B → DiskFacts) where
   -- ---- writing
 
-  abbrev pub WriteServes : Job → ℕ → Answer → View cache_facts backing_facts → View cache_facts backing_facts
-      → Type 0
-  WriteServes job stamp answer v w = HasAnswered cache_facts backing_facts
-      (WritingServes job.force job.size job.worker job.line job.first job.count stamp) answer v w
-
   pub write_done : (v w : View cache_facts backing_facts) (job : Job) (stamp : ℕ) (values : List Value)
       → values ≡ patterns stamp job.first job.count → HasWritten cache_facts backing_facts job values v w
-      → WriteServes job stamp Done v w
+      → HasAnsweredWrite cache_facts backing_facts job stamp Done v w
   write_done v w job stamp values is done =
       let ps = pieces job.first job.count in record {
         deeds = writes_deeds job.force (line_of job) job.first values ps;
         done = done.1;
+        did = ap (λ (vs : List Value). writes_deeds job.force (line_of job) job.first vs ps) is;
         serves = all_written job.force job.size job.worker job.line job.first job.count stamp _ done.0
             (stamped_entries job.force (line_of job) stamp job.first job.count values ps is
             (all_own stamp job.first job.count));
@@ -247,13 +263,15 @@ module _ {C B : Type 0} (cache_facts : C → DiskFacts) (backing_facts : B → D
   outside_write false size worker line first count stamp out = (out, refl)
   outside_write true size worker line first count stamp out = (out, refl)
 
-  pub outside : (v w : View cache_facts backing_facts) (Serves : Answer → List Entry → Type 0)
-      → IsCoreSeat cache_facts backing_facts v → w ≡ v → Serves (Refused refusal.OutOfRange) []
-      → HasAnswered cache_facts backing_facts Serves (Refused refusal.OutOfRange) v w
-  outside v w Serves seat is serves = record {
+  outside : (v w : View cache_facts backing_facts) (Are : Answer → List Deed → Type 0)
+      (Serves : Answer → List Entry → Type 0) → IsCoreSeat cache_facts backing_facts v → w ≡ v
+      → Are (Refused refusal.OutOfRange) [] → Serves (Refused refusal.OutOfRange) []
+      → HasAnswered cache_facts backing_facts Are Serves (Refused refusal.OutOfRange) v w
+  outside v w Are Serves seat is did serves = record {
     deeds = [];
     done = subst (λ (x : View cache_facts backing_facts). HasDone cache_facts backing_facts [] v x) (sym is)
         (done_none cache_facts backing_facts v seat);
+    did = did;
     serves = serves;
     caused = refl;
     calls = tt;
@@ -261,15 +279,17 @@ module _ {C B : Type 0} (cache_facts : C → DiskFacts) (backing_facts : B → D
 
   pub outside_writing : (v : View cache_facts backing_facts) (job : Job) (stamp : ℕ)
       → IsCoreSeat cache_facts backing_facts v → job.size < job.first + job.count
-      → WriteServes job stamp (Refused refusal.OutOfRange) v v
+      → HasAnsweredWrite cache_facts backing_facts job stamp (Refused refusal.OutOfRange) v v
   outside_writing v job stamp seat out = outside v v
+      (AreWritingDeeds job (patterns stamp job.first job.count))
       (WritingServes job.force job.size job.worker job.line job.first job.count stamp) seat refl
+      (request.OutOfRange, refl, refl)
       (outside_write job.force job.size job.worker job.line job.first job.count stamp out)
 
   stopped_write : (error : RequestError) (v w : View cache_facts backing_facts) (job : Job) (stamp : ℕ)
       (values : List Value) (ds : List Deed) → values ≡ patterns stamp job.first job.count
       → job.first + job.count ≤ job.size → IsHaltOf error w.seen → IsRefusedWrite error job values ds
-      → HasDone cache_facts backing_facts ds v w → WriteServes job stamp (Refused (refusal_of error)) v w
+      → HasDone cache_facts backing_facts ds v w → HasAnsweredWrite cache_facts backing_facts job stamp (Refused (refusal_of error)) v w
   stopped_write error v w job stamp values ds is inside halted why done =
       let of = line_of job in
       let before = writes_deeds job.force of job.first values why.served in
@@ -278,6 +298,12 @@ module _ {C B : Type 0} (cache_facts : C → DiskFacts) (backing_facts : B → D
       let stop = write_stop error job.force of why.refused.first part w.seen why.last why.stop halted in record {
         deeds = ds;
         done = done;
+        did = (
+          error,
+          refl,
+          subst (λ (vs : List Value). WhereOutside error (ds ≡ [])
+              (IsRefusedWrite error job vs ds)) is (refused_writing error job values ds why),
+        );
         serves = last_written error job.force of job.size job.first job.count stamp why.served why.refused part
             why.last (entries_by ds)
             (ap (λ (vs : List Value). piece_of job.first vs why.refused) is ∙ owns.1) inside why.up_to why.stop
@@ -295,9 +321,11 @@ module _ {C B : Type 0} (cache_facts : C → DiskFacts) (backing_facts : B → D
       (error : RequestError) → IsCoreSeat cache_facts backing_facts v
       → values ≡ patterns stamp job.first job.count
       → HasNotWritten cache_facts backing_facts error job values v w
-      → WriteServes job stamp (Refused (refusal_of error)) v w
+      → HasAnsweredWrite cache_facts backing_facts job stamp (Refused (refusal_of error)) v w
   write_refused v w job stamp values request.OutOfRange seat is why = outside v w
+      (AreWritingDeeds job (patterns stamp job.first job.count))
       (WritingServes job.force job.size job.worker job.line job.first job.count stamp) seat why.1
+      (request.OutOfRange, refl, refl)
       (outside_write job.force job.size job.worker job.line job.first job.count stamp why.0)
   write_refused v w job stamp values (request.Fault d) seat is why = let h = why.1 in
       stopped_write (request.Fault d) v w job stamp values h.1.0 is why.0 h.0 h.1.1 h.1.2
@@ -309,7 +337,7 @@ module _ {C B : Type 0} (cache_facts : C → DiskFacts) (backing_facts : B → D
   -- there was no memory for the values of a line, one sector at least
   pub write_short : (v : View cache_facts backing_facts) (job : Job) (stamp : ℕ)
       → IsCoreSeat cache_facts backing_facts v → job.first + job.count ≤ job.size → 1 ≤ job.count
-      → WriteServes job stamp (Refused refusal.Memory) v v
+      → HasAnsweredWrite cache_facts backing_facts job stamp (Refused refusal.Memory) v v
   write_short v job stamp seat inside some =
       let q = job.first / 256 in
       let p = piece_in job.first job.count q in
@@ -329,18 +357,14 @@ module _ {C B : Type 0} (cache_facts : C → DiskFacts) (backing_facts : B → D
 
   -- ---- reading
 
-  abbrev pub ReadServes : Job → Answer → View cache_facts backing_facts → View cache_facts backing_facts
-      → Type 0
-  ReadServes job answer v w = HasAnswered cache_facts backing_facts
-      (ServesRead job.size job.worker job.line job.first job.count) answer v w
-
   pub read_done : (v w : View cache_facts backing_facts) (job : Job) (values : List Value)
-      → HasRead cache_facts backing_facts job values v w → ReadServes job (Runs job.first values) v w
+      → HasRead cache_facts backing_facts job values v w → HasAnsweredRead cache_facts backing_facts job (Runs job.first values) v w
   read_done v w job values done =
       let h = done.1 in
       let all = all_read (line_of job) (pieces job.first job.count) values h.0 h.1 in record {
         deeds = h.0;
         done = h.2;
+        did = h.1;
         serves = (done.0, refl, all.reads);
         caused = all.failed;
         calls = all.calls;
@@ -361,12 +385,13 @@ module _ {C B : Type 0} (cache_facts : C → DiskFacts) (backing_facts : B → D
   stopped_read : (error : RequestError) (v w : View cache_facts backing_facts) (job : Job) (ds : List Deed)
       → (error ≡ request.OutOfRange → ⊥) → job.first + job.count ≤ job.size → IsHaltOf error w.seen
       → IsRefusedRead error job ds → HasDone cache_facts backing_facts ds v w
-      → ReadServes job (Refused (refusal_of error)) v w
+      → HasAnsweredRead cache_facts backing_facts job (Refused (refusal_of error)) v w
   stopped_read error v w job ds other inside halted why done =
       let all = all_read (line_of job) why.served why.values why.before why.reads in
       let stop = read_stop error why.refused.first why.refused.count w.seen why.last why.stop halted in record {
         deeds = ds;
         done = done;
+        did = (error, refl, refused_reading error job ds why);
         serves = part_read error job why.served why.refused why.values (entries_by ds) other inside why.up_to
             (subst (λ (es : List Entry). AreReads job.worker job.line why.served why.values es)
             (sym (ap entries_by why.deeds ∙ entries_both why.before why.last
@@ -379,9 +404,10 @@ module _ {C B : Type 0} (cache_facts : C → DiskFacts) (backing_facts : B → D
 
   pub read_refused : (v w : View cache_facts backing_facts) (job : Job) (error : RequestError)
       → IsCoreSeat cache_facts backing_facts v → HasNotRead cache_facts backing_facts error job v w
-      → ReadServes job (Refused (refusal_of error)) v w
-  read_refused v w job request.OutOfRange seat why = outside v w
-      (ServesRead job.size job.worker job.line job.first job.count) seat why.1 (why.0, refl)
+      → HasAnsweredRead cache_facts backing_facts job (Refused (refusal_of error)) v w
+  read_refused v w job request.OutOfRange seat why = outside v w (AreReadingDeeds job)
+      (ServesRead job.size job.worker job.line job.first job.count) seat why.1
+      (request.OutOfRange, refl, refl) (why.0, refl)
   read_refused v w job (request.Fault d) seat why = let h = why.1 in
       stopped_read (request.Fault d) v w job h.1.0 (λ is. absurd (cc)) why.0 h.0 h.1.1 h.1.2
   read_refused v w job (request.Halted d) seat why = let h = why.1 in
@@ -391,15 +417,12 @@ module _ {C B : Type 0} (cache_facts : C → DiskFacts) (backing_facts : B → D
 
   -- ---- flushes
 
-  abbrev pub FlushServes : Job → Answer → View cache_facts backing_facts → View cache_facts backing_facts
-      → Type 0
-  FlushServes job answer v w = HasAnswered cache_facts backing_facts (ServesFlush job.worker job.line) answer v w
-
   pub flush_done : (v w : View cache_facts backing_facts) (job : Job)
-      → HasFlushedFor cache_facts backing_facts (line_of job) v w → FlushServes job Done v w
+      → HasFlushedFor cache_facts backing_facts (line_of job) v w → HasAnsweredFlush cache_facts backing_facts job Done v w
   flush_done v w job done = record {
     deeds = Rattle.bc_job.specs.Deeds.flush_deeds (line_of job);
     done = done;
+    did = refl;
     serves = refl;
     caused = refl;
     calls = (tt, (refl, (tt, tt)));
@@ -420,11 +443,12 @@ module _ {C B : Type 0} (cache_facts : C → DiskFacts) (backing_facts : B → D
 
   pub flush_refused : (v w : View cache_facts backing_facts) (job : Job) (error : RequestError)
       → HasNotFlushed cache_facts backing_facts error (line_of job) v w
-      → FlushServes job (Refused (refusal_of error)) v w
+      → HasAnsweredFlush cache_facts backing_facts job (Refused (refusal_of error)) v w
   flush_refused v w job error why =
       let begun = flush_stop error (line_of job) w.seen why.1.0 why.1.1 why.0 in record {
         deeds = why.1.0;
         done = why.1.2;
+        did = (error, refl, why.1.1);
         serves = begun_serves error job.worker job.line (entries_by why.1.0)
             (never_outside error (line_of job) why.1.0 why.1.1) begun.entries;
         caused = begun.stop.caused;

@@ -14,7 +14,8 @@ use Rattle.bc_script.specs.Served.{Served, ServesLine}
 use Rattle.bc_script.specs.declared.answer.Answer.{Answer}
 use Rattle.bc_script.specs.declared.line.Line.{Line}
 use Rattle.bc_script.proofs.Marks.{is_served, one_more}
-use Rattle.bc_serve.specs.Causes.{HasAnswered, entries_by}
+use Rattle.bc_serve.specs.Answered.{HasAnsweredLine}
+use Rattle.bc_serve.specs.Causes.{entries_by}
 use Rattle.bc_serve.specs.Run.{AreServedBy, HaveAnswered, IsServedBy, events_by}
 use Rattle.bc_serve.proofs.Lists.{calls_both, entries_both}
 
@@ -63,13 +64,14 @@ module _ {C B : Type 0} (cache_facts : C → DiskFacts) (backing_facts : B → D
 
   line_by : (size number : ℕ) (l : Line) (a : Answer) (u v w : View cache_facts backing_facts) (ds : List Deed)
       → HasDone cache_facts backing_facts ds u v
-      → (h : HasAnswered cache_facts backing_facts (ServesLine size number l) a v w)
+      → (h : HasAnsweredLine cache_facts backing_facts size number l a v w)
       → IsServedBy size u.first number l a v.seen w.seen h.deeds
   line_by size number l a u v w ds before h =
       let first : v.first ≡ u.first = before.same.first in
       let last : w.first ≡ u.first = h.done.same.first ∙ first in record {
         its = ap (λ n. events_by n w.seen) (sym last) ∙ h.done.own
             ∙ ap (λ n. events_by n v.seen ++ map (by n) h.deeds) first;
+        did = h.did;
         serves = h.serves;
         caused = h.caused;
         calls = h.calls;
@@ -78,7 +80,7 @@ module _ {C B : Type 0} (cache_facts : C → DiskFacts) (backing_facts : B → D
   pub more_answered : (size at : ℕ) (ls : List Line) (answers : List Answer) (l : Line) (a : Answer)
       (u v w : View cache_facts backing_facts) → at ≡ suc (length ls)
       → HaveAnswered cache_facts backing_facts size ls answers u v
-      → HasAnswered cache_facts backing_facts (ServesLine size at l) a v w
+      → HasAnsweredLine cache_facts backing_facts size at l a v w
       → HaveAnswered cache_facts backing_facts size (ls ++ l ∷ []) (answers ++ a ∷ []) u w
   more_answered size at ls answers l a u v w is before h =
       let grown = h.done.grown in

@@ -1,14 +1,10 @@
 -- Why a line is answered as it is, by what its seat did while it was served.
-use Rattle.std.specs.Prelude.{◌≡◌, ℕ, Bool, true, false, ◌||◌, List, [], ◌∷◌, ◌++◌, Option, Some, None, option_to_list}
+use Rattle.std.specs.Prelude.{◌≡◌, Bool, true, false, ◌||◌, List, [], ◌∷◌, ◌++◌, Option, Some, None, option_to_list}
 use Rattle.bc_model.specs.declared.history.Entry.{Entry}
-use Rattle.bc_disk.specs.Disk.{DiskFacts}
 use Rattle.bc_disk.specs.declared.disk.Device.TheVariants.{Backing}
 use Rattle.bc_events.specs.Columns.{Call, call_by, entry_by, halt_of}
 use Rattle.bc_events.specs.declared.event.Deed.{Deed}
 use Rattle.bc_events.specs.declared.event.Event.{Event}
-use Rattle.bc_hand.specs.Seats.{View}
-use Rattle.bc_deed.specs.Flushed.{HasDone}
-use Rattle.bc_script.specs.Served.{ServesForced, ServesWrite}
 use Rattle.bc_script.specs.declared.answer.Answer.{Answer}
 use Rattle.bc_script.specs.declared.answer.Answer.TheVariants.{Silent, Done, Runs, Refused}
 use Rattle.bc_script.specs.declared.answer.Refusal.TheVariants.{OutOfRange, NoBucket, Fault, Halted, Memory, JournalEnd, Node}
@@ -51,20 +47,3 @@ IsCaused (Refused Memory) seen ds = has_failed ds ≡ false
 IsCaused (Refused (NoBucket purpose none_len own_len)) seen ds = ⊥
 IsCaused (Refused JournalEnd) seen ds = ⊥
 IsCaused (Refused (Node bucket why)) seen ds = ⊥
-
--- a line of writing, forced or not
-abbrev pub WritingServes : Bool → ℕ → ℕ → ℕ → ℕ → ℕ → ℕ → Answer → List Entry → Type 0
-WritingServes false size worker number first count stamp answer entries =
-    ServesWrite size worker number first count stamp answer entries
-WritingServes true size worker number first count stamp answer entries =
-    ServesForced size worker number first count stamp answer entries
-
-module _ {C B : Type 0} (cache_facts : C → DiskFacts) (backing_facts : B → DiskFacts) where
-  -- the deeds of the seat serve the line and are why it is answered so
-  pub record HasAnswered (Serves : Answer → List Entry → Type 0) (answer : Answer)
-      (v w : View cache_facts backing_facts) : Type 0 where
-    pub deeds : List Deed
-    pub done : HasDone cache_facts backing_facts deeds v w
-    pub serves : Serves answer (entries_by deeds)
-    pub caused : IsCaused answer w.seen deeds
-    pub calls : CallsBacking deeds

@@ -18,17 +18,19 @@ use Rattle.bc_script.specs.declared.answer.Answer.{Answer}
 use Rattle.bc_script.specs.declared.line.Line.{Line}
 use Rattle.bc_serve.specs.Causes.{CallsBacking, IsCaused, entries_by}
 use Rattle.bc_serve.specs.Closed.{ClosedBy}
+use Rattle.bc_serve.specs.Deeds.{AreDeedsFor}
 use Rattle.bc_serve.specs.declared.closing.Closing.{Closing}
 
--- the events of the seat i
+-- the events of the seat i: of a list of the core, what `events_by` of bc_parts is there
 abbrev pub events_by : ℕ → List Event → List Event
 events_by i es = filter (λ e. e.seat == i) es
 
 -- The seat i served the line of this number with these deeds, which are all of its own between two
--- points of the run; by the second it had answered.
+-- points of the run, and just those that such an answer takes; by the second it had answered.
 pub record IsServedBy (size i number : ℕ) (l : Line) (answer : Answer) (before seen : List Event)
     (ds : List Deed) : Type 0 where
   pub its : events_by i seen ≡ events_by i before ++ map (by i) ds
+  pub did : AreDeedsFor size number l answer ds
   pub serves : ServesLine size number l answer (entries_by ds)
   pub caused : IsCaused answer seen ds
   pub calls : CallsBacking ds

@@ -5,8 +5,7 @@ ghost use Rattle.bc_deed.specs.Asked.{size_of};
 ghost use Rattle.bc_job.specs.Asked.{IsFor, IsIdle, IsRange};
 ghost use Rattle.bc_script.specs.Answer.{IsPrintable};
 ghost use Rattle.bc_script.specs.Proper.{IsLine};
-ghost use Rattle.bc_script.specs.Served.{ServesRead, ServesFlush, ServesLine};
-ghost use Rattle.bc_serve.specs.Causes.{HasAnswered, WritingServes};
+ghost use Rattle.bc_serve.specs.Answered.{HasAnsweredFlush, HasAnsweredLine, HasAnsweredRead, HasAnsweredWrite};
 ghost use Rattle.bc_serve.specs.Refusals.{refusal_of};
 ghost use Rattle.bc_serve.specs.Run.{HaveAnswered};
 
@@ -52,8 +51,7 @@ fn serve_write<C: Disk + Drop, B: Disk + Drop, R: Wait, G: Gate>(
     requires stamp { 1 ≤ stamp }
     ensures idle { IsIdle C.facts B.facts parts.now seat.new }
     ensures printable { IsPrintable result }
-    ensures serves { HasAnswered C.facts B.facts (WritingServes job.now.force job.now.size
-        job.now.worker job.now.line job.now.first job.now.count stamp) result seat.old seat.new }
+    ensures serves { HasAnsweredWrite C.facts B.facts job.now stamp result seat.old seat.new }
 {
     if job.is_outside() {
         return Answer::Refused(Refusal::OutOfRange);
@@ -82,8 +80,7 @@ fn serve_read<C: Disk + Drop, B: Disk + Drop, R: Wait, G: Gate>(
     requires its { IsFor C.facts B.facts job.now seat.old }
     ensures idle { IsIdle C.facts B.facts parts.now seat.new }
     ensures printable { IsPrintable result }
-    ensures serves { HasAnswered C.facts B.facts (ServesRead job.now.size job.now.worker
-        job.now.line job.now.first job.now.count) result seat.old seat.new }
+    ensures serves { HasAnsweredRead C.facts B.facts job.now result seat.old seat.new }
 {
     match read(rt, alloc, parts, seat, job, gate) {
         Ok(values) => Answer::Runs {
@@ -106,8 +103,7 @@ fn serve_flush<C: Disk + Drop, B: Disk + Drop, R: Wait, G: Gate>(
     requires its { IsFor C.facts B.facts job.now seat.old }
     ensures idle { IsIdle C.facts B.facts parts.now seat.new }
     ensures printable { IsPrintable result }
-    ensures serves { HasAnswered C.facts B.facts (ServesFlush job.now.worker job.now.line)
-        result seat.old seat.new }
+    ensures serves { HasAnsweredFlush C.facts B.facts job.now result seat.old seat.new }
 {
     match flush(rt, parts, seat, job, gate) {
         Ok(()) => Answer::Done,
@@ -132,8 +128,7 @@ fn serve_line<C: Disk + Drop, B: Disk + Drop, R: Wait, G: Gate>(
     requires line { IsLine line }
     ensures idle { IsIdle C.facts B.facts parts.now seat.new }
     ensures printable { IsPrintable result }
-    ensures serves { HasAnswered C.facts B.facts (ServesLine size number line)
-        result seat.old seat.new }
+    ensures serves { HasAnsweredLine C.facts B.facts size number line result seat.old seat.new }
 {
     let Line::Request { worker, action, .. } = line else {
         return Answer::Silent;

@@ -4,7 +4,8 @@ use Rattle.bc_model.specs.Sector.{Value}
 use Rattle.bc_model.specs.Values.{patterns}
 use Rattle.bc_script.specs.declared.answer.Answer.{Answer}
 use Rattle.bc_serve.proofs.Stamps.{length_patterns}
-use Rattle.bc_serve.proofs.Answering.{WriteServes, outside_writing, write_done, write_refused, write_short}
+use Rattle.bc_serve.specs.Answered.{HasAnsweredWrite}
+use Rattle.bc_serve.proofs.Answering.{outside_writing, write_done, write_refused, write_short}
 use Rattle.bc_serve.proofs.in_order.serve_write.Goals as goal
 
 pub returns-then-is_outside-clause-serves : goal.returns-then-is_outside-clause-serves
@@ -30,7 +31,7 @@ returns-in-Ok-write-clause-serves g c = write_done g.C.Disk.facts g.B.Disk.facts
     c.args.job.now.count) c.new-values.ensures) c.in-Ok-write.ensures.ok
 
 pub returns-clause-serves : goal.returns-clause-serves
-returns-clause-serves g c = subst (λ (a : Answer). WriteServes g.C.Disk.facts g.B.Disk.facts c.args.job.now
+returns-clause-serves g c = subst (λ (a : Answer). HasAnsweredWrite g.C.Disk.facts g.B.Disk.facts c.args.job.now
     c.args.stamp a c.args.seat.now c.write.new.seat) (sym c.refused.ensures)
     (write_refused g.C.Disk.facts g.B.Disk.facts c.args.seat.now c.write.new.seat c.args.job.now c.args.stamp
     c.push_pattern.new.self c.in-Err.error c.requires.idle.works.seat (c.in-Ok.ensures.ok ∙ ap (λ (vs : List Value). vs ++ patterns c.args.stamp c.args.job.now.first
