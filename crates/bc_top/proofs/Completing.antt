@@ -128,3 +128,34 @@ module _ (cache cache' backing backing' : DiskFacts) where
   device_rose source left stop.Source cause is = absurd (let no : statuses.Source ≡ statuses.Device = is in cc)
   device_rose source left stop.Memory cause is = absurd (let no : statuses.Memory ≡ statuses.Device = is in cc)
   device_rose source left (stop.Fault d) cause is = opening_rose d cause.1
+
+-- a call that ended with a fault of the source has a count of that which rose
+pub source_rose : (source left : StreamFacts) (cache cache' backing backing' : DiskFacts) (why : Stop)
+    → IsServeCause why source left cache cache' backing backing' → status_of why ≡ statuses.Source
+    → HasRisen source.faults left.faults
+source_rose source left cache cache' backing backing' stop.Usage cause is = absurd cause
+source_rose source left cache cache' backing backing' (stop.Trace e) cause is =
+    absurd (let no : statuses.Trace ≡ statuses.Source = is in cc)
+source_rose source left cache cache' backing backing' (stop.Superblock d number) cause is =
+    absurd (let no : statuses.Superblock ≡ statuses.Source = is in cc)
+source_rose source left cache cache' backing backing' (stop.Image number) cause is =
+    absurd (let no : statuses.Image ≡ statuses.Source = is in cc)
+source_rose source left cache cache' backing backing' stop.Unserved cause is =
+    absurd (let no : statuses.Image ≡ statuses.Source = is in cc)
+source_rose source left cache cache' backing backing' (stop.Fault d) cause is =
+    absurd (let no : statuses.Device ≡ statuses.Source = is in cc)
+source_rose source left cache cache' backing backing' stop.Source cause is = cause.0
+source_rose source left cache cache' backing backing' stop.Memory cause is =
+    absurd (let no : statuses.Memory ≡ statuses.Source = is in cc)
+
+-- no call ends by the sink before its command is done
+pub never_sink : (why : Stop) → status_of why ≡ statuses.Sink → ⊥
+never_sink stop.Usage is = absurd (let no : statuses.Usage ≡ statuses.Sink = is in cc)
+never_sink (stop.Trace e) is = absurd (let no : statuses.Trace ≡ statuses.Sink = is in cc)
+never_sink (stop.Superblock d number) is =
+    absurd (let no : statuses.Superblock ≡ statuses.Sink = is in cc)
+never_sink (stop.Image number) is = absurd (let no : statuses.Image ≡ statuses.Sink = is in cc)
+never_sink stop.Unserved is = absurd (let no : statuses.Image ≡ statuses.Sink = is in cc)
+never_sink (stop.Fault d) is = absurd (let no : statuses.Device ≡ statuses.Sink = is in cc)
+never_sink stop.Source is = absurd (let no : statuses.Source ≡ statuses.Sink = is in cc)
+never_sink stop.Memory is = absurd (let no : statuses.Memory ≡ statuses.Sink = is in cc)

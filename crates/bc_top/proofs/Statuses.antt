@@ -246,6 +246,12 @@ module _ (status : Status) (answers : List Answer) (how : Closing) (old new : St
   pub ended_otherwise : IsRefusal status → ⊥
   ended_otherwise refused = none_refused status refused known
 
+  pub never_source : status ≡ statuses.Source → ⊥
+  never_source is = apart (λ e. let no : statuses.Done ≡ statuses.Source = sym e ∙ is in cc)
+      (λ e. let no : statuses.Device ≡ statuses.Source = sym e ∙ is in cc)
+      (λ e. let no : statuses.Sink ≡ statuses.Source = sym e ∙ is in cc)
+      (λ e. let no : statuses.Memory ≡ statuses.Source = sym e ∙ is in cc) known
+
   pub sink_stopped : status ≡ statuses.Sink → HasStopped old new
   sink_stopped is = stops end.printed end.printed.put answers old end.between new _ end.lines end.message (eight _ how _ _ (sym end.ends ∙ is))
 

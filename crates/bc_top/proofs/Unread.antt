@@ -1,5 +1,5 @@
 -- What the words come to that aren't read.
-use Rattle.std.proofs.Common.{◌≡◌, ℕ, List, refl, subst, ◌∙◌}
+use Rattle.std.proofs.Common.{◌≡◌, ◌⊎◌, inl, inr, ℕ, List, refl, subst, ◌∙◌}
 use Rattle.std.specs.Prelude.{Result, Ok, Err, IfOk, IfErr, String, map, string_bytes}
 use Rattle.std.specs.declared.alloc.Global.{Global}
 use Rattle.bc_disk.specs.Stream.{StreamFacts}
@@ -28,3 +28,13 @@ pub lacks : {C B : Type 0} {cache : C} {backing : B} (words : List (String Globa
     → LacksMemory status cache cache backing backing old new
 lacks words Usage status command why says is told = absurd (why command says.0 says.1)
 lacks words Memory status command why says is told = record { status_is = is; cache_is = refl; backing_is = refl; told = told }
+
+-- words that aren't read have no status but these
+pub never_read : (error : WordsError) (status : Status) → status ≡ status_of (words_stop error)
+    → (status ≡ statuses.Device) ⊎ (status ≡ statuses.Source) ⊎ (status ≡ statuses.Sink) → ⊥
+never_read Usage status ends (inl is) = cc
+never_read Usage status ends (inr (inl is)) = cc
+never_read Usage status ends (inr (inr is)) = cc
+never_read Memory status ends (inl is) = cc
+never_read Memory status ends (inr (inl is)) = cc
+never_read Memory status ends (inr (inr is)) = cc

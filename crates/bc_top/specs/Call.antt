@@ -1,5 +1,5 @@
 -- What a call of the program promises, by what it was given and what it leaves.
-use Rattle.std.specs.Prelude.{◌≡◌, ◌⊎◌, IsNone, List, String}
+use Rattle.std.specs.Prelude.{◌≡◌, ◌⊎◌, IfSome, IsNone, List, String}
 use Rattle.std.specs.declared.alloc.Global.{Global}
 use Rattle.bc_disk.specs.Device.{HasRisen}
 use Rattle.bc_disk.specs.Disk.{DiskFacts}
@@ -11,6 +11,7 @@ use Rattle.bc_words.specs.declared.command.Command.{Command}
 use Rattle.bc_top.specs.Ended.{HasStopped, IsPutOf}
 use Rattle.bc_top.specs.Idle.{HasOpened}
 use Rattle.bc_top.specs.Opened.{AsksForNone}
+use Rattle.bc_top.specs.Run.{HasServed}
 use Rattle.bc_top.specs.Stops.{IsRefusal, message_of, status_of}
 use Rattle.bc_top.specs.Top.{AnswersPair, AreSame, Does, IsCheck, IsServeCause, LacksMemory, OneHasRisen, SpellsTrace}
 use Rattle.bc_top.specs.declared.exit.Exit.{Exit}
@@ -84,3 +85,29 @@ module _ {C B : Type 0} (cache_facts : C → DiskFacts) (backing_facts : B → D
       → ((it.status ≡ statuses.Done) ⊎ (it.status ≡ statuses.Usage)
       ⊎ (it.status ≡ statuses.Superblock) ⊎ (it.status ≡ statuses.Memory))
       ⊎ ((it.status ≡ statuses.Image) × IsCheck words)
+
+  -- What every command promises: what it refuses it refuses before anything is written, and a status
+  -- that names a device, the source or the sink has its cause there.
+  pub record HasCause (source left old new : StreamFacts) : Type 0 where
+    pub unwritten : KeepsWhatItRefuses
+    pub by_device : it.status ≡ statuses.Device → DeviceRose
+    pub by_source : it.status ≡ statuses.Source → HasRisen source.faults left.faults
+    pub by_sink : it.status ≡ statuses.Sink → HasStopped old new
+
+  -- What the command that serves a trace promises.
+  pub record ServesOver (source left old new : StreamFacts) : Type 0 where
+    -- a run is one over the backing device alone: the cache device isn't touched
+    pub untouched : IfSome it.pass (λ _. it.cache ≡ cache)
+    -- Where no run began the status has its cause, the message was put, and no sector was written;
+    -- or a pair with a cache was opened and closed, and whatever a crash leaves shows what it showed.
+    pub stopped : HasNotBegun source left old new
+    -- The pass is that of a run whose answers serve the trace, and which give the status, the lines
+    -- and the message; whatever a crash leaves shows for each sector a value no older than the last
+    -- acknowledged flush, and at status `Done` its last write. No sector outside of the data is
+    -- written.
+    pub run : IfSome it.pass (HasServed cache_facts backing_facts it.status source left
+        backing it.backing old new)
+    pub complete : Completes source left old new
+    -- A pair with a cache is answered by its first refusal. Where it has none it isn't served yet,
+    -- and if nothing is asked of it, it is opened and closed.
+    pub judged : IsJudged source left old new

@@ -1,9 +1,7 @@
 //! The command that serves a trace.
-ghost use Rattle.std.specs.Prelude.{◌≡◌, ◌*◌, ◌≤◌, false, true, IfOk, IfErr, IfSome};
+ghost use Rattle.std.specs.Prelude.{◌≡◌, ◌*◌, ◌≤◌, false, true, IfOk, IfErr};
 ghost use Rattle.std.specs.Bool.{MatchBool};
-ghost use Rattle.bc_disk.specs.Device.{HasRisen};
 ghost use Rattle.bc_script.specs.Trace.{IsTrace, IsWhole};
-ghost use Rattle.bc_top.specs.Ended.{HasStopped};
 ghost use Rattle.bc_open.specs.Left.{LeavesThePair};
 ghost use Rattle.bc_recover.specs.Read.{HasParts, IsReadOf};
 ghost use Rattle.bc_replay.specs.Causes.{OfHeld};
@@ -11,8 +9,7 @@ ghost use Rattle.bc_super.specs.Reading.{ReadsSuper};
 ghost use Rattle.bc_top.specs.Opened.{IsOpeningCause};
 ghost use Rattle.bc_top.specs.Idle.{EndsOpening};
 ghost use Rattle.bc_top.specs.Ready.{IsCached, IsReady};
-ghost use Rattle.bc_top.specs.Run.{HasServed};
-ghost use Rattle.bc_top.specs.Call.{Completes, DeviceRose, HasNotBegun, IsJudged, KeepsWhatItRefuses};
+ghost use Rattle.bc_top.specs.Call.{HasCause, ServesOver};
 ghost use Rattle.bc_top.specs.Top.{AreSame, AskNothing, AskSomething, IsServeCause};
 
 use crate::ending::report;
@@ -156,35 +153,11 @@ pub fn serve<R: Wait, C: Disk + Drop, B: Disk + Drop, S: Source, K: Sink>(
     backing: B,
     out: &mut K,
 ) -> Exit<C, B>
-    ensures cache { IfSome result.pass (λ _. result.cache ≡ cache) }
-
-    // Where no run began the status has its cause, the message was put, and no sector was written; or
-    // a pair with a cache was opened and closed, and whatever a crash leaves shows what it showed.
-    ensures stopped { HasNotBegun C.facts B.facts cache backing result
-        (S.facts trace.old) (S.facts trace.new) (K.facts out.old) (K.facts out.new) }
-    ensures unwritten { KeepsWhatItRefuses C.facts B.facts cache backing result }
-
-    // The pass is that of a run whose answers serve the trace, and which give the status, the lines
-    // and the message; whatever a crash leaves shows for each sector a value no older than the last
-    // acknowledged flush, and at status `Done` its last write. No sector outside of the data is
-    // written.
-    ensures run { IfSome result.pass (HasServed C.facts B.facts result.status (S.facts trace.old)
-        (S.facts trace.new) backing result.backing (K.facts out.old) (K.facts out.new)) }
-
-    // `Memory` alone has no cause in the devices, the source and the sink.
-    ensures used { (result.status ≡ Status.Usage) → ⊥ }
-    ensures device { result.status ≡ Status.Device
-        → DeviceRose C.facts B.facts cache backing result }
-    ensures source { result.status ≡ Status.Source
-        → HasRisen (S.facts trace.old).faults (S.facts trace.new).faults }
-    ensures sink { result.status ≡ Status.Sink → HasStopped (K.facts out.old) (K.facts out.new) }
-    ensures complete { Completes C.facts B.facts cache backing result
-        (S.facts trace.old) (S.facts trace.new) (K.facts out.old) (K.facts out.new) }
-
-    // A pair with a cache is answered by its first refusal. Where it has none it isn't served yet,
-    // and if nothing is asked of it, it is opened and closed.
-    ensures judged { IsJudged C.facts B.facts cache backing result
-        (S.facts trace.old) (S.facts trace.new) (K.facts out.old) (K.facts out.new) }
+    ensures serves { ServesOver C.facts B.facts cache backing result (S.facts trace.old)
+        (S.facts trace.new) (K.facts out.old) (K.facts out.new) }
+    ensures cause { HasCause C.facts B.facts cache backing result (S.facts trace.old)
+        (S.facts trace.new) (K.facts out.old) (K.facts out.new) }
+    ensures used { result.status ≡ Status.Usage → ⊥ }
 {
     let mut cache = cache;
     let mut backing = backing;

@@ -1,10 +1,7 @@
 //! The program but for its two files: from the words of a command to what is printed.
 ghost use Rattle.std.specs.Prelude.{◌≡◌, IfSome};
-ghost use Rattle.bc_disk.specs.Device.{HasRisen};
 ghost use Rattle.bc_output.specs.declared.message.Message.{Message};
-ghost use Rattle.bc_top.specs.Ended.{HasStopped};
-ghost use Rattle.bc_top.specs.Run.{HasServed};
-ghost use Rattle.bc_top.specs.Call.{Completes, DeviceRose, EndsWell, HasNotBegun, IsJudged, IsUnknown, KeepsWhatItRefuses, Obeys, OnlyTells};
+ghost use Rattle.bc_top.specs.Call.{EndsWell, HasCause, IsUnknown, Obeys, OnlyTells, ServesOver};
 ghost use Rattle.bc_top.specs.Top.{IsServe, Says, SaysNone};
 ghost use Rattle.bc_pair.specs.Causes.{KeepsOthers};
 ghost use Rattle.bc_words.specs.declared.command.Command.{Command};
@@ -50,35 +47,14 @@ pub fn bcache<R: Wait, C: Disk + Drop, B: Disk + Drop, S: Source, K: Sink>(
 
     ensures unread { (IsServe words.now → ⊥) → trace.new ≡ trace.old }
 
-    // A run began only where a trace is served, and then the cache device isn't touched.
-    ensures cache { IfSome result.pass (λ _. IsServe words.now × (result.cache ≡ cache)) }
-
-    // Where no run began the status has its cause, the message was put, and no sector was written; or
-    // a pair with a cache was opened and closed, and whatever a crash leaves shows what it showed.
-    ensures stopped { IsServe words.now → HasNotBegun C.facts B.facts cache backing result
+    // `serve` serves a trace. No other command begins a run.
+    ensures serves { IsServe words.now → ServesOver C.facts B.facts cache backing result
         (S.facts trace.old) (S.facts trace.new) (K.facts out.old) (K.facts out.new) }
-    ensures unwritten { KeepsWhatItRefuses C.facts B.facts cache backing result }
+    ensures begun { IfSome result.pass (λ _. IsServe words.now) }
 
-    // The pass is that of a run whose answers serve the trace, and which give the status, the lines
-    // and the message; whatever a crash leaves shows for each sector a value no older than the last
-    // acknowledged flush, and at status `Done` its last write. No sector outside of the data is
-    // written.
-    ensures run { IfSome result.pass (HasServed C.facts B.facts result.status (S.facts trace.old)
-        (S.facts trace.new) backing result.backing (K.facts out.old) (K.facts out.new)) }
-
-    // `Memory` alone has no cause in the devices, the source and the sink.
-    ensures device { result.status ≡ Status.Device
-        → DeviceRose C.facts B.facts cache backing result }
-    ensures source { result.status ≡ Status.Source
-        → HasRisen (S.facts trace.old).faults (S.facts trace.new).faults }
-    ensures sink { result.status ≡ Status.Sink → HasStopped (K.facts out.old) (K.facts out.new) }
-    ensures complete { IsServe words.now → Completes C.facts B.facts cache backing result
-        (S.facts trace.old) (S.facts trace.new) (K.facts out.old) (K.facts out.new) }
-
-    // A pair with a cache is answered by its first refusal. Where it has none it isn't served yet,
-    // and if nothing is asked of it, it is opened and closed.
-    ensures judged { IsServe words.now → IsJudged C.facts B.facts cache backing result
-        (S.facts trace.old) (S.facts trace.new) (K.facts out.old) (K.facts out.new) }
+    // Why it ends so; `Memory` alone needs no cause.
+    ensures cause { HasCause C.facts B.facts cache backing result (S.facts trace.old)
+        (S.facts trace.new) (K.facts out.old) (K.facts out.new) }
 
     // Where nothing fails, any other command is done or says why it isn't.
     ensures ends { (IsServe words.now → ⊥) → EndsWell C.facts B.facts cache backing result

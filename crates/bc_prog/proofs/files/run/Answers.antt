@@ -15,12 +15,12 @@ returns-in-Ok-clause-unknown g c = λ other. unknown _ (c.bcache.ensures.unknown
 
 pub returns-in-Ok-clause-done : goal.returns-in-Ok-clause-done
 returns-in-Ok-clause-done g c = λ serves zero.
+    let over = c.bcache.ensures.serves (subst IsServe (sym (to_end 2 c.args.words.now)) serves) in
     elim (began _ _ _ _ _ _ _ _ _ _ _ _
-    (λ none. elim (c.bcache.ensures.stopped
-    (subst IsServe (sym (to_end 2 c.args.words.now)) serves) none) [
+    (λ none. elim (over.stopped none) [
       | inl it ↦ inl (it.0, it.1)
       | inr opened ↦ inr opened
-    ]) c.bcache.ensures.run zero) [
+    ]) over.run zero) [
       | inl run ↦ (let done = run.1.done zero in inl (record {
         lines = run.1.lines;
         trace = run.1.trace;
