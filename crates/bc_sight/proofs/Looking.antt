@@ -203,8 +203,8 @@ module _ {C B : Type 0} (cache_facts : C → DiskFacts) (backing_facts : B → D
         let there = buckets_at b is_b did.is.before did.is.since in
         subst (KnowsUses o b.buckets)
         (sym (looked_claim o.opening (replay o did.is.before.log) v.first number)) (record {
-          cut = (there o is).cut;
-          data_from = (there o is).data_from;
+          cut = (there o is course).cut;
+          data_from = (there o is course).data_from;
           uses = λ s q r covers at bucket within same. uses_of b did.is.before o there
               is course s q r at bucket within same;
         })) (claim_range v works.seat)
