@@ -1,36 +1,67 @@
 -- A leaf that is fetched stands for the core's.
-use Rattle.std.proofs.Common.{◌≡◌, ℕ, ◌+◌, ◌-◌, ◌≤◌, ◌%◌, List, Option, Some, None, length, refl, sym, ap, subst, ◌∙◌, arith}
-use Rattle.std.specs.Prelude.{Contains, IfSome}
+use Rattle.std.proofs.Common.{◌≡◌, inl, inr, [], ℕ, ◌+◌, ◌-◌, ◌≤◌, ◌%◌, List, Option, Some, None, length, refl, sym, ap, subst, ◌∙◌, arith}
+use Rattle.std.specs.Prelude.{Contains, IfSome, OnErr, Result, Ok, Err, is_some}
 use Rattle.bc_cache.specs.Fetch.{IsUsed}
 use Rattle.bc_cache.specs.Slots.{Misses, NodeCache}
+use Rattle.bc_deed.proofs.May.{did_nothing}
 use Rattle.bc_disk.specs.Disk.{DiskFacts}
+use Rattle.bc_disk.specs.declared.disk.Device.TheVariants as device
+use Rattle.bc_events.specs.declared.event.Deed.{Deed}
+use Rattle.bc_events.specs.declared.event.Deed.TheVariants as deed
+use Rattle.bc_events.specs.declared.event.Failure.TheVariants as failure
 use Rattle.bc_fetched.proofs.Law.{law_fetched, ptr_is}
-use Rattle.bc_hand.specs.Seats.{Works, numbers, world}
+use Rattle.bc_hand.specs.Seats.{Did, Works, numbers, with_leaves, with_part, world}
+use Rattle.bc_hand.specs.declared.error.StepError.{StepError}
+use Rattle.bc_hand.specs.declared.error.StepError.TheVariants as steps
 use Rattle.bc_hand.specs.declared.hand.Hand.{Hand}
 use Rattle.bc_hand.specs.declared.hand.LeafHand.{LeafHand}
-use Rattle.bc_hand.proofs.Knowing.{View}
-use Rattle.bc_key.specs.Key.{pointer_of, ptr_at}
+use Rattle.bc_hand.proofs.Between.{did_between}
+use Rattle.bc_hand.proofs.Knowing.{View, m}
+use Rattle.bc_key.specs.Key.{ptr_at}
 use Rattle.bc_key.specs.declared.key.Key.{Key}
 use Rattle.bc_key.specs.declared.ptr.Ptr.{Ptr}
-use Rattle.bc_machine.specs.Containers.{AreLeavesOf, IsLeafFor, IsTreeLeaf}
+use Rattle.bc_machine.specs.Containers.{IsLeafFor, IsTreeLeaf}
 use Rattle.bc_machine.specs.Standing.{begun_stays}
 use Rattle.bc_machine.specs.World.{AreLeaves, Begun, IsCourseOf, IsOrigin, IsSpine, Origin, World, opening, replay}
 use Rattle.bc_machine.specs.declared.part.CorePart.{CorePart}
-use Rattle.bc_model.specs.Sector.{Image, values_of}
+use Rattle.bc_model.specs.Sector.{values_of}
 use Rattle.bc_node.specs.Leaf.{Leaf}
-use Rattle.bc_node.specs.Loading.{IsDecoded}
-use Rattle.bc_parts.specs.Seat.{PartsView, Run}
+use Rattle.bc_node.specs.Loading.{IsDecoded, IsNotDecoded}
+use Rattle.bc_node.specs.declared.error.NodeError.{NodeError}
+use Rattle.bc_node.specs.declared.error.NodeError.TheVariants as nodes
+use Rattle.bc_parts.specs.Seat.{Holds, PartsView, Run}
 use Rattle.bc_record.specs.Sectors.{Has}
 use Rattle.bc_reload.specs.Reload.{NamesLeaf}
+use Rattle.bc_seats.specs.Seats.{Waited}
 use Rattle.bc_shares.specs.Shares.{leaf_share, shape_of}
 use Rattle.bc_spine.specs.declared.leaf.LeafRange.{LeafRange}
+use Rattle.bc_sight.specs.Asked.{HasFailedRead}
 use Rattle.bc_tree.specs.Spine.{Spine}
-use Rattle.bc_fetch.specs.Fetch.{HasPart, IsPutInto, MayStandIn}
+use Rattle.bc_fetch.specs.Fetch.{HasPart, IsInSpine, IsLeafStop, IsNoLeaf, IsPutInto, IsSameButCache, MayStandAt, MayStandIn, OfLeaves, node_read, refusal}
+use Rattle.bc_fetch.specs.declared.error.LeafError.{LeafError}
+use Rattle.bc_fetch.specs.declared.error.LeafError.TheVariants as errors
 use Rattle.bc_fetch.proofs.Slots.{put_stands, use_stands}
 
 pub some_of : {A : Type 0} (P : A → Type 0) (o : Option A) (x : A) → o ≡ Some x → IfSome o P → P x
 some_of P None x is h = absurd (cc)
 some_of P (Some y) x is h = let same : y ≡ x = cc in subst P same h
+
+some_same : {A : Type 0} (a b : A) (o : Option A) → o ≡ Some a → o ≡ Some b → a ≡ b
+some_same a b o p q = cc
+
+-- what is said of the part in hand
+pub of_leaves : {C B : Type 0} (h : Hand C B) (P : NodeCache → Type 0) → OfLeaves h P
+    → (l : LeafHand) → h.leaves ≡ Some l → P l.cache
+of_leaves h P of l is = subst (λ (k : LeafHand). P k.cache) (some_same of.0 l h.leaves of.1 is) of.2
+
+-- the part that was put into the hand
+pub has_part : {C B : Type 0} (old new : Hand C B) (part : ℕ) (cache : NodeCache)
+    → new ≡ record old { leaves = Some (record { part = part; cache = cache }) } → HasPart new part
+has_part old new part cache is = record {
+  hand = record { part = part; cache = cache };
+  is = ap (λ (h : Hand _ _). h.leaves) is;
+  part_is = refl;
+}
 
 -- ---- the part
 
@@ -124,3 +155,164 @@ module _ {C B : Type 0} (cache_facts : C → DiskFacts) (backing_facts : B → D
       let count : (world cache_facts backing_facts v).begun.leaf_parts ≡ length p.run.start - 6 =
       leaf_count v ∙ ap (λ (r : Run (CorePart C B)). length r.start - 6) run in
       ap (λ c. n % c) count ∙ omega (arith, is)
+
+-- ---- the hand behind steps that left all but the cache device
+
+pub leaves_after : {C B : Type 0} (a b : Hand C B) → IsSameButCache a b → b.leaves ≡ a.leaves
+leaves_after a b same = ap (λ (h : Hand _ _). h.leaves) same.rest
+
+pub of_after : {C B : Type 0} (a b : Hand C B) (P : NodeCache → Type 0) → IsSameButCache a b
+    → OfLeaves a P → OfLeaves b P
+of_after a b P same of = (of.0, leaves_after a b same ∙ of.1, of.2)
+
+pub spine_after : {C B : Type 0} (a b : Hand C B) (range : LeafRange) → IsSameButCache a b
+    → IsInSpine a range → IsInSpine b range
+spine_after a b range same there = record {
+  spine = there.spine;
+  is = ap (λ (h : Hand _ _). h.spine) same.rest ∙ there.is;
+  range_in = there.range_in;
+}
+
+pub part_after : {C B : Type 0} (a b : Hand C B) (part : ℕ) → IsSameButCache a b
+    → HasPart a part → HasPart b part
+part_after a b part same has = record {
+  hand = has.hand;
+  is = leaves_after a b same ∙ has.is;
+  part_is = has.part_is;
+}
+
+-- which part is in hand
+pub its_number : {C B : Type 0} (h : Hand C B) (part : ℕ) (l : LeafHand) → HasPart h part
+    → h.leaves ≡ Some l → l.part ≡ part
+its_number h part l has is =
+    ap (λ (k : LeafHand). k.part) (some_same l has.hand h.leaves is has.is) ∙ has.part_is
+
+-- with the same leaves it is the same hand
+pub same_hand : {C B : Type 0} (h : Hand C B) (l : LeafHand) (new : NodeCache) → h.leaves ≡ Some l
+    → new ≡ l.cache → record h { leaves = Some (record { part = l.part; cache = new }) } ≡ h
+same_hand h l new is same =
+    ap (λ (c : NodeCache). record h { leaves = Some (record { part = l.part; cache = c }) }) same
+    ∙ ap (λ (o : Option LeafHand). record h { leaves = o }) (sym is)
+
+pub always_err : {A E : Type 0} {P : Type 0} (r : Result A E) → P → OnErr r P
+always_err (Ok a) p = tt
+always_err (Err e) p = p
+
+-- ---- refusals
+
+module _ {C B : Type 0} (cache_facts : C → DiskFacts) (backing_facts : B → DiskFacts) where
+  pub no_leaf : (h : Hand C B) (range : LeafRange) (v : View cache_facts backing_facts)
+      (l : LeafHand) (key : Key) (bytes : List ℕ) → h.leaves ≡ Some l → NamesLeaf range key
+      → MayStandAt cache_facts backing_facts v range.ptr.offset (values_of bytes) → (e : NodeError)
+      → IsNotDecoded l.cache.geometry key range.from bytes e
+      → IsNoLeaf cache_facts backing_facts h range (refusal e) v
+  no_leaf h range v l key bytes is names stand nodes.Memory cause = tt
+  no_leaf h range v l key bytes is names stand (nodes.First why) cause = (
+    l,
+    is,
+    record {
+      key = key;
+      names = names;
+      bytes = bytes;
+      stand = stand;
+      cause = cause;
+      not_memory = λ same. cc;
+    },
+  )
+  no_leaf h range v l key bytes is names stand nodes.Ranges cause = (
+    l,
+    is,
+    record {
+      key = key;
+      names = names;
+      bytes = bytes;
+      stand = stand;
+      cause = cause;
+      not_memory = λ same. cc;
+    },
+  )
+  no_leaf h range v l key bytes is names stand nodes.Fault cause = absurd cause
+
+  -- what a step refuses where the bytes were no leaf
+  pub stopped_by : (h : Hand C B) (range : LeafRange) (sectors : ℕ)
+      (v w : View cache_facts backing_facts) (e : LeafError)
+      → IsNoLeaf cache_facts backing_facts h range e w
+      → Did cache_facts backing_facts (Some (node_read range.ptr.offset)) v w
+      → IsLeafStop cache_facts backing_facts h range sectors e v w
+  stopped_by h range sectors v w (errors.Step steps.Memory) none did = inr did
+  stopped_by h range sectors v w (errors.Step (steps.Fault d)) none did = absurd none
+  stopped_by h range sectors v w (errors.Step (steps.Halted d)) none did = absurd none
+  stopped_by h range sectors v w errors.Busy none did = absurd none
+  stopped_by h range sectors v w errors.Outside none did = absurd none
+  stopped_by h range sectors v w errors.Missing none did = absurd none
+  stopped_by h range sectors v w (errors.Node e) none did = (none, did)
+
+  -- it is no leaf of the part in hand before either
+  pub no_leaf_before : (a b : Hand C B) (range : LeafRange) (v : View cache_facts backing_facts)
+      → IsSameButCache a b → (e : LeafError) → IsNoLeaf cache_facts backing_facts b range e v
+      → IsNoLeaf cache_facts backing_facts a range e v
+  no_leaf_before a b range v same (errors.Step steps.Memory) none = none
+  no_leaf_before a b range v same (errors.Step (steps.Fault d)) none = none
+  no_leaf_before a b range v same (errors.Step (steps.Halted d)) none = none
+  no_leaf_before a b range v same errors.Busy none = none
+  no_leaf_before a b range v same errors.Outside none = none
+  no_leaf_before a b range v same errors.Missing none = none
+  no_leaf_before a b range v same (errors.Node e) none =
+      (none.0, sym (leaves_after a b same) ∙ none.1, none.2)
+
+  -- a read that failed is a step that did
+  pub stopped_read : (h : Hand C B) (range : LeafRange) (sectors : ℕ)
+      (v w : View cache_facts backing_facts) (e : StepError)
+      → HasFailedRead cache_facts backing_facts e v w
+      → IsLeafStop cache_facts backing_facts h range sectors (errors.Step e) v w
+  stopped_read h range sectors v w (steps.Fault d) failed = failed
+  stopped_read h range sectors v w (steps.Halted d) failed = failed
+  stopped_read h range sectors v w steps.Memory failed = absurd failed
+
+-- ---- a wait before a step
+
+with_same : (k : ℕ) {A : Type 0} (a b : Option A) (ks : List ℕ) → is_some b ≡ is_some a
+    → with_part k b ks ≡ with_part k a ks
+with_same k None None ks is = refl
+with_same k None (Some y) ks is = absurd (cc)
+with_same k (Some x) None ks is = absurd (cc)
+with_same k (Some x) (Some y) ks is = refl
+
+numbers_same : {C B : Type 0} (a b : Hand C B) → IsSameButCache a b → numbers b ≡ numbers a
+numbers_same a b same =
+    ap (λ (h : Hand _ _). numbers h) same.rest
+    ∙ ap (λ ks. with_part 5 a.backing ks) (with_same 4 a.cache b.cache
+    (with_part 3 a.journal (with_part 2 a.buckets (with_part 1 a.flight (with_leaves a.leaves
+    (with_part 0 a.spine []))))) same.kind)
+
+module _ {C B : Type 0} (cache_facts : C → DiskFacts) (backing_facts : B → DiskFacts)
+    (p : PartsView (CorePart C B)) (u v : View cache_facts backing_facts) (a b : Hand C B)
+    (before : Works cache_facts backing_facts p u a) (now : Works cache_facts backing_facts p v b)
+    (same : IsSameButCache a b) (waited : Waited (m cache_facts backing_facts) u v) where
+  pub did_before : (o : Option Deed) (w : View cache_facts backing_facts)
+      → Did cache_facts backing_facts o v w → Did cache_facts backing_facts o u w
+  did_before o w did = did_between cache_facts backing_facts o u v w w
+      (λ k holds. subst (λ ks. Holds ks k)
+      (before.parts ∙ sym (numbers_same a b same) ∙ sym now.parts) holds) waited did
+      (did_nothing cache_facts backing_facts w did.seat).is refl refl did.seat
+
+  pub stop_before : (range : LeafRange) (sectors : ℕ) (e : LeafError)
+      (w : View cache_facts backing_facts)
+      → IsLeafStop cache_facts backing_facts b range sectors e v w
+      → IsLeafStop cache_facts backing_facts a range sectors e u w
+  stop_before range sectors (errors.Step steps.Memory) w (inl did) = inl (did_before None w did)
+  stop_before range sectors (errors.Step steps.Memory) w (inr did) =
+      inr (did_before (Some (node_read range.ptr.offset)) w did)
+  stop_before range sectors (errors.Step (steps.Fault d)) w stop =
+      (stop.0, did_before (Some (deed.DeviceFault (failure.Read device.Cache))) w stop.1)
+  stop_before range sectors (errors.Step (steps.Halted d)) w stop =
+      (stop.0, did_before None w stop.1)
+  stop_before range sectors errors.Busy w stop =
+      ((stop.0.0, sym (leaves_after a b same) ∙ stop.0.1, stop.0.2), did_before None w stop.1)
+  stop_before range sectors errors.Outside w stop =
+      ((stop.0.0, sym (leaves_after a b same) ∙ stop.0.1, stop.0.2), did_before None w stop.1)
+  stop_before range sectors errors.Missing w stop = absurd stop
+  stop_before range sectors (errors.Node e) w stop = (
+    (stop.0.0, sym (leaves_after a b same) ∙ stop.0.1, stop.0.2),
+    did_before (Some (node_read range.ptr.offset)) w stop.1,
+  )

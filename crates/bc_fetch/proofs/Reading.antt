@@ -1,36 +1,34 @@
 -- When a seat may read a node of the cache device, and what it knows of what was read.
-use Rattle.std.proofs.Common.{◌≡◌, ℕ, ◌+◌, ◌<◌, Bool, true, false, List, [], Option, Some, None, refl, sym, ap, ◌∙◌, subst, if◌then◌else◌, arith}
-use Rattle.std.specs.Prelude.{◌&&◌}
-use Rattle.std.proofs.lemmas.Bool.{lt-ltb}
+use Rattle.std.proofs.Common.{◌≡◌, inr, ℕ, Bool, true, false, List, Option, Some, None, refl, sym, ap, ◌∙◌, subst, if◌then◌else◌}
+use Rattle.std.specs.Prelude.{fold, ◌&&◌}
 use Rattle.bc_model.specs.Sector.{Image, Value}
 use Rattle.bc_disk.specs.Device.{Among, Content}
 use Rattle.bc_disk.specs.Disk.{Allows, DiskFacts, IfTold, IsKept, IsRead}
-use Rattle.bc_disk.proofs.Stands.{CountsFault, CountsGood, fault_stands, read_stands}
+use Rattle.bc_disk.proofs.Stands.{CountsGood, read_stands}
 use Rattle.bc_disk.specs.declared.disk.Device.TheVariants as device
 use Rattle.bc_events.specs.Columns.{halt_of}
 use Rattle.bc_events.specs.declared.event.Deed.{Deed}
 use Rattle.bc_events.specs.declared.event.Deed.TheVariants as deed
+use Rattle.bc_events.specs.declared.event.Event.{Event}
 use Rattle.bc_events.specs.declared.event.Failure.TheVariants as failure
 use Rattle.bc_hand.specs.Seats.{Did, IsCoreSeat, MayDo, by, world}
 use Rattle.bc_hand.specs.declared.error.StepError.{StepError}
 use Rattle.bc_hand.specs.declared.error.StepError.TheVariants as error
 use Rattle.bc_hand.proofs.Between.{did_between}
 use Rattle.bc_hand.proofs.Knowing.{View, framed, m}
-use Rattle.bc_deed.proofs.May.{low}
+use Rattle.bc_data.specs.Data as flow
+use Rattle.bc_deed.proofs.May.{can_alone, low}
 use Rattle.bc_machine.specs.Standing.{origin_before}
-use Rattle.bc_machine.specs.World.{IsCache, IsCourseOf, IsOrigin, Origin, World, after, are_plain, model, replay}
+use Rattle.bc_machine.specs.World.{IsCache, World, after, model, opening}
+use Rattle.bc_machine.specs.declared.part.CorePart.{CorePart}
 use Rattle.bc_machine.specs.declared.part.CorePart.TheVariants as part
-use Rattle.bc_parts.specs.Seat.{Holds}
+use Rattle.bc_parts.specs.Seat.{Holds, Run}
 use Rattle.bc_record.specs.Sectors.{Has}
 use Rattle.bc_seats.specs.Seats.{Since, Waited}
-use Rattle.bc_seats.proofs.Knowing.{held}
+use Rattle.bc_seats.proofs.Knowing.{held, lasts}
 use Rattle.bc_sight.specs.Asked.{HasFailedRead}
-use Rattle.bc_sight.proofs.Held.{cache_of}
-use Rattle.bc_sight.proofs.Reading.{held_at}
+use Rattle.bc_sight.proofs.Held.{IsHeld, held_stays, run_held}
 use Rattle.bc_fetch.specs.Fetch.{MayStandAt, MayStandIn, node_read}
-
-never : (b : Bool) → b ≡ true → b ≡ false → ⊥
-never b is off = cc
 
 and_left : (p q : Bool) → (p && q) ≡ true → p ≡ true
 and_left true q is = refl
@@ -46,19 +44,12 @@ held_told true c (Some image) may is allows = (image, refl, allows.0)
 
 module _ {C B : Type 0} (cache_facts : C → DiskFacts) (backing_facts : B → DiskFacts) where
   pub may_read_node : (v : View cache_facts backing_facts)
-      → IsCoreSeat cache_facts backing_facts v
-      → are_plain cache_facts backing_facts v.run.start ≡ false → (at : ℕ)
-      → MayDo cache_facts backing_facts v (node_read at)
-  may_read_node v seat cached at = λ x y at_ told. record {
-    enabled = record {
-      seat = lt-ltb v.first 320 (low cache_facts backing_facts v seat);
-      course = tt;
-      fit = tt;
-      its_line = tt;
-      plain = λ plain. absurd (never y.opening.machine.flow.plain plain (at_.plain ∙ cached));
-    };
-    names = tt;
-  }
+      → IsCoreSeat cache_facts backing_facts v → v.heard ≡ None → (at : ℕ) (values : List Value)
+      → MayDo cache_facts backing_facts v (deed.CacheRead at None values)
+  may_read_node v seat unheard at values = λ x y at_ told. can_alone y v.first
+      (deed.CacheRead at None values)
+      (flow.Fail flow.ReadFault) (low cache_facts backing_facts v seat) refl refl
+      (record { heard = inr (at_.late unheard); steps = tt; can = tt }) tt tt tt
 
   -- the cache device behind a commit that changed it
   committed_cache : (v w : View cache_facts backing_facts) (old new : C) (d : Deed)
@@ -87,6 +78,13 @@ module _ {C B : Type 0} (cache_facts : C → DiskFacts) (backing_facts : B → D
 
   -- ---- what was read
 
+  -- what the cache device holds to the core, at each state behind the seat's
+  held_at : (v : View cache_facts backing_facts) (x : World) → Since (m cache_facts backing_facts) v x
+      → IsHeld x
+  held_at v x since = lasts (m cache_facts backing_facts) v x IsHeld
+      (λ y e may h. held_stays y e h) since
+      (run_held cache_facts backing_facts v.run.start v.seen)
+
   -- it stands in what the device holds, which the core may read
   module _ (v : View cache_facts backing_facts) (old : C) (at : ℕ) (values : List Value)
       (read : IsRead at values (cache_facts old)) where
@@ -98,7 +96,7 @@ module _ {C B : Type 0} (cache_facts : C → DiskFacts) (backing_facts : B → D
         (and_left x.cache.told x.backing.told is.told) on.stands.content in (
           one.0,
           λ s. subst (Among (one.0 s))
-              (sym ((held_at cache_facts backing_facts v x since o is course).reads s)) (one.2 s),
+              (sym ((held_at v x since o is course).reads s)) (one.2 s),
           subst (λ (h : Option Image). IfTold h (λ image. Has image at values)) one.1 read,
         )
 
@@ -118,7 +116,15 @@ module _ {C B : Type 0} (cache_facts : C → DiskFacts) (backing_facts : B → D
         (held (m cache_facts backing_facts) (framed cache_facts backing_facts) v
         did.is.before 4 (part.Cache old) seat.seat did.is.since holds (refl, on)).1))
 
-  -- and it stays so while others act, or parts are given back
+  -- a seat that gave a part back has seen the same
+  pub seen_world : (v w : View cache_facts backing_facts) → Waited (m cache_facts backing_facts) v w
+      → w.seen ≡ v.seen → world cache_facts backing_facts w ≡ world cache_facts backing_facts v
+  seen_world v w waited seen =
+      ap (λ (es : List Event). fold after (opening cache_facts backing_facts w.run.start) es) seen
+      ∙ ap (λ (r : Run (CorePart C B)). fold after (opening cache_facts backing_facts r.start) v.seen)
+      waited.same.run
+
+  -- and it stays so
   pub stand_seen : (v w : View cache_facts backing_facts) (at : ℕ) (values : List Value)
       → world cache_facts backing_facts w ≡ world cache_facts backing_facts v
       → MayStandAt cache_facts backing_facts v at values

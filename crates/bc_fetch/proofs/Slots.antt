@@ -1,22 +1,20 @@
 -- A part with leaves goes on to stand for its share when a slot is used, emptied, or filled.
-use Rattle.std.proofs.Common.{◌≡◌, ◌≢◌, ◌⊎◌, inl, inr, ℕ, zero, suc, ◌<◌, ◌≤◌, ◌%◌, List, [], ◌∷◌, Option, Some, None, length, refl, sym, ap, subst, ◌∙◌, arith}
-use Rattle.std.specs.Prelude.{slice_get, slice_set, Contains}
+use Rattle.std.proofs.Common.{◌≡◌, ◌≢◌, ◌⊎◌, inl, inr, ℕ, zero, suc, ◌%◌, List, [], ◌∷◌, true, false, Option, Some, None, refl, sym, ap, subst, ◌∙◌, arith}
+use Rattle.std.specs.Prelude.{slice_get, slice_set, is_some, MatchOption}
 use Rattle.std.proofs.lemmas.Option.{slice_get_within}
 use Rattle.std.proofs.lemmas.Bool.{cases_eq}
 use Rattle.std.proofs.lemmas.List.{length-set}
 use Rattle.bc_cache.proofs.Changed.{set_same}
 use Rattle.bc_cache.specs.Fetch.{IsUsed}
-use Rattle.bc_cache.specs.Slots.{CanGo, HasLeaf, IsOldest, Misses, NodeCache, coming, used_with, with_slot}
+use Rattle.bc_cache.specs.Slots.{CanGo, HasLeaf, IsOldest, Misses, NodeCache, NoneCanGo, coming, used_with, with_slot}
 use Rattle.bc_cache.specs.declared.slots.Cached.{Cached}
 use Rattle.bc_disk.specs.Device.{next_count}
-use Rattle.bc_disk.specs.declared.geometry.Geometry.{Geometry}
-use Rattle.bc_facts.specs.Layout.{IsLayoutOf}
 use Rattle.bc_leaves.specs.Parts.{Pending}
 use Rattle.bc_leaves.specs.Parts as parts
 use Rattle.bc_machine.specs.Containers.{AreEntriesOf, AreLeavesOf, IsInTree, IsLeafFor}
 use Rattle.bc_node.specs.Leaf.{Leaf}
 use Rattle.bc_node.specs.declared.pending.Entries.{Entries}
-use Rattle.bc_shares.specs.Shares.{LeafShare, leaf_share}
+use Rattle.bc_shares.specs.Shares.{leaf_share}
 use Rattle.bc_whole.specs.State.{Opening}
 use Rattle.bc_fetch.specs.Fetch.{IsPutInto}
 
@@ -43,9 +41,9 @@ at_set xs i x j y at = go (cases_eq j i)
     go (inl e) = inl (
       e,
       (let lt = slice_get_within (slice_set xs i x) j y at in
-      let same = length-set xs i x in
-      some_is x y (slice_get (slice_set xs i x) i) (set_same xs i x (omega arith))
-      (subst (λ n. slice_get (slice_set xs i x) n ≡ Some y) e at)),
+          let same = length-set xs i x in
+          some_is x y (slice_get (slice_set xs i x) i) (set_same xs i x (omega arith))
+          (subst (λ n. slice_get (slice_set xs i x) n ≡ Some y) e at)),
     )
     go (inr ne) = inr (ne, sym (set_other xs i j x ne) ∙ at)
 
@@ -70,14 +68,14 @@ module _ (w : Opening) (st : parts.State) (count part : ℕ) (cache : NodeCache)
   used_stands slot cached n there = record {
     layout = h.layout;
     rest = λ i c at. elim (at_set cache.slots slot (Some (record cached { used = n })) i (Some c) at) [
-      inl e ↦ subst (λ (x : Cached). x.number % count ≡ part) (some_is _ c _ refl (sym e.1))
+      | inl e ↦ subst (λ (x : Cached). x.number % count ≡ part) (some_is _ c _ refl e.1)
           (h.rest slot cached there)
-    | inr other ↦ h.rest i c other.1
+      | inr other ↦ h.rest i c other.1
     ];
     leaves = λ i c at. elim (at_set cache.slots slot (Some (record cached { used = n })) i (Some c) at) [
-      inl e ↦ subst (λ (x : Cached). IsLeafFor w (leaf_share st x.number) x.leaf)
-          (some_is _ c _ refl (sym e.1)) (h.leaves slot cached there)
-    | inr other ↦ h.leaves i c other.1
+      | inl e ↦ subst (λ (x : Cached). IsLeafFor w (leaf_share st x.number) x.leaf)
+          (some_is _ c _ refl e.1) (h.leaves slot cached there)
+      | inr other ↦ h.leaves i c other.1
     ];
     others = λ k its live misses. h.others k its live (λ j has. go k misses j has (cases_eq j slot));
   }
@@ -110,12 +108,12 @@ module _ (w : Opening) (st : parts.State) (count part : ℕ) (cache : NodeCache)
   emptied_stands slot kept there can = record {
     layout = h.layout;
     rest = λ i c at. elim (at_set cache.slots slot None i (Some c) at) [
-      inl e ↦ absurd (let none = e.1 in cc)
-    | inr other ↦ h.rest i c other.1
+      | inl e ↦ absurd (let none = e.1 in cc)
+      | inr other ↦ h.rest i c other.1
     ];
     leaves = λ i c at. elim (at_set cache.slots slot None i (Some c) at) [
-      inl e ↦ absurd (let none = e.1 in cc)
-    | inr other ↦ h.leaves i c other.1
+      | inl e ↦ absurd (let none = e.1 in cc)
+      | inr other ↦ h.leaves i c other.1
     ];
     others = λ k its live misses. by_kept k its live misses kept there can;
   }
@@ -165,13 +163,13 @@ module _ (w : Opening) (st : parts.State) (count part : ℕ) (cache : NodeCache)
   filled_stands slot number leaf n empty its is = record {
     layout = h.layout;
     rest = λ i c at. elim (at_set cache.slots slot (Some (coming number leaf n)) i (Some c) at) [
-      inl e ↦ subst (λ (x : Cached). x.number % count ≡ part) (some_is _ c _ refl (sym e.1)) its
-    | inr other ↦ h.rest i c other.1
+      | inl e ↦ subst (λ (x : Cached). x.number % count ≡ part) (some_is _ c _ refl e.1) its
+      | inr other ↦ h.rest i c other.1
     ];
     leaves = λ i c at. elim (at_set cache.slots slot (Some (coming number leaf n)) i (Some c) at) [
-      inl e ↦ subst (λ (x : Cached). IsLeafFor w (leaf_share st x.number) x.leaf)
-          (some_is _ c _ refl (sym e.1)) is
-    | inr other ↦ h.leaves i c other.1
+      | inl e ↦ subst (λ (x : Cached). IsLeafFor w (leaf_share st x.number) x.leaf)
+          (some_is _ c _ refl e.1) is
+      | inr other ↦ h.leaves i c other.1
     ];
     others = λ k same live misses. h.others k same live (λ j has. misses j (record {
       cached = has.cached;
@@ -201,3 +199,61 @@ put_stands w st count part slot number leaf old new h is its leaf_is =
     slot number leaf (next_count old.uses)
     (set_same old.slots slot None (slice_get_within old.slots slot is.oldest.kept is.oldest.there))
     its leaf_is)
+
+-- ---- a leaf comes into a slot
+
+pub misses_emptied : (cache : NodeCache) (slot number : ℕ) → Misses cache.slots number
+    → Misses (with_slot cache slot None).slots number
+misses_emptied cache slot number misses j has =
+    elim (at_set cache.slots slot None j (Some has.cached) has.there) [
+      | inl e ↦ (let none = e.1 in cc)
+      | inr other ↦ misses j (record {
+        cached = has.cached;
+        there = other.1;
+        number_is = has.number_is;
+      })
+    ]
+
+pub put_into : (slot number : ℕ) (leaf : Leaf) (old mid new : NodeCache) → IsOldest old.slots slot
+    → mid ≡ with_slot old slot None → slice_get mid.slots slot ≡ Some None
+    → new ≡ used_with mid slot (Some (coming number leaf (next_count mid.uses)))
+    → IsPutInto slot number leaf old new
+put_into slot number leaf old mid new oldest emptied free put = record {
+  oldest = oldest;
+  after = put ∙ ap (λ (c : NodeCache).
+      used_with c slot (Some (coming number leaf (next_count c.uses)))) emptied;
+  has = subst (λ (c : NodeCache). HasLeaf c.slots slot number) (sym put) (record {
+    cached = coming number leaf (next_count mid.uses);
+    there = set_same mid.slots slot (Some (coming number leaf (next_count mid.uses)))
+        (slice_get_within mid.slots slot None free);
+    number_is = refl;
+  });
+}
+
+-- a slot that is used has its leaf still
+pub used_has : (slot number : ℕ) (old new : NodeCache) → HasLeaf old.slots slot number
+    → IsUsed slot old new → HasLeaf new.slots slot number
+used_has slot number old new has is = subst (λ (c : NodeCache). HasLeaf c.slots slot number)
+    (sym is.after) (record {
+      cached = record is.cached { used = next_count old.uses };
+      there = set_same old.slots slot (Some (record is.cached { used = next_count old.uses }))
+          (slice_get_within old.slots slot (Some is.cached) is.there);
+      number_is = ap (λ (c : Cached). c.number) (one_cached has.cached is.cached
+          (slice_get old.slots slot) has.there is.there) ∙ has.number_is;
+    })
+  where
+    one_cached : (a b : Cached) (o : Option (Option Cached)) → o ≡ Some (Some a) → o ≡ Some (Some b)
+        → b ≡ a
+    one_cached a b o p q = cc
+
+-- ---- whether a leaf can go
+
+pub none_go : (o : Option ℕ) (slots : List (Option Cached))
+    → MatchOption o (NoneCanGo slots) (IsOldest slots) → is_some o ≡ false → NoneCanGo slots
+none_go None slots is none = is
+none_go (Some slot) slots is none = absurd (cc)
+
+pub one_goes : (o : Option ℕ) (slots : List (Option Cached))
+    → MatchOption o (NoneCanGo slots) (IsOldest slots) → is_some o ≡ true → NoneCanGo slots → ⊥
+one_goes None slots is some none = absurd (cc)
+one_goes (Some slot) slots is some none = none slot is.kept is.there is.can_go

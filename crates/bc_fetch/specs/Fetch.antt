@@ -1,9 +1,11 @@
 -- What a step that fetches a leaf leaves, and why it refuses.
-use Rattle.std.specs.Prelude.{◌≡◌, ◌≢◌, ◌⊎◌, ℕ, ◌+◌, ◌<◌, List, [], Contains, Option, None, Some, is_some}
+use Rattle.std.specs.Prelude.{◌≡◌, ◌≢◌, ◌⊎◌, ℕ, ◌+◌, ◌<◌, List, [], ◌∷◌, Contains, None, Some, is_some}
 use Rattle.bc_cache.specs.declared.slots.Cached.{Cached}
 use Rattle.bc_cache.specs.Slots.{HasLeaf, IsOldest, Misses, NodeCache, NoneCanGo, coming, used_with, with_slot}
 use Rattle.bc_disk.specs.Device.{Among, next_count}
 use Rattle.bc_disk.specs.Disk.{DiskFacts}
+use Rattle.bc_deed.specs.Flushed.{HasDone}
+use Rattle.bc_disk.specs.declared.disk.Device.{Device}
 use Rattle.bc_disk.specs.declared.disk.Device.TheVariants.{Cache}
 use Rattle.bc_events.specs.Columns.{halt_of}
 use Rattle.bc_events.specs.declared.event.Deed.{Deed}
@@ -141,16 +143,25 @@ module _ {C B : Type 0} (cache_facts : C → DiskFacts) (backing_facts : B → D
 
   -- What a seat did on its way to a leaf that it has: nothing, or one read of a node.
   abbrev pub HasReadOne : View cache_facts backing_facts → View cache_facts backing_facts → Type 0
-  HasReadOne v w = Did cache_facts backing_facts None v w
-      ⊎ ((at : ℕ) × Did cache_facts backing_facts (Some (node_read at)) v w)
+  HasReadOne v w = HasDone cache_facts backing_facts [] v w
+      ⊎ ((at : ℕ) × HasDone cache_facts backing_facts (node_read at ∷ []) v w)
+
+  -- at some point of its way the seat was told of this device's halt, and it did nothing
+  abbrev pub HasHalted : Device → View cache_facts backing_facts → View cache_facts backing_facts
+      → Type 0
+  HasHalted device v w = (u : View cache_facts backing_facts)
+      × HasDone cache_facts backing_facts [] v u × (halt_of u.seen ≡ Some device)
+      × HasDone cache_facts backing_facts [] u w
 
   -- what it did by the refusal, where it hasn't one
   abbrev pub HasStoppedAt : LeafError → View cache_facts backing_facts
       → View cache_facts backing_facts → Type 0
   HasStoppedAt (errors.Step steps.Memory) v w = HasReadOne v w
-  HasStoppedAt (errors.Step e) v w = HasFailedRead cache_facts backing_facts e v w
-  HasStoppedAt errors.Busy v w = Did cache_facts backing_facts None v w
-  HasStoppedAt errors.Outside v w = Did cache_facts backing_facts None v w
+  HasStoppedAt (errors.Step (steps.Fault device)) v w = (device ≡ Cache)
+      × HasDone cache_facts backing_facts (deed.DeviceFault (failure.Read Cache) ∷ []) v w
+  HasStoppedAt (errors.Step (steps.Halted device)) v w = HasHalted device v w
+  HasStoppedAt errors.Busy v w = HasDone cache_facts backing_facts [] v w
+  HasStoppedAt errors.Outside v w = HasDone cache_facts backing_facts [] v w
   HasStoppedAt errors.Missing v w = HasReadOne v w
   HasStoppedAt (errors.Node e) v w =
-      (at : ℕ) × Did cache_facts backing_facts (Some (node_read at)) v w
+      (at : ℕ) × HasDone cache_facts backing_facts (node_read at ∷ []) v w

@@ -1,6 +1,7 @@
 //! The step that fetches a leaf.
-ghost use Rattle.std.specs.Prelude.{◌≡◌, ◌×◌, ◌+◌, ◌-◌, ◌*◌, ◌%◌, ◌<◌, ℕ, false, None, Some, length, IfOk, IfErr, OnOk, OnErr, ¬◌};
+ghost use Rattle.std.specs.Prelude.{◌≡◌, ◌+◌, ◌-◌, ◌*◌, ◌%◌, ◌<◌, ℕ, false, None, Some, length, IfOk, IfErr, OnOk, OnErr};
 ghost use Rattle.bc_cache.specs.Slots.{HasLeaf, Misses, NoneCanGo};
+ghost use Rattle.bc_deed.specs.Asked.{AreSectors};
 ghost use Rattle.bc_hand.specs.Seats.{HasNoneBehindCache, Works, Did};
 ghost use Rattle.bc_machine.specs.World.{are_plain, cache_among};
 ghost use Rattle.bc_model.specs.Sector.{values_of};
@@ -14,7 +15,7 @@ use bc_hand::error::StepError;
 use bc_hand::hand::Hand;
 use bc_machine::machine::{CoreParts, CoreSeat};
 use bc_node::{Leaf, NodeError};
-use bc_reload::leaf::key_of;
+use bc_reload::key_of;
 use bc_spine::LeafRange;
 use bc_worker::gate::Gate;
 use std::alloc::Global;
@@ -111,8 +112,44 @@ fn read_leaf<C: Disk + Drop, B: Disk + Drop, R: Wait, G: Gate>(
     let Ok(mut bytes) = vec![in alloc; 0u8; 512 * length as usize] else {
         return Err(LeafError::Step(StepError::Memory));
     };
-    match read_node(rt, alloc, parts, seat, hand, range.ptr.offset, bytes.as_mut_slice(), gate) {
-        Ok(()) => take_in(alloc, parts, seat, hand, range, bytes.as_slice()),
+    read_into(rt, alloc, parts, seat, hand, range, &mut bytes, gate)
+}
+
+// The same with room for its bytes, where it lies on the device.
+fn read_into<C: Disk + Drop, B: Disk + Drop, R: Wait, G: Gate>(
+    rt: &R,
+    alloc: Global,
+    parts: &CoreParts<C, B>,
+    seat: &mut CoreSeat<C, B>,
+    hand: &mut Hand<C, B>,
+    range: &LeafRange,
+    bytes: &mut [u8],
+    gate: &G,
+) -> Result<u32, LeafError>
+    requires works { Works C.facts B.facts parts.now seat.old hand.old }
+    requires cached { are_plain C.facts B.facts parts.now.run.start ≡ false }
+    requires order { hand.old.cache ≡ None → HasNoneBehindCache hand.old }
+    requires promise { 0 < seat.old.promises }
+    requires spine { IsInSpine hand.old range.now }
+    requires part { HasPart hand.old
+        (6 + range.now.number % (length parts.now.run.start - 6)) }
+    requires new { OfLeaves hand.old (λ c. Misses c.slots range.now.number) }
+    requires some { OfLeaves hand.old (λ c. ¬ (NoneCanGo c.slots)) }
+    requires whole { OfLeaves hand.old (λ c. length bytes.old ≡ 512 * c.geometry.node_sectors) }
+    requires sectors { AreSectors range.now.ptr.offset (length bytes.old)
+        (cache_among C.facts B.facts parts.now.run.start).sectors }
+    ensures works { Works C.facts B.facts parts.now seat.new hand.new }
+    ensures hand { IsSameButLeaves hand.old hand.new }
+    ensures ok { IfOk result (λ slot. OfLeaves hand.new
+        (λ c. HasLeaf c.slots slot range.now.number)) }
+    ensures did { OnOk result (Did C.facts B.facts (Some (node_read range.now.ptr.offset)) seat.old
+        seat.new) }
+    ensures err { IfErr result (λ error. IsLeafStop C.facts B.facts hand.old range.now
+        (cache_among C.facts B.facts parts.now.run.start).sectors error seat.old seat.new) }
+    ensures kept { OnErr result (hand.new.leaves ≡ hand.old.leaves) }
+{
+    match read_node(rt, alloc, parts, seat, hand, range.ptr.offset, bytes, gate) {
+        Ok(()) => take_in(alloc, parts, seat, hand, range, bytes),
         Err(error) => Err(LeafError::Step(error)),
     }
 }
@@ -142,7 +179,8 @@ fn take_in<C: Disk + Drop, B: Disk + Drop>(
     ensures err { IfErr result (λ error. IsNoLeaf C.facts B.facts hand.old range.now error seat.now) }
     ensures kept { OnErr result (hand.new ≡ hand.old) }
 {
-    let _ = (parts, seat);
+    let _ = parts;
+    let _ = seat;
     let Some(mut leaves) = hand.leaves.take() else {
         unreachable!()
     };

@@ -1,5 +1,5 @@
 //! The way to the leaf of a sector.
-ghost use Rattle.std.specs.Prelude.{◌≡◌, ◌×◌, ◌+◌, ◌-◌, ◌%◌, ◌<◌, ◌≤◌, ◌^◌, false, None, Some, length, slice_get, IsTrue, IfOk, IfErr, IfSome, OnOk, OnErr, OnNone};
+ghost use Rattle.std.specs.Prelude.{◌≡◌, ◌+◌, ◌-◌, ◌%◌, ◌<◌, ◌≤◌, ◌^◌, false, None, Some, length, slice_get, IsTrue, IfOk, IfErr, IfSome, OnOk, OnErr, IfNone};
 ghost use Rattle.bc_cache.specs.Slots.{IsOccupied};
 ghost use Rattle.bc_cache.specs.declared.slots.Cached.{Cached};
 ghost use Rattle.bc_hand.specs.Seats.{core, Works, HasNoneBehindSpine, HasNoneBehindLeaves, empty};
@@ -38,7 +38,7 @@ fn take_spine<C: Disk + Drop, B: Disk + Drop, R: Wait>(
     ensures some { IfSome result (λ range. IsInSpine hand.new range × (range.from ≤ first)
         × (first + count ≤ range.end)) }
     ensures hand { hand.new ≡ record empty { spine = hand.new.spine } }
-    ensures none { OnNone result (hand.new ≡ empty) }
+    ensures none { IfNone result (hand.new ≡ empty) }
 {
     let (spine, _) = borrow_spine(rt, parts, seat, hand);
     if spine.root().end() <= first {

@@ -1,8 +1,8 @@
 //! The slot of a leaf.
-ghost use Rattle.std.specs.Prelude.{◌≡◌, ◌×◌, Ok, Err, Some, None, IfOk, IfErr, IfNone, IfSome, OnErr, ¬◌};
+ghost use Rattle.std.specs.Prelude.{◌≡◌, Ok, Err, Some, None, IfOk, IfErr, IfNone, IfSome, OnErr};
 ghost use Rattle.bc_cache.specs.Fetch.{IsUsed};
 ghost use Rattle.bc_cache.specs.Slots.{HasLeaf, Misses, NoneCanGo};
-ghost use Rattle.bc_fetch.specs.Fetch.{IsPutInto, IsSlot};
+ghost use Rattle.bc_fetch.specs.Fetch.{IsPutInto};
 
 use bc_cache::NodeCache;
 use bc_node::Leaf;

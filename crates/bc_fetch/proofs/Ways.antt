@@ -1,0 +1,161 @@
+-- The way to a leaf, from an empty hand to the part with the leaf in it.
+use Rattle.std.proofs.Common.{◌≡◌, inl, inr, ℕ, ◌+◌, ◌≤◌, [], ◌∷◌, false, Option, Some, None, refl, sym, ap, ◌∙◌, subst}
+use Rattle.std.specs.Prelude.{is_some, slice_get}
+use Rattle.bc_cache.specs.Slots.{HasLeaf, IsOccupied, NodeCache}
+use Rattle.bc_cache.specs.declared.slots.Cached.{Cached}
+use Rattle.bc_deed.proofs.Sequence.{done_both, done_one, one_of}
+use Rattle.bc_deed.specs.Flushed.{HasDone}
+use Rattle.bc_disk.specs.Disk.{DiskFacts}
+use Rattle.bc_disk.specs.declared.disk.Device.TheVariants as device
+use Rattle.bc_events.specs.declared.event.Deed.{Deed}
+use Rattle.bc_events.specs.declared.event.Deed.TheVariants as deed
+use Rattle.bc_events.specs.declared.event.Failure.TheVariants as failure
+use Rattle.bc_hand.proofs.Knowing.{View, m}
+use Rattle.bc_hand.specs.Seats.{Did, IsCoreSeat, Kinds, empty, part_of}
+use Rattle.bc_hand.specs.declared.error.StepError.TheVariants as steps
+use Rattle.bc_hand.specs.declared.hand.Hand.{Hand}
+use Rattle.bc_hand.specs.declared.hand.LeafHand.{LeafHand}
+use Rattle.bc_seats.specs.Seats.{Waited}
+use Rattle.bc_spine.specs.declared.leaf.LeafRange.{LeafRange}
+use Rattle.bc_fetch.specs.Fetch.{HasFetched, HasLeafFor, HasPart, HasReadOne, HasStoppedAt, IsInSpine, IsLeafStop, IsSameButLeaves, OfLeaves, node_read}
+use Rattle.bc_fetch.specs.declared.error.LeafError.{LeafError}
+use Rattle.bc_fetch.specs.declared.error.LeafError.TheVariants as errors
+
+-- ---- the hand
+
+pub spine_leaves : {C B : Type 0} (a b : Hand C B) (range : LeafRange)
+    → b ≡ record a { leaves = b.leaves } → IsInSpine a range → IsInSpine b range
+spine_leaves a b range is there = record {
+  spine = there.spine;
+  is = ap (λ (h : Hand _ _). h.spine) is ∙ there.is;
+  range_in = there.range_in;
+}
+
+pub of_given : {C B : Type 0} (a b : Hand C B) (P : NodeCache → Type 0)
+    → b ≡ record a { spine = None } → OfLeaves a P → OfLeaves b P
+of_given a b P is of = (of.0, ap (λ (h : Hand _ _). h.leaves) is ∙ of.1, of.2)
+
+pub occupied : {C B : Type 0} (h : Hand C B) (slot number : ℕ)
+    → OfLeaves h (λ c. HasLeaf c.slots slot number) → OfLeaves h (λ c. IsOccupied c.slots slot)
+occupied h slot number of = (of.0, of.1, (of.2.cached, of.2.there))
+
+with_part_of : (o : Option LeafHand) (n : ℕ) → part_of o ≡ Some n
+    → (l : LeafHand) × (o ≡ Some l) × (l.part ≡ n)
+with_part_of None n is = absurd (cc)
+with_part_of (Some l) n is = (l, refl, cc)
+
+-- the part in hand is the same one still
+pub part_given : {C B : Type 0} (a b c : Hand C B) (part : ℕ) → HasPart a part
+    → IsSameButLeaves a b → c ≡ record b { spine = None } → HasPart c part
+part_given a b c part has same is =
+    let one = with_part_of b.leaves part (ap (λ (k : Kinds). k.leaves) same.kinds_are
+    ∙ ap part_of has.is ∙ ap Some has.part_is) in record {
+      hand = one.0;
+      is = ap (λ (h : Hand _ _). h.leaves) is ∙ one.1;
+      part_is = one.2;
+    }
+
+none_there : {A : Type 0} (o : Option A) → is_some o ≡ false → o ≡ None
+none_there None is = refl
+none_there (Some x) is = absurd (cc)
+
+-- nothing else is in hand
+pub rest_of : {C B : Type 0} (h1 h2 h3 h4 : Hand C B)
+    → h1 ≡ record (empty {C = C} {B = B}) { spine = h1.spine }
+    → h2 ≡ record h1 { leaves = h2.leaves } → IsSameButLeaves h2 h3
+    → h4 ≡ record h3 { spine = None }
+    → h4 ≡ record (empty {C = C} {B = B}) { leaves = h4.leaves }
+rest_of {C} {B} h1 h2 h3 h4 g1 g2 same g4 =
+    let none : h3.cache ≡ None = none_there h3.cache (ap (λ (k : Kinds). k.cache) same.kinds_are
+    ∙ ap (λ (h : Hand C B). is_some h.cache) g2 ∙ ap (λ (h : Hand C B). is_some h.cache) g1) in
+    g4 ∙ ap (λ (h : Hand C B). record h { spine = None }) same.rest
+    ∙ ap (λ (h : Hand C B). record h { spine = None; leaves = h3.leaves; cache = h3.cache }) g2
+    ∙ ap (λ (h : Hand C B). record h { spine = None; leaves = h3.leaves; cache = h3.cache }) g1
+    ∙ ap (λ (o : Option C).
+    record (empty {C = C} {B = B}) { leaves = h3.leaves; cache = o }) none
+    ∙ ap (λ (l : Option LeafHand). record (empty {C = C} {B = B}) { leaves = l })
+    (sym (ap (λ (h : Hand C B). h.leaves) g4))
+
+some_same : {A : Type 0} (a b : A) (o : Option A) → o ≡ Some a → o ≡ Some b → a ≡ b
+some_same a b o p q = cc
+
+one_cached : (a b : Cached) (o : Option (Option Cached)) → o ≡ Some (Some a) → o ≡ Some (Some b)
+    → b ≡ a
+one_cached a b o p q = cc
+
+-- a slot has the leaf with all sectors of the range
+pub leaf_for : {C B : Type 0} (a b : Hand C B) (slot number first count : ℕ)
+    → b ≡ record a { spine = None } → OfLeaves a (λ c. HasLeaf c.slots slot number)
+    → OfLeaves b (λ c. (cached : Cached) × (slice_get c.slots slot ≡ Some (Some cached))
+    × (cached.leaf.from ≤ first) × (first + count ≤ cached.leaf.end))
+    → b ≡ record (empty {C = C} {B = B}) { leaves = b.leaves } → HasLeafFor b number first count
+leaf_for a b slot number first count is of all rest =
+    let same = some_same of.0 all.0 b.leaves (ap (λ (h : Hand _ _). h.leaves) is ∙ of.1) all.1 in
+    let has : HasLeaf all.0.cache.slots slot number =
+    subst (λ (l : LeafHand). HasLeaf l.cache.slots slot number) same of.2 in record {
+      rest = rest;
+      slot = slot;
+      cached = all.2.0;
+      has = record {
+        hand = all.0;
+        is = all.1;
+        at = all.2.1;
+        number_is = ap (λ (c : Cached). c.number) (one_cached has.cached all.2.0
+            (slice_get all.0.cache.slots slot) has.there all.2.1) ∙ has.number_is;
+        from = all.2.2;
+        end = all.2.3;
+      };
+    }
+
+-- ---- the way
+
+module _ {C B : Type 0} (cache_facts : C → DiskFacts) (backing_facts : B → DiskFacts) where
+  pub waited_done : (v w : View cache_facts backing_facts) → IsCoreSeat cache_facts backing_facts w
+      → Waited (m cache_facts backing_facts) v w → HasDone cache_facts backing_facts [] v w
+  waited_done v w seat waited =
+      done_one cache_facts backing_facts None v w (record { is = waited; seat = seat })
+
+  pub then_done : (u v w : View cache_facts backing_facts) → HasDone cache_facts backing_facts [] u v
+      → HasDone cache_facts backing_facts [] v w → HasDone cache_facts backing_facts [] u w
+  then_done u v w a b = done_both cache_facts backing_facts [] [] u v w a b
+
+  -- a step between two waits
+  around : (o : Option Deed) (u v w x : View cache_facts backing_facts)
+      → HasDone cache_facts backing_facts [] u v → Did cache_facts backing_facts o v w
+      → HasDone cache_facts backing_facts [] w x → HasDone cache_facts backing_facts (one_of o) u x
+  around None u v w x a did b = then_done u v x a
+      (then_done v w x (done_one cache_facts backing_facts None v w did) b)
+  around (Some d) u v w x a did b = done_both cache_facts backing_facts [] (d ∷ []) u v x a
+      (done_both cache_facts backing_facts (d ∷ []) [] v w x
+      (done_one cache_facts backing_facts (Some d) v w did) b)
+
+  module _ (h : Hand C B) (range : LeafRange) (u v w x : View cache_facts backing_facts)
+      (a : HasDone cache_facts backing_facts [] u v)
+      (b : HasDone cache_facts backing_facts [] w x) where
+    pub fetched_way : HasFetched cache_facts backing_facts h range v w
+        → HasReadOne cache_facts backing_facts u x
+    fetched_way (inl there) = inl (around None u v w x a there.1 b)
+    fetched_way (inr missed) =
+        inr (range.ptr.offset, around (Some (node_read range.ptr.offset)) u v w x a missed.1 b)
+
+    pub stopped_way : (sectors : ℕ) (e : LeafError)
+        → IsLeafStop cache_facts backing_facts h range sectors e v w
+        → HasStoppedAt cache_facts backing_facts e u x
+    stopped_way sectors (errors.Step steps.Memory) (inl did) = inl (around None u v w x a did b)
+    stopped_way sectors (errors.Step steps.Memory) (inr did) =
+        inr (range.ptr.offset, around (Some (node_read range.ptr.offset)) u v w x a did b)
+    stopped_way sectors (errors.Step (steps.Fault d)) stop = (
+      stop.0,
+      around (Some (deed.DeviceFault (failure.Read device.Cache))) u v w x a stop.1 b,
+    )
+    stopped_way sectors (errors.Step (steps.Halted d)) stop = (
+      w,
+      then_done u v w a (done_one cache_facts backing_facts None v w stop.1),
+      stop.0,
+      b,
+    )
+    stopped_way sectors errors.Busy stop = around None u v w x a stop.1 b
+    stopped_way sectors errors.Outside stop = around None u v w x a stop.1 b
+    stopped_way sectors errors.Missing stop = absurd stop
+    stopped_way sectors (errors.Node e) stop =
+        (range.ptr.offset, around (Some (node_read range.ptr.offset)) u v w x a stop.1 b)

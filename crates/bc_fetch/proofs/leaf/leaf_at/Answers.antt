@@ -1,0 +1,71 @@
+use Rattle.std.proofs.Common.{sym, subst}
+use Rattle.bc_cache.specs.Slots.{IsOccupied, NodeCache}
+use Rattle.bc_machine.specs.World.{cache_among}
+use Rattle.bc_fetch.specs.Fetch.{HasStoppedAt}
+use Rattle.bc_fetch.specs.declared.error.LeafError.{LeafError}
+use Rattle.bc_fetch.proofs.Ways.{fetched_way, leaf_for, occupied, of_given, part_given, rest_of, spine_leaves, stopped_way, then_done, waited_done}
+use Rattle.bc_fetch.proofs.leaf.leaf_at.Goals as goal
+use Rattle.bc_fetch.proofs.leaf.leaf_at.Goals.{in-Ok-2, in-Err}
+
+pub fetch-done-requires-clause-spine : goal.fetch-done-requires-clause-spine
+fetch-done-requires-clause-spine g c = spine_leaves c.take_spine.new.hand c.take_leaves.new.hand
+    c.in-Some.range c.take_leaves.ensures.hand c.in-Some.ensures.some.0
+
+pub has_range-requires-clause-slot : goal.has_range-requires-clause-slot
+has_range-requires-clause-slot g c = of_given c.fetch-done.new.hand c.give_spine.new.hand
+    (λ (x : NodeCache). IsOccupied x.slots c.in-Ok.slot) c.give_spine.ensures.hand
+    (occupied c.fetch-done.new.hand c.in-Ok.slot c.in-Some.range.number c.in-Ok.ensures.ok)
+
+pub returns-in-Ok-clause-ok : goal.returns-in-Ok-clause-ok
+returns-in-Ok-clause-ok g c = leaf_for c.fetch-done.new.hand c.give_spine.new.hand c.in-Ok.slot
+    c.in-Some.range.number c.args.first c.args.count c.give_spine.ensures.hand c.in-Ok.ensures.ok
+    (c.has_range.ensures c.if-has_range.true)
+    (rest_of c.take_spine.new.hand c.take_leaves.new.hand c.fetch-done.new.hand
+    c.give_spine.new.hand c.take_spine.ensures.hand c.take_leaves.ensures.hand
+    c.fetch-done.ensures.hand c.give_spine.ensures.hand)
+
+pub returns-in-Ok-clause-did : goal.returns-in-Ok-clause-did
+returns-in-Ok-clause-did g c = fetched_way g.C.Disk.facts g.B.Disk.facts c.take_leaves.new.hand
+    c.in-Some.range c.args.seat.now c.take_leaves.new.seat c.fetch-done.new.seat
+    c.give_spine.new.seat
+    (then_done g.C.Disk.facts g.B.Disk.facts c.args.seat.now c.take_spine.new.seat
+    c.take_leaves.new.seat
+    (waited_done g.C.Disk.facts g.B.Disk.facts c.args.seat.now c.take_spine.new.seat
+    c.take_spine.ensures.works.seat c.take_spine.ensures.waited)
+    (waited_done g.C.Disk.facts g.B.Disk.facts c.take_spine.new.seat c.take_leaves.new.seat
+    c.take_leaves.ensures.works.seat c.take_leaves.ensures.waited))
+    (waited_done g.C.Disk.facts g.B.Disk.facts c.fetch-done.new.seat c.give_spine.new.seat
+    c.give_spine.ensures.works.seat c.give_spine.ensures.waited) c.in-Ok.ensures.did
+
+pub give_leaves-requires-clause-has : goal.give_leaves-requires-clause-has
+give_leaves-requires-clause-has g c = part_given c.take_leaves.new.hand c.fetch-done.new.hand
+    c.give_spine.new.hand _ c.take_leaves.ensures.has c.fetch-done.ensures.hand
+    c.give_spine.ensures.hand
+
+pub returns-clause-stopped : goal.returns-clause-stopped
+returns-clause-stopped g c =
+    let u = c.args.seat.now in
+    let v = c.take_leaves.new.seat in
+    let w = c.fetch-done.new.seat in
+    let x = c.give_leaves.new.seat in
+    let a = then_done g.C.Disk.facts g.B.Disk.facts u c.take_spine.new.seat v
+    (waited_done g.C.Disk.facts g.B.Disk.facts u c.take_spine.new.seat
+    c.take_spine.ensures.works.seat c.take_spine.ensures.waited)
+    (waited_done g.C.Disk.facts g.B.Disk.facts c.take_spine.new.seat v
+    c.take_leaves.ensures.works.seat c.take_leaves.ensures.waited) in
+    let b = then_done g.C.Disk.facts g.B.Disk.facts w c.give_spine.new.seat x
+    (waited_done g.C.Disk.facts g.B.Disk.facts w c.give_spine.new.seat
+    c.give_spine.ensures.works.seat c.give_spine.ensures.waited)
+    (waited_done g.C.Disk.facts g.B.Disk.facts c.give_spine.new.seat x
+    c.give_leaves.ensures.works.seat c.give_leaves.ensures.waited) in
+    elim c.match-done.branch [
+      | in-Ok-2 n ↦ subst (λ (e : LeafError). HasStoppedAt g.C.Disk.facts g.B.Disk.facts e u x)
+          (sym n.error-is)
+          (fetched_way g.C.Disk.facts g.B.Disk.facts c.take_leaves.new.hand c.in-Some.range u v w x
+          a b n.in-Ok.ensures.did)
+      | in-Err n ↦ subst (λ (e : LeafError). HasStoppedAt g.C.Disk.facts g.B.Disk.facts e u x)
+          (sym n.error-is)
+          (stopped_way g.C.Disk.facts g.B.Disk.facts c.take_leaves.new.hand c.in-Some.range u v w x
+          a b (cache_among g.C.Disk.facts g.B.Disk.facts c.args.parts.now.run.start).sectors
+          n.in-Err.error n.in-Err.ensures.err)
+    ]

@@ -1,0 +1,47 @@
+use Rattle.std.proofs.Common.{None, Some, Bool, ap, ◌∙◌, arith}
+use Rattle.std.specs.Prelude.{if◌then◌else◌}
+use Rattle.std.proofs.lemmas.Bool.{le-ltb}
+use Rattle.bc_hand.proofs.Between.{did_between}
+use Rattle.bc_deed.proofs.May.{did_nothing}
+use Rattle.bc_fetch.proofs.leaf.take_spine.Goals as goal
+
+pub returns-then-end-first-clause-waited : goal.returns-then-end-first-clause-waited
+returns-then-end-first-clause-waited g c = (did_between g.C.Disk.facts g.B.Disk.facts None
+    c.args.seat.now c.borrow_spine-spine.new.seat c.borrow_spine-spine.new.seat
+    c.return_spine.new.seat c.borrow_spine-spine.ensures.still c.borrow_spine-spine.ensures.waited
+    (did_nothing g.C.Disk.facts g.B.Disk.facts c.borrow_spine-spine.new.seat
+    c.borrow_spine-spine.ensures.lent.seat) c.return_spine.ensures.waited
+    c.return_spine.ensures.seen c.return_spine.ensures.heard c.return_spine.ensures.works.seat).is
+
+pub returns-then-missing-clause-waited : goal.returns-then-missing-clause-waited
+returns-then-missing-clause-waited g c = (did_between g.C.Disk.facts g.B.Disk.facts None
+    c.args.seat.now c.borrow_spine-spine.new.seat c.borrow_spine-spine.new.seat
+    c.return_spine-2.new.seat c.borrow_spine-spine.ensures.still
+    c.borrow_spine-spine.ensures.waited
+    (did_nothing g.C.Disk.facts g.B.Disk.facts c.borrow_spine-spine.new.seat
+    c.borrow_spine-spine.ensures.lent.seat) c.return_spine-2.ensures.waited
+    c.return_spine-2.ensures.seen c.return_spine-2.ensures.heard
+    c.return_spine-2.ensures.works.seat).is
+
+pub returns-else-missing-clause-waited : goal.returns-else-missing-clause-waited
+returns-else-missing-clause-waited g c = (did_between g.C.Disk.facts g.B.Disk.facts None
+    c.args.seat.now c.borrow_spine-spine.new.seat c.borrow_spine-spine.new.seat
+    c.return_spine-2.new.seat c.borrow_spine-spine.ensures.still
+    c.borrow_spine-spine.ensures.waited
+    (did_nothing g.C.Disk.facts g.B.Disk.facts c.borrow_spine-spine.new.seat
+    c.borrow_spine-spine.ensures.lent.seat) c.return_spine-2.ensures.waited
+    c.return_spine-2.ensures.seen c.return_spine-2.ensures.heard
+    c.return_spine-2.ensures.works.seat).is
+
+pub returns-else-missing-clause-some : goal.returns-else-missing-clause-some
+returns-else-missing-clause-some g c = (
+  record {
+    spine = c.borrow_spine-spine.result.0;
+    is = ap (λ h. h.spine) c.return_spine-2.ensures.hand
+        ∙ ap (λ (b : Bool). if b then None else Some c.borrow_spine-spine.result.0)
+        (le-ltb _ _ c.if-missing.false);
+    range_in = c.find-range.ensures.held;
+  },
+  c.find-range.ensures.spans.0,
+  (let few = c.if-missing.false in let same = c.from.ensures in omega (arith, few, same)),
+)
