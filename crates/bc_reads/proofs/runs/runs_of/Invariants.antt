@@ -1,0 +1,12 @@
+use Rattle.std.proofs.Common.{◌+◌, ◌-◌, ◌≤◌}
+use Rattle.bc_reads.specs.Reads.{AreRuns}
+use Rattle.bc_reads.proofs.runs.runs_of.Given as goal
+
+abbrev pub invariant-loop-done : goal.invariant-loop-done
+invariant-loop-done l = record {
+  most : l.done ≤ l.count;
+  runs : AreRuns l.leaf l.buckets l.first (l.first + l.done) l.runs.items;
+}
+
+abbrev pub decreases-loop-done : goal.decreases-loop-done
+decreases-loop-done l = l.count - l.done
