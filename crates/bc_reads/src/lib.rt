@@ -10,3 +10,5 @@
 pub mod laws;
 pub mod runs;
 pub mod source;
+#[cfg(test)]
+mod tests;
