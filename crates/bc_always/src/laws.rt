@@ -1,0 +1,47 @@
+//! What holds in each state of a run, each law the contract of a function.
+ghost use Rattle.bc_always.specs.Crash.{LawClosed, LawClean};
+ghost use Rattle.bc_always.specs.Raise.{LawRaised, LawRefused, LawDirty};
+ghost use Rattle.bc_always.specs.Claims.{LawClaims, LawApart, LawTwoSeats};
+
+/// After a closing whatever a crash leaves shows each sector's last write.
+///
+/// The premise is that no torn record matches by chance.
+pub fn law_closed()
+    ensures { LawClosed }
+{}
+
+/// After a closing, where no dirty key is live, the backing device alone has the last writes.
+pub fn law_clean()
+    ensures { LawClean }
+{}
+
+/// What may be raised has no dirty key, in memory or in what was sealed since the durable entry, and
+/// no metadata.
+pub fn law_raised()
+    ensures { LawRaised }
+{}
+
+/// No seat may raise a bucket into which a live dirty key points.
+pub fn law_refused()
+    ensures { LawRefused }
+{}
+
+/// There is such a bucket, of which nothing but its mark forbids that it is raised.
+pub fn law_dirty()
+    ensures { LawDirty }
+{}
+
+/// A claim that may be made conflicts with no other seat's.
+pub fn law_claims()
+    ensures { LawClaims }
+{}
+
+/// No two seats have claims that conflict.
+pub fn law_apart()
+    ensures { LawApart }
+{}
+
+/// A second seat's claim waits until the first one's, which is exclusive, is released.
+pub fn law_two_seats()
+    ensures { LawTwoSeats }
+{}
