@@ -1,3 +1,4 @@
 pub mod Crash
 pub mod Raise
 pub mod Claims
+pub mod Entries

@@ -2,8 +2,14 @@
 use Rattle.std.specs.Prelude.{◌≡◌, ℕ, true, Some}
 use Rattle.bc_model.specs.Sector.{Value, Image}
 use Rattle.bc_model.specs.History.{now}
+use Rattle.bc_books.specs.Index.{Clean, Pointer, latest}
 use Rattle.bc_books.specs.Versions.{is_stale}
+use Rattle.bc_books.specs.Books.{Books}
+use Rattle.bc_data.specs.Data as flow
+use Rattle.bc_data.specs.After.{IsCourse, course}
+use Rattle.bc_data.specs.Example.{pair}
 use Rattle.bc_crash.specs.Laws.{IsClosed}
+use Rattle.bc_crash.specs.Teeth.{closing}
 use Rattle.bc_meta.specs.Keys.{Ref, last_ref}
 use Rattle.bc_whole.specs.Together.{gen_from}
 use Rattle.bc_whole.specs.Laws.{Reads, keys_in, shown}
@@ -30,8 +36,8 @@ abbrev pub IsReadSo : (w : Opening) (st : State) (c b : Image) → (Reading w st
 IsReadSo w st c b P = Reading w st c b × ((r : Reading w st c b) → P r)
 
 -- Whatever a crash leaves behind a closing is read so: nothing halted the run, each key is durable,
--- and so is what the backing device has. The data's run of `bc_crash::laws::law_closes` ends closed,
--- and each run of events begins so.
+-- and so is what the backing device has. The run of `bc_events_example::laws::example_exists` ends so,
+-- and no torn record matches by chance there.
 abbrev pub BehindClosing : ((w : Opening) (st : State) (c b : Image) → Reading w st c b → Type 0)
     → Type 0
 BehindClosing P = Always (λ w st. IsTornApart w st → IsClosed st.machine.whole.flow → (c b : Image)
@@ -52,3 +58,26 @@ HasNoDirty w st c b r = (s : ℕ) (key : Ref)
 abbrev pub LawClean : Type 0
 LawClean = BehindClosing (λ w st c b r. HasNoDirty w st c b r → (s : ℕ)
     → b s ≡ written_last w st s)
+
+-- no sector's last key in memory is dirty
+abbrev pub AreClean : Books → Type 0
+AreClean k = (s : ℕ) (r : Pointer) → latest k.index s ≡ Some r → r.kind ≡ Clean
+
+-- Then too: a closing without dirty keys leaves a backing device that needs no cache, and a seat can
+-- tell, which no reader has to.
+abbrev pub LawCleanInMemory : Type 0
+LawCleanInMemory = Always (λ w st. IsClosed st.machine.whole.flow
+    → AreClean st.machine.whole.flow.books → (c b : Image) → MayBeLeft st c b → (s : ℕ)
+    → b s ≡ written_last w st s)
+
+abbrev pub closed_state : flow.State
+closed_state = course pair (flow.start pair) closing
+
+-- A run of the data ends so: two sectors are written, written back and cleaned, and another is filled
+-- and dropped.
+pub record LawClosesClean : Type 0 where
+  pub run : IsCourse pair (flow.start pair) closing
+  pub closed : IsClosed closed_state
+  pub clean : AreClean closed_state.books
+  pub some : latest closed_state.books.index 0
+      ≡ Some (record { kind = Clean; place = 0; version = 300 })

@@ -1,7 +1,8 @@
 //! What holds in each state of a run, each law the contract of a function.
-ghost use Rattle.bc_always.specs.Crash.{LawClosed, LawClean};
+ghost use Rattle.bc_always.specs.Crash.{LawClosed, LawClean, LawCleanInMemory, LawClosesClean};
 ghost use Rattle.bc_always.specs.Raise.{LawRaised, LawRefused, LawDirty};
 ghost use Rattle.bc_always.specs.Claims.{LawClaims, LawApart, LawTwoSeats};
+ghost use Rattle.bc_always.specs.Entries.{LawCut, LawTeethDropped, LawTeethEarly};
 
 /// After a closing whatever a crash leaves shows each sector's last write.
 ///
@@ -10,9 +11,20 @@ pub fn law_closed()
     ensures { LawClosed }
 {}
 
-/// After a closing, where no dirty key is live, the backing device alone has the last writes.
+/// After a closing, where a reader finds no live dirty key, the backing device alone has the last
+/// writes.
 pub fn law_clean()
     ensures { LawClean }
+{}
+
+/// So it has where no key in memory is dirty.
+pub fn law_clean_in_memory()
+    ensures { LawCleanInMemory }
+{}
+
+/// There is a run that ends so, with keys.
+pub fn law_closes_clean()
+    ensures { LawClosesClean }
 {}
 
 /// What may be raised has no dirty key, in memory or in what was sealed since the durable entry, and
@@ -44,4 +56,20 @@ pub fn law_apart()
 /// A second seat's claim waits until the first one's, which is exclusive, is released.
 pub fn law_two_seats()
     ensures { LawTwoSeats }
+{}
+
+/// A write that is cut before its entry shows what was there before it, and behind its entry itself.
+pub fn law_cut()
+    ensures { LawCut }
+{}
+
+/// A reader that passes over the last entry loses what a flush covers.
+pub fn law_teeth_dropped()
+    ensures { LawTeethDropped }
+{}
+
+/// A reader that takes an entry for whole before a barrier came behind its seal shows what isn't the
+/// sector's.
+pub fn law_teeth_early()
+    ensures { LawTeethEarly }
 {}

@@ -3,6 +3,7 @@
 use Rattle.std.proofs.Common.{true, ◌≡◌, ◌≢◌, inl, inr, ℕ, false, List, [], ◌∷◌, Some, None, refl, sym, subst, arith, ◌==◌, ◌⊎◌}
 use Rattle.bc_flight.specs.declared.claim.Share.TheVariants.{Exclusive}
 use Rattle.bc_alloc.specs.declared.purpose.Purpose.TheVariants as list
+use Rattle.bc_crash.specs.Laws.{IsClosed}
 use Rattle.bc_meta.proofs.Lists.{by_test}
 use Rattle.bc_whole.specs.Example.{HasChain}
 use Rattle.bc_whole.proofs.Chance.{IsClear, no_chance, put_no, put_yes, in_four}
@@ -319,6 +320,9 @@ has_example = (
       chain = at_end (λ st. HasChain opening.machine st.machine.whole) has_chain;
       root = at_end (HasRoot opening) has_root;
       chance = at_end (IsTornApart opening) (no_chance t29.store.places (3 ∷ []) entry_3 clear);
+      closed = at_end (λ st. IsClosed st.machine.whole.flow)
+          (record { running = refl; journal = refl; backing = λ s v h. h });
+      workers = λ a b of_a of_b same. omega arith;
     },
   ),
 )

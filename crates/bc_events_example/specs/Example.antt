@@ -4,6 +4,7 @@ use Rattle.std.specs.Prelude.{◌≡◌, ◌≢◌, ℕ, false, List, [], ◌∷
 use Rattle.bc_model.specs.Sector.{Value}
 use Rattle.bc_model.specs.declared.history.Entry.TheVariants as entry
 use Rattle.bc_books.specs.Index.{Dirty, Pointer}
+use Rattle.bc_crash.specs.Laws.{IsClosed}
 use Rattle.bc_meta.specs.Facts.{In}
 use Rattle.bc_leaves.specs.Parts as parts
 use Rattle.bc_whole.specs.Example.{HasChain}
@@ -11,7 +12,7 @@ use Rattle.bc_known.specs.Laws.{IsSound}
 use Rattle.bc_events.specs.declared.event.LineNumber.{LineNumber}
 use Rattle.bc_events.specs.declared.event.Deed.TheVariants as deed
 use Rattle.bc_events.specs.declared.event.Event.{Event}
-use Rattle.bc_events.specs.Laws.{IsTornApart}
+use Rattle.bc_events.specs.Laws.{IsTornApart, HaveWorkers}
 use Rattle.bc_events.specs.Run.{Opening, State, start, IsRun, run, history_of}
 
 -- A sector that had no key was written for a line, its dirty key is durable, and that was said.
@@ -42,8 +43,11 @@ pub record IsExample (w : Opening) (x : parts.State) (next_seq : ℕ) (es : List
   pub written : HasWritten w (run w (start w x next_seq) es) es
   pub chain : HasChain w.machine (run w (start w x next_seq) es).machine.whole
   pub root : HasRoot w (run w (start w x next_seq) es)
-  -- the premise of the law on crashes
+  -- the premise of the law on crashes, and of those on a closing: all is durable, and nothing halted
   pub chance : IsTornApart w (run w (start w x next_seq) es)
+  pub closed : IsClosed (run w (start w x next_seq) es).machine.whole.flow
+  -- and of the law on histories by workers
+  pub workers : HaveWorkers w
 
 abbrev pub HasExample : Type 0
 HasExample = (w : Opening) × (x : parts.State) × (next_seq : ℕ)

@@ -6,7 +6,8 @@ ghost use Rattle.bc_events_example.specs.Uses.{HasAllDeeds};
 /// through the cache: its data is placed, its key is durable, and it is acknowledged as forced.
 /// Before that a bucket was raised for it, and another chain and another root are durable.
 ///
-/// What a crash may leave of it meets the premise of the law on crashes.
+/// At its end it meets the premise of the law on crashes, and it is closed; no two seats are of one
+/// worker.
 pub fn example_exists()
     ensures { HasExample }
 {}
