@@ -1,10 +1,13 @@
 -- The laws on claims.
-use Rattle.std.proofs.Common.{◌≡◌, ◌≢◌, inl, inr, ℕ, Bool, true, false, [], ◌∷◌, refl, sym, ◌∙◌, subst, arith}
+use Rattle.std.proofs.Common.{◌≡◌, ◌≢◌, inl, inr, ℕ, Bool, true, false, Option, Some, None, [], ◌∷◌, refl, sym, ◌∙◌, subst, arith}
 use Rattle.bc_model.proofs.Cases.{by_test}
+use Rattle.bc_model.specs.Sector.{Value, at_run}
+use Rattle.bc_books.specs.Index.{Pointer}
+use Rattle.bc_data.specs.Enabled.{Fits}
 use Rattle.bc_flight.specs.Claims.{is_exclusive}
 use Rattle.bc_flight.specs.declared.claim.Share.{Share}
 use Rattle.bc_flight.specs.declared.claim.Share.TheVariants.{Shared, Exclusive}
-use Rattle.bc_data.specs.Seats.{Claim, Apart, new_claim}
+use Rattle.bc_data.specs.Seats.{Claim, Apart, Covers, new_claim}
 use Rattle.bc_data.specs.Data as flow
 use Rattle.bc_data.specs.After as flow_step
 use Rattle.bc_data.specs.Example.{plain_pair, one_value}
@@ -18,10 +21,15 @@ use Rattle.bc_known.specs.Run as machine
 use Rattle.bc_events.specs.Acts.{claimed}
 use Rattle.bc_events.specs.Example.{unused_cache, written, by_seat_1}
 use Rattle.bc_events.specs.Run.{Opening, State, start, by, IsEnabled, run}
+use Rattle.bc_events.specs.declared.event.Deed.{Deed}
 use Rattle.bc_events.specs.declared.event.Deed.TheVariants as deed
+use Rattle.bc_events.specs.declared.event.Failure.TheVariants as failure
 use Rattle.bc_events.proofs.Example as example
-use Rattle.bc_always.specs.Claims.{claimed_by, claim_by_2, released, HasTwoSeats, LawClaims, LawApart, LawTwoSeats}
+use Rattle.bc_always.specs.Claims.{claimed_by, value_of, LawAlone, claim_by_2, released, HasTwoSeats, LawClaims, LawApart, LawTwoSeats}
 use Rattle.bc_always.proofs.Raise.{at_state}
+
+none_some : (v : Value) → None ≡ Some v → ⊥
+none_some v e = cc
 
 -- both rows of a claim begin with it
 first_act : (w : Opening) (st : State) (i first count leaf : ℕ) (exclusive plain : Bool)
@@ -40,6 +48,52 @@ law_apart w x n es sound on i k ne =
     let st = (run w (start w x n) es).machine.whole in
     let inv = inv_at w.machine x st sound (at_state w x n es sound on).at in
     (truthful w.machine x st.flow sound.whole inv.flow).apart i k ne
+
+-- the sectors that keys and values cover are the seat's
+fitting : (w : flow.Opening) (st : flow.State) (i s : ℕ) (v : Value) (o : Option (Option Pointer))
+    (q : Option Value) → q ≡ Some v → Fits w st i s o q → Covers (flow.claim_of st i) s
+fitting w st i s v None None e fits = absurd (none_some v e)
+fitting w st i s v None (Some x) e fits = absurd fits
+fitting w st i s v (Some o) None e fits = absurd (none_some v e)
+fitting w st i s v (Some o) (Some x) e fits = fits.covers
+
+-- a seat's exclusive claim is apart from another's that has the sector
+only_one : (a b : Claim) (s : ℕ) → a.exclusive ≡ true → Covers a s → Apart a b → Covers b s → ⊥
+only_one a b s alone mine (inl both) its = let shared = both.0 in absurd (cc)
+only_one a b s alone mine (inr none) its = none s mine its
+
+-- of a write the seat's claim is exclusive, and has the sector
+record IsMine (st : State) (i s : ℕ) : Type 0 where
+  alone : (claimed_by st i).exclusive ≡ true
+  covers : Covers (claimed_by st i) s
+
+is_mine : (w : Opening) (st : State) (i : ℕ) (d : Deed)
+    → IsEnabled w st (record { seat = i; deed = d }) → (s : ℕ) (v : Value)
+    → value_of d s ≡ Some v → IsMine st i s
+is_mine w st i (deed.InsertWrite leaf keys of first values) on s v e =
+    let can = on.course.0.data_allows.0.can in record {
+      alone = can.exclusive;
+      covers = fitting w.machine.flow st.machine.whole.flow i s v _ (at_run first values s) e
+          (can.fits s);
+    }
+is_mine w st i (deed.BackingWrite first None values) on s v e = absurd (none_some v e)
+is_mine w st i (deed.BackingWrite first (Some of) values) on s v e =
+    let can = on.course.0.data_allows.0.can in
+    record { alone = can.exclusive; covers = (can.bare s v e).0 }
+is_mine w st i (deed.DeviceFault (failure.BackingWrite first (Some of) values)) on s v e =
+    let can = on.course.0.data_allows.0.can in
+    record { alone = can.exclusive; covers = (can.bare s v e).0 }
+is_mine w st i (deed.DeviceFault (failure.BackingWrite first None values)) on s v e =
+    absurd (none_some v e)
+is_mine w st i (deed.DeviceFault f) on s v e = absurd (none_some v e)
+is_mine w st i d on s v e = absurd (none_some v e)
+
+pub law_alone : LawAlone
+law_alone w x n es sound on i d may s v e k ne =
+    let st = run w (start w x n) es in
+    let mine = is_mine w st i d may s v e in
+    only_one (claimed_by st i) (claimed_by st k) s mine.alone mine.covers
+    (law_apart w x n es sound on i k (λ same. ne (sym same)))
 
 -- ---- two seats
 

@@ -23,7 +23,8 @@ use Rattle.bc_always.specs.Entries.{cut_state, cut_run, entered_state, flushed_s
 
 -- ---- what is left
 
-over : (o : Option Value) (x : Value) (xs : List Value) → Among x xs → Among (unless o x) (instead o xs)
+over : (o : Option Value) (x : Value) (xs : List Value) → Among x xs
+    → Among (unless o x) (instead o xs)
 over None x xs h = h
 over (Some y) x xs h = inl refl
 

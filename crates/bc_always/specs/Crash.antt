@@ -36,8 +36,8 @@ abbrev pub IsReadSo : (w : Opening) (st : State) (c b : Image) → (Reading w st
 IsReadSo w st c b P = Reading w st c b × ((r : Reading w st c b) → P r)
 
 -- Whatever a crash leaves behind a closing is read so: nothing halted the run, each key is durable,
--- and so is what the backing device has. The run of `bc_events_example::laws::example_exists` ends so,
--- and no torn record matches by chance there.
+-- and so is what the backing device has. The run of `bc_events_example::laws::example_exists` ends
+-- so, and no torn record matches by chance there.
 abbrev pub BehindClosing : ((w : Opening) (st : State) (c b : Image) → Reading w st c b → Type 0)
     → Type 0
 BehindClosing P = Always (λ w st. IsTornApart w st → IsClosed st.machine.whole.flow → (c b : Image)
@@ -63,18 +63,18 @@ LawClean = BehindClosing (λ w st c b r. HasNoDirty w st c b r → (s : ℕ)
 abbrev pub AreClean : Books → Type 0
 AreClean k = (s : ℕ) (r : Pointer) → latest k.index s ≡ Some r → r.kind ≡ Clean
 
--- Then too: a closing without dirty keys leaves a backing device that needs no cache, and a seat can
--- tell, which no reader has to.
+-- Then too: a closing without dirty keys leaves a backing device that needs no cache. This a seat
+-- can tell before any crash.
 abbrev pub LawCleanInMemory : Type 0
 LawCleanInMemory = Always (λ w st. IsClosed st.machine.whole.flow
     → AreClean st.machine.whole.flow.books → (c b : Image) → MayBeLeft st c b → (s : ℕ)
     → b s ≡ written_last w st s)
 
+-- a run of the data that ends so
 abbrev pub closed_state : flow.State
 closed_state = course pair (flow.start pair) closing
 
--- A run of the data ends so: two sectors are written, written back and cleaned, and another is filled
--- and dropped.
+-- Two sectors are written, written back and cleaned, and another is filled and dropped.
 pub record LawClosesClean : Type 0 where
   pub run : IsCourse pair (flow.start pair) closing
   pub closed : IsClosed closed_state

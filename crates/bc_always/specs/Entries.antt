@@ -1,5 +1,5 @@
--- Why a write counts by its entry: runs of the data alone, with what a crash leaves of them. The pair
--- is the small one of `bc_data::laws::law_runs`, which is sound, with devices full of zeros.
+-- Why a write counts by its entry: runs of the data alone, with what a crash leaves of them. The
+-- pair is the small one of `bc_data::laws::law_runs`, which is sound, with devices full of zeros.
 use Rattle.std.specs.Prelude.{◌≡◌, ℕ, true, List, [], ◌∷◌, ◌++◌}
 use Rattle.bc_model.specs.Sector.{Value, Image}
 use Rattle.bc_model.specs.History.{now}
@@ -93,9 +93,9 @@ sealed_run = by (placing ++ (writing ++ (sealing ++ (flushing ++ rewriting))))
 abbrev pub sealed_state : State
 sealed_state = course pair (start pair) sealed_run
 
--- A reader that finds the sealed entry before a barrier came behind its seal: its key points to where
--- the data may not be yet, and what is shown is neither what the flush covers nor what was written
--- since.
+-- A reader that finds the sealed entry before a barrier came behind its seal: its key points to
+-- where the data may not be yet, and what is shown is neither what the flush covers nor what was
+-- written since.
 pub record LawTeethEarly : Type 0 where
   pub run : IsCourse pair (start pair) sealed_run
   pub early : IsReady sealed_state.stage → ⊥

@@ -11,14 +11,15 @@ use Rattle.bc_events.specs.Run.{IsEnabled}
 use Rattle.bc_events.specs.Laws.{Always}
 use Rattle.bc_events.specs.declared.event.Deed.TheVariants.{Raise}
 
--- What may be raised has no dirty key in memory, or in the index of any entry since the durable one,
--- and is no bucket of superblock, journal, uuid table, node or chain. A bucket is raised in the run of
--- `bc_events_example::laws::each_deed_exists`.
+-- What may be raised has no dirty key in memory, or in any index since the durable entry's, and is
+-- no bucket of superblock, journal, uuid table, node or chain. A bucket is raised in the run of
+-- `bc_events_example::laws::example_exists`.
 abbrev pub LawRaised : Type 0
 LawRaised = Always (λ w st. (b : ℕ) → CanRaise w.machine.flow.books st.machine.whole.flow.books b
     → IsUnneeded w.machine.flow.books st.machine.whole.flow.books b)
 
--- So no seat may raise a bucket into which a live dirty key points.
+-- So no seat may raise a bucket into which a live dirty key points. That run ends with such a
+-- bucket.
 abbrev pub LawRefused : Type 0
 LawRefused = Always (λ w st. (i b : ℕ)
     → IsLiveDirty w.machine.flow.books st.machine.whole.flow.books b

@@ -1,7 +1,7 @@
 //! What holds in each state of a run, each law the contract of a function.
 ghost use Rattle.bc_always.specs.Crash.{LawClosed, LawClean, LawCleanInMemory, LawClosesClean};
 ghost use Rattle.bc_always.specs.Raise.{LawRaised, LawRefused, LawDirty};
-ghost use Rattle.bc_always.specs.Claims.{LawClaims, LawApart, LawTwoSeats};
+ghost use Rattle.bc_always.specs.Claims.{LawClaims, LawApart, LawAlone, LawTwoSeats};
 ghost use Rattle.bc_always.specs.Entries.{LawCut, LawTeethDropped, LawTeethEarly};
 
 /// After a closing whatever a crash leaves shows each sector's last write.
@@ -27,8 +27,8 @@ pub fn law_closes_clean()
     ensures { LawClosesClean }
 {}
 
-/// What may be raised has no dirty key, in memory or in what was sealed since the durable entry, and
-/// no metadata.
+/// What may be raised has no dirty key, in memory or in what was sealed since the durable entry,
+/// and no metadata.
 pub fn law_raised()
     ensures { LawRaised }
 {}
@@ -53,12 +53,18 @@ pub fn law_apart()
     ensures { LawApart }
 {}
 
+/// What a seat writes for a line, or tries to, is of sectors on which no other has a claim.
+pub fn law_alone()
+    ensures { LawAlone }
+{}
+
 /// A second seat's claim waits until the first one's, which is exclusive, is released.
 pub fn law_two_seats()
     ensures { LawTwoSeats }
 {}
 
-/// A write that is cut before its entry shows what was there before it, and behind its entry itself.
+/// A write that is cut before its entry shows what was there before it, and behind its entry
+/// itself.
 pub fn law_cut()
     ensures { LawCut }
 {}
@@ -68,8 +74,8 @@ pub fn law_teeth_dropped()
     ensures { LawTeethDropped }
 {}
 
-/// A reader that takes an entry for whole before a barrier came behind its seal shows what isn't the
-/// sector's.
+/// A reader that finds an entry before a barrier came behind its seal shows what the sector never
+/// was since the flush.
 pub fn law_teeth_early()
     ensures { LawTeethEarly }
 {}

@@ -9,9 +9,9 @@
 //! bucket would lose it. And while a seat writes sectors no other has a claim on them: a read could
 //! show half of the write, and of two writes the one could be placed last and the other keyed last.
 //!
-//! Beside the laws stand runs that meet their premises, and what goes wrong where a reader takes the
-//! wrong entry for the newest one: a write that is cut before its entry shows what was there before,
-//! as it has to; a reader that passes over the last entry loses what a flush covers.
+//! Beside the laws stand runs that meet their premises, and what goes wrong where a reader takes
+//! the wrong entry for the newest one: a write that is cut before its entry shows what was there
+//! before, as it has to; a reader that passes over the last entry loses what a flush covers.
 //!
 //! Read `specs/` in this order: Crash, Raise, Claims, Entries.
 #![tactic(auto)]

@@ -277,6 +277,7 @@ has_written = record {
   pointer = data_pointer;
   durable = refl;
   dirty = refl;
+  live = (0, (data_pointer, ((refl, refl), refl, refl)));
 }
 
 has_chain : HasChain opening.machine last.machine.whole

@@ -4,6 +4,7 @@ use Rattle.std.specs.Prelude.{◌≡◌, ◌≢◌, ℕ, false, List, [], ◌∷
 use Rattle.bc_model.specs.Sector.{Value}
 use Rattle.bc_model.specs.declared.history.Entry.TheVariants as entry
 use Rattle.bc_books.specs.Index.{Dirty, Pointer}
+use Rattle.bc_books.specs.Laws.{IsLiveDirty}
 use Rattle.bc_crash.specs.Laws.{IsClosed}
 use Rattle.bc_meta.specs.Facts.{In}
 use Rattle.bc_leaves.specs.Parts as parts
@@ -30,6 +31,9 @@ pub record HasWritten (w : Opening) (st : State) (es : List Event) : Type 0 wher
   pub durable : (let books = st.machine.whole.flow.books in
       books.index.at books.journal.durable sector ≡ Some pointer)
   pub dirty : pointer.kind ≡ Dirty
+  -- so the bucket in which its data lies may not be raised
+  pub live : IsLiveDirty w.machine.flow.books st.machine.whole.flow.books
+      (w.machine.flow.books.bucket pointer.place)
 
 -- Another root is durable, and no change goes on.
 pub record HasRoot (w : Opening) (st : State) : Type 0 where
@@ -43,7 +47,7 @@ pub record IsExample (w : Opening) (x : parts.State) (next_seq : ℕ) (es : List
   pub written : HasWritten w (run w (start w x next_seq) es) es
   pub chain : HasChain w.machine (run w (start w x next_seq) es).machine.whole
   pub root : HasRoot w (run w (start w x next_seq) es)
-  -- the premise of the law on crashes, and of those on a closing: all is durable, and nothing halted
+  -- the premises of the law on crashes, and of those on a closing
   pub chance : IsTornApart w (run w (start w x next_seq) es)
   pub closed : IsClosed (run w (start w x next_seq) es).machine.whole.flow
   -- and of the law on histories by workers
