@@ -1,5 +1,5 @@
 -- What each kind of step tells the seat that makes it.
-use Rattle.std.specs.Prelude.{◌≡◌, ◌≢◌, ℕ, ◌+◌, ◌-◌, ◌<◌, ◌≤◌, List, [], ◌∷◌, length, Option, Some, None}
+use Rattle.std.specs.Prelude.{◌≡◌, ◌≢◌, ℕ, ◌+◌, ◌-◌, ◌^◌, ◌<◌, ◌≤◌, List, [], ◌∷◌, length, Option, Some, None}
 use Rattle.atomic_table.specs.Table.{Me, Step, rest}
 use Rattle.bc_parts.specs.declared.machine.Machine.{Ghosts}
 use Rattle.bc_parts.specs.declared.table.Cargo.{Cargo}
@@ -120,6 +120,30 @@ module _ {Z P E B T : Type 0} (m : Ghosts Z P E B T) where
     pub live : me.0.first < me.0.end
     pub whole : me.0.middle ≡ me.0.end
     pub parts : (k : ℕ) → Has me.0 k → k < length me.0.start
+
+  -- of a live seat that was joined to none since its last look, the slot k is in hand and not at home
+  pub record IsAway (k : ℕ) (v : Knowledge P E) : Type 0 where
+    pub live : v.first < v.end
+    pub whole : v.middle ≡ v.end
+    pub has : Has v k
+    pub out : v.out ≡ Some k
+
+  -- the Book lies in this slot, with this list and with room for so many events
+  pub record HasBook (es : List E) (more : ℕ) (c : Slot) : Type 0 where
+    pub book : B
+    pub is : c ≡ Some (Book book)
+    pub events : m.events book ≡ es
+    pub room : more ≤ m.room book
+
+  -- an event was put into it, which makes this list; these events have made this stop
+  pub record HasPut (es : List E) (more : ℕ) (c : Slot) (stop : Option T) : Type 0 where
+    pub book : HasBook es more c
+    pub few : length es < 2 ^ 64
+    pub stops : stop ≡ m.stop es
+
+  -- the Book is in hand, in the slot k
+  abbrev pub HoldsBook : ℕ → List E → ℕ → Mine → Type 0
+  HoldsBook k es more me = (c : Slot) × (me.1 ≡ (k, c) ∷ []) × HasBook es more c
 
   -- the slot k is in hand and not at home, and has this cargo
   pub record Carries (k : ℕ) (me : Mine) (c : Slot) : Type 0 where

@@ -11,7 +11,7 @@ use crate::not_made::NotMade;
 use crate::rules::{Fetch, Halves, Lay, Look, Mark, Promise};
 use crate::seat::Seat;
 use crate::slots::{book_in, lay, part_in, unlay, vector_in, zeros};
-use crate::steps::{add, claim, clear, fill, lift, put_back, take_book};
+use crate::steps::{add, admits, claim, clear, fill, lift, put_back, reserve, take_book};
 use crate::table::{Board, CLAIMS, COUNT, Cargo, NOTE, Start};
 use atomic_table::{Refused, Table};
 use std::alloc::{AllocError, Global};
@@ -213,13 +213,13 @@ impl<M: Machine> Parts<M> {
         ensures later { SeesLater M.Machine seat.old seat.new.seen }
     {
         let table = &self.table.shared;
-        let mut book = take_book(rt, table, &mut seat.place, self.count);
-        let made = M::reserve(&mut book, events as usize);
+        take_book(rt, table, &mut seat.place, self.count);
+        let made = reserve(table, &mut seat.place, self.count, events);
         let granted = granted(&made, events);
         // Nobody reads this word: the store shows the rule of the table how many events are
         // promised.
         table.store::<Promise<M>>(&mut seat.place, NOTE, u64::from(granted));
-        put_back(table, &mut seat.place, self.count, book);
+        put_back(table, &mut seat.place, self.count);
         made
     }
 
@@ -259,16 +259,16 @@ impl<M: Machine> Parts<M> {
             × (seat.new ≡ record seat.old { seen = seat.new.seen; heard = Some stop })) }
     {
         let table = &self.table.shared;
-        let book = take_book(rt, table, &mut seat.place, self.count);
-        match M::admits(&book, &event) {
+        take_book(rt, table, &mut seat.place, self.count);
+        match admits(table, &mut seat.place, self.count, &event) {
             Ok(()) => {
-                let stop = add(table, &mut seat.place, self.count, book, event);
+                let stop = add(table, &mut seat.place, self.count, event);
                 seat.heard = stop;
                 Ok(stop)
             }
             Err(stop) => {
                 drop(event);
-                put_back(table, &mut seat.place, self.count, book);
+                put_back(table, &mut seat.place, self.count);
                 seat.heard = Some(stop);
                 Err(stop)
             }

@@ -1,8 +1,9 @@
 //! The way of the parts from their vector into slots, and back.
-ghost use Rattle.std.specs.Prelude.{◌≡◌, ◌^◌, ◌<◌, ◌≤◌, List, [], length, replicate};
-ghost use Rattle.std.specs.Prelude.{vec_capacity, Some, IfOk, IfErr};
+ghost use Rattle.std.specs.Prelude.{◌≡◌, ℕ, ◌+◌, ◌-◌, ◌^◌, ◌<◌, ◌≤◌, List, [], ◌∷◌, ◌++◌, length, replicate};
+ghost use Rattle.std.specs.Prelude.{vec_capacity, Some, IfOk, IfErr, is_ok, if◌then◌else◌};
 ghost use Rattle.bc_parts.specs.declared.table.Cargo.TheVariants.{Part, Book, Vector};
 ghost use Rattle.bc_parts.specs.Rule.{laid};
+ghost use Rattle.bc_parts.specs.Steps.{HasBook, HasPut};
 
 use crate::machine::Machine;
 use crate::not_made::NotMade;
@@ -59,6 +60,67 @@ pub fn book_in<M: Machine>(slot: Slot<M>) -> M::Book
         unreachable!()
     };
     book
+}
+
+// The same, left where it is.
+pub fn book_at<M: Machine>(slot: &Slot<M>) -> &M::Book
+    requires { (b : M.Book) × (slot.now ≡ Some (Book b)) }
+    ensures { slot.now ≡ Some (Book result.now) }
+{
+    let Some(Cargo::Book(book)) = slot else {
+        unreachable!()
+    };
+    book
+}
+
+// Makes room in the Book for so many events more.
+fn reserve_for<M: Machine>(
+    cargo: &mut Cargo<M::Part, M::Book>,
+    events: u32,
+) -> Result<(), AllocError>
+    requires { (b : M.Book) × (cargo.old ≡ Book b) }
+    ensures { (es : List M.Event) (more : ℕ) → HasBook M.Machine es more (Some cargo.old)
+        → HasBook M.Machine es (more + (if is_ok result then events else 0)) (Some cargo.new) }
+{
+    let Cargo::Book(book) = cargo else {
+        unreachable!()
+    };
+    M::reserve(book, events as usize)
+}
+
+// The same, of the Book in such a slot. Each of the two opens one enum, since of a value changed under
+// a pattern of both the check does not know what was put back.
+pub fn reserve_in<M: Machine>(slot: &mut Slot<M>, events: u32) -> Result<(), AllocError>
+    requires { (b : M.Book) × (slot.old ≡ Some (Book b)) }
+    ensures { (es : List M.Event) (more : ℕ) → HasBook M.Machine es more slot.old
+        → HasBook M.Machine es (more + (if is_ok result then events else 0)) slot.new }
+{
+    let Some(cargo) = slot else { unreachable!() };
+    reserve_for::<M>(cargo, events)
+}
+
+// Puts the event into the Book, which has room for it. Answers the stop that the events have made then.
+fn put_event<M: Machine>(cargo: &mut Cargo<M::Part, M::Book>, event: M::Event) -> Option<M::Stop>
+    requires { (es : List M.Event) × HasBook M.Machine es 1 (Some cargo.old) }
+    ensures { (es : List M.Event) (more : ℕ) → HasBook M.Machine es more (Some cargo.old)
+        → HasPut M.Machine (es ++ event ∷ []) (more - 1) (Some cargo.new) result }
+{
+    let Cargo::Book(book) = cargo else {
+        unreachable!()
+    };
+    M::put_event(book, event);
+    M::stopped(book)
+}
+
+// The same, of the Book in such a slot. Each of the two opens one enum, since of a value changed under
+// a pattern of both the check does not know what was put back.
+pub fn put_in<M: Machine>(slot: &mut Slot<M>, event: M::Event) -> Option<M::Stop>
+    requires { (es : List M.Event) × HasBook M.Machine es 1 slot.old }
+    ensures { (es : List M.Event) (more : ℕ) → HasBook M.Machine es more slot.old
+        → HasPut M.Machine (es ++ event ∷ []) (more - 1) slot.new result }
+{
+    let Some(cargo) = slot else { unreachable!() };
+    put_event::<M>(cargo, event)
 }
 
 // The vector in such a slot.
