@@ -1,8 +1,8 @@
 -- The words of a pattern, written pair by pair.
-use Rattle.std.proofs.Common.{◌≡◌, ℕ, zero, suc, ◌+◌, ◌*◌, List, ◌++◌, take, sym, ap, ◌∙◌, append_assoc, append-nil, arith, Bool, false, IsTrue, ◌<◌, ◌≤◌, ◌^◌}
+use Rattle.std.proofs.Common.{◌≡◌, ℕ, zero, suc, ◌+◌, ◌*◌, List, ◌++◌, take, refl, sym, ap, ◌∙◌, append_assoc, append-nil, arith, Bool, false, IsTrue, ◌<◌, ◌≤◌, ◌^◌}
 use Rattle.std.specs.Int.{w64, to_le_bytes, from_le_bytes}
 use Rattle.std.proofs.lemmas.Nat.{from_le_bytes-to_le_bytes_8}
-use Rattle.bc_model.specs.Pattern.{words, pattern}
+use Rattle.bc_model.specs.Pattern.{words, pattern, zeros}
 
 -- one more pair of words, at the end
 pub words_more : (stamp sector n : ℕ) → words stamp sector n ++ (to_le_bytes w64 stamp ++ to_le_bytes w64 sector) ≡ words stamp sector (suc n)
@@ -28,6 +28,11 @@ not_true b is h = grind (arith, is, h)
 pub stamp_first : (stamp sector : ℕ) → stamp < 2 ^ 64 → from_le_bytes w64 (take 8 (pattern stamp sector)) ≡ stamp
 unfolding pattern
 stamp_first stamp sector fits = from_le_bytes-to_le_bytes_8 stamp fits
+
+-- zeros begin with none
+pub zeros_first : from_le_bytes w64 (take 8 zeros) ≡ 0
+unfolding zeros
+zeros_first = refl
 
 -- a value that isn't the pattern of the stamp with which it begins is none
 pub not_pattern : (value : List ℕ) (sector found : ℕ) → found ≡ from_le_bytes w64 (take 8 value) → (1 ≤ found → value ≡ pattern found sector → ⊥) → (stamp : ℕ) → 1 ≤ stamp → stamp < 2 ^ 64 → value ≡ pattern stamp sector → ⊥

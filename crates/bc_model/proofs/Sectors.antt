@@ -3,6 +3,7 @@ use Rattle.std.proofs.Common.{◌≡◌, ℕ, zero, suc, ◌+◌, ◌*◌, ◌/�
 use Rattle.std.proofs.lemmas.List.{take-append-le, drop-append-le, length-take, length-take-le, take-append-drop}
 use Rattle.std.proofs.Math.Seq.{take-length}
 use Rattle.std.specs.Prelude.{slice_get, Some}
+use Rattle.std.specs.Simd.{first_chunks}
 use Rattle.bc_model.specs.Sector.{Value, sectors, values_of}
 
 pub length_sectors : (n : ℕ) (bytes : List ℕ) → length (sectors n bytes) ≡ n
@@ -96,3 +97,8 @@ get_values bytes n value inside h =
 -- a run of raw bytes
 pub length_raw : (bytes : List ℕ) → length (values_of bytes) ≡ length bytes / 512
 length_raw bytes = length_values_of bytes
+
+-- whole sectors as arrays
+pub first_chunks-sectors : (n : ℕ) (bytes : List ℕ) → first_chunks 512 n bytes ≡ sectors n bytes
+first_chunks-sectors zero bytes = refl
+first_chunks-sectors (suc n) bytes = ap (λ vs. take 512 bytes ∷ vs) (first_chunks-sectors n (drop 512 bytes))

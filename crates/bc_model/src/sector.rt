@@ -61,14 +61,19 @@ fn stamp_in(value: &Sector) -> u64
 pub fn kind(sector: u64, value: &Sector) -> Kind
     ensures { IsKind sector value.now result }
 {
-    if is_zero(value) {
-        return Kind::Zero;
-    }
     let stamp = stamp_in(value);
-    if stamp != 0 && is_pattern(value, stamp, sector) {
-        return Kind::Pattern(stamp);
+    if stamp == 0 {
+        return if is_zero(value) {
+            Kind::Zero
+        } else {
+            Kind::Raw
+        };
     }
-    Kind::Raw
+    if is_pattern(value, stamp, sector) {
+        Kind::Pattern(stamp)
+    } else {
+        Kind::Raw
+    }
 }
 
 /// The value of the sector that has so many before it.

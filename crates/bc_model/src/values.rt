@@ -5,7 +5,7 @@ ghost use Rattle.bc_model.specs.Values.{all_values, runs_of, values_in, AreJoine
 
 use crate::kinds::Kind;
 use crate::run::{Run, Runs};
-use crate::sector::{Sector, kind, sector_at};
+use crate::sector::{Sector, kind};
 use std::alloc::{AllocError, Global};
 use std::marker::Model;
 
@@ -79,6 +79,9 @@ impl Values {
         requires range { first + from + count ≤ 2 ^ 64 }
         ensures { IfOk result (λ part. part ≡ take count (drop from self.now)) }
     {
+        if count == self.count {
+            return self.copy();
+        }
         let mut part = Values::new(self.runs.allocator());
         for i in 0..count {
             let value = self.get(from + i);
@@ -160,9 +163,9 @@ impl Values {
         ensures { IfOk result (λ values. values ≡ values_of bytes.now) }
     {
         let mut values = Values::new(alloc);
-        for place in 0..bytes.len() / 512 {
-            let value = sector_at(bytes, place);
-            values.push(first + place as u64, &value)?;
+        let (sectors, _) = bytes.as_chunks::<512>();
+        for (place, value) in sectors.iter().enumerate() {
+            values.push(first + place as u64, value)?;
         }
         Ok(values)
     }

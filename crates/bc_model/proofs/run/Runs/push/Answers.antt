@@ -1,7 +1,7 @@
 use Rattle.std.proofs.Common.{sym, ◌∙◌}
 use Rattle.std.specs.Prelude.{option_to_list}
 use Rattle.bc_model.specs.Values.{IsRun}
-use Rattle.bc_model.proofs.Apart.{joined_alone, joined_pushed, joined_replaced}
+use Rattle.bc_model.proofs.Apart.{joined_pushed, joined_replaced}
 use Rattle.bc_model.proofs.Lists.{all_front, all_last, all_pushed}
 use Rattle.bc_model.proofs.run.Runs.push.Goals as goal
 

@@ -1,6 +1,5 @@
-use Rattle.std.proofs.Common.{◌≡◌}
-use Rattle.bc_model.specs.Sector.{sectors}
+use Rattle.std.proofs.Common.{◌≡◌, take}
 use Rattle.bc_model.proofs.values.Values.from_bytes.Given as goal
 
 abbrev pub invariant-loop-place : goal.invariant-loop-place
-invariant-loop-place l = l.values ≡ sectors l.place l.bytes
+invariant-loop-place l = l.values ≡ take l.place l.sectors
