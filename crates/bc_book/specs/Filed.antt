@@ -10,6 +10,7 @@ use Rattle.bc_events.specs.declared.event.Deed.TheVariants as deed
 use Rattle.bc_events.specs.declared.event.Event.{Event}
 use Rattle.bc_events.specs.Columns.{entry_by, entries_of}
 use Rattle.bc_book.specs.declared.pass.Pass.{Pass}
+use Rattle.bc_book.specs.declared.pass.Record.{Record}
 use Rattle.bc_book.specs.declared.filed.Places.{Places}
 use Rattle.bc_book.specs.declared.filed.Aside.{Aside}
 use Rattle.bc_book.specs.declared.filed.Aside.TheVariants as aside
@@ -50,6 +51,10 @@ with_aside ks (aside.Deed x) = record ks { others = ks.others ++ x ∷ [] }
 
 abbrev pub kept_after : Kept → Filed → Kept
 kept_after ks t = with_aside (with_entry ks t.entry) t.aside
+
+-- a record that tells its event alone
+abbrev pub alone : Record → Filed
+alone r = record { «record» = r; entry = None; aside = aside.Nothing }
 
 abbrev pub failed_write : ℕ → Option LineNumber → List Value → Deed
 failed_write first of values = deed.DeviceFault (failure.BackingWrite first of values)

@@ -3,11 +3,13 @@ ghost use Rattle.std.specs.Prelude.{◌≡◌, ℕ, ◌+◌, ◌<◌, ◌≤◌,
 ghost use Rattle.std.specs.Prelude.{MatchResult, OnOk};
 ghost use Rattle.bc_events.specs.Columns.{halt_of, entries_of, verdict_of};
 ghost use Rattle.bc_book.specs.Pass.{kept_of, events_in};
-ghost use Rattle.bc_book.specs.Filed.{EndAt, kept_after, with_aside, HasRoom};
+ghost use Rattle.bc_book.specs.Filed.{EndAt, IsFiled, alone, kept_after, with_aside, HasRoom};
+ghost use Rattle.bc_book.specs.declared.filed.Places.{Places};
+ghost use Rattle.bc_book.specs.declared.filed.Filed.{Filed};
 
-use crate::filed::{Aside, Filed, Places, filed_event};
+use crate::filed::{Aside, Filed, Places, filed_event, record_alone};
 use crate::halt::{halted_after, outlasts_halt};
-use crate::pass::Pass;
+use crate::pass::{Pass, Record};
 use bc_disk::disk::Device;
 use bc_events::event::Event;
 use std::alloc::{AllocError, Global};
@@ -97,6 +99,34 @@ fn put_filed(pass: &mut Pass, filed: Filed)
     }
 }
 
+// Puts a record that tells its event alone.
+fn put_alone(pass: &mut Pass, item: Record)
+    requires { HasRoom pass.old 1 }
+    ensures kept { kept_of pass.new ≡ kept_after (kept_of pass.old) (alone item) }
+    ensures records { pass.new.records.items ≡ pass.old.records.items ++ item ∷ [] }
+    ensures room { (n : ℕ) → HasRoom pass.old (n + 1) → HasRoom pass.new n }
+{
+    put(&mut pass.records, item);
+}
+
+// Puts what an event is taken apart into.
+fn put_apart(pass: &mut Pass, event: Event)
+    requires { HasRoom pass.old 1 }
+    ensures filed { (p : Places) × (filed : Filed) × EndAt (kept_of pass.old) p
+        × IsFiled p filed event × (kept_of pass.new ≡ kept_after (kept_of pass.old) filed)
+        × (pass.new.records.items ≡ pass.old.records.items ++ filed.record ∷ []) }
+    ensures room { (n : ℕ) → HasRoom pass.old (n + 1) → HasRoom pass.new n }
+{
+    let places = places_of(pass);
+    match record_alone(&event) {
+        Some(record) => {
+            drop(event);
+            put_alone(pass, record);
+        }
+        None => put_filed(pass, filed_event(event, places)),
+    }
+}
+
 // Makes room for so many events more.
 fn make_room(pass: &mut Pass, room: usize) -> Result<(), AllocError>
     ensures kept { kept_of pass.new ≡ kept_of pass.old }
@@ -154,9 +184,7 @@ impl Book {
         ensures room { self.new.room + 1 ≡ self.old.room }
     {
         let halted = halted_after(self.halted, &event);
-        let places = places_of(&self.pass);
-        let filed = filed_event(event, places);
-        put_filed(&mut self.pass, filed);
+        put_apart(&mut self.pass, event);
         self.room -= 1;
         self.halted = halted;
     }

@@ -1,9 +1,10 @@
 //! An event taken apart: its record, and what goes into the other lists of a pass.
-ghost use Rattle.std.specs.Prelude.{◌≡◌, Option, Some, None};
+ghost use Rattle.std.specs.Prelude.{◌≡◌, Option, Some, None, IfSome};
 ghost use Rattle.bc_events.specs.Columns.{entry_by};
 ghost use Rattle.bc_events.specs.declared.event.Deed.TheVariants as deed;
 ghost use Rattle.bc_book.specs.Pass.{event_by, deed_of_entry, read_of};
-ghost use Rattle.bc_book.specs.Filed.{IsFiled, failed_write};
+ghost use Rattle.bc_book.specs.Filed.{IsFiled, alone, failed_write};
+ghost use Rattle.bc_book.specs.declared.filed.Places.{Places};
 
 use crate::pass::{Insertion, Reading, Record};
 use bc_events::event::{Deed, Event, Failure, LineNumber, Written};
@@ -305,6 +306,30 @@ fn filed_hold(seat: u32, deed: Deed, places: Places) -> Filed
         record,
         entry: None,
         aside: Aside::Nothing,
+    }
+}
+
+/// The record of an event that it tells alone: one that puts neither an entry nor anything beside the
+/// records, as most do. To take any event apart takes much longer.
+pub(crate) fn record_alone(event: &Event) -> Option<Record>
+    ensures { IfSome result (λ r. (p : Places) → IsFiled p (alone r) event.now) }
+{
+    let seat = event.seat;
+    match &event.deed {
+        Deed::Claim {
+            first,
+            count,
+            share,
+        } => Some(Record::Claim {
+            seat,
+            first: *first,
+            count: *count,
+            share: *share,
+        }),
+        Deed::Release => Some(Record::Release { seat }),
+        Deed::LineFrom { of } => Some(Record::LineFrom { seat, of: *of }),
+        Deed::LineDone { of } => Some(Record::LineDone { seat, of: *of }),
+        _ => None,
     }
 }
 

@@ -9,11 +9,8 @@ use Rattle.bc_book.specs.Filed.{HasRoom}
 use Rattle.bc_book.proofs.Growing.{Grown, grown, halt_more}
 use Rattle.bc_book.proofs.book.Book.put_event.Goals as goal
 
-grown_pass : (c : goal.After-halted-1) → Grown c.self.inside.pass c.put_filed.new.pass c.args.event
-grown_pass c =
-    grown _ _ c.filed_event-filed.result c.args.event c.places_of-places.result c.self.invariant.0
-    c.places_of-places.ensures c.filed_event-filed.ensures
-    c.put_filed.ensures.kept c.put_filed.ensures.records
+grown_pass : (c : goal.After-halted-1) → Grown c.self.inside.pass c.put_apart.new.pass c.args.event
+grown_pass c = let f = c.put_apart.ensures.filed in grown _ _ f.1 c.args.event f.0 c.self.invariant.0 f.2 f.3 f.4 f.5
 
 pub invariant_of-self : goal.invariant_of-self
 invariant_of-self c =
@@ -22,7 +19,7 @@ invariant_of-self c =
     subst (λ (b : BookView). 0 < b.room) (sym c.self.view_is) c.requires in
     let more : c.self.inside.room ≡ (c.self.inside.room - 1) + 1 = omega arith in (
       g.kept,
-      c.put_filed.ensures.room (c.self.inside.room - 1)
+      c.put_apart.ensures.room (c.self.inside.room - 1)
           (subst (λ n. HasRoom c.self.inside.pass n) more c.self.invariant.1),
       c.halted_after-halted.ensures
           ∙ ap (λ (h : Option Device). halt_after h c.args.event) c.self.invariant.2
