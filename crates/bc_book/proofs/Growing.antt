@@ -186,6 +186,27 @@ module _ (p q : Pass) (t : Filed) (e : Event) (at : Places)
     };
   }
 
+-- ---- places
+
+-- the next places of the lists of a pass
+abbrev pub ends_of : Pass → Places
+ends_of p = record {
+  entries = length p.entries.items;
+  beside = length p.beside.items;
+  readings = length p.readings.items;
+  insertions = length p.insertions.items;
+  others = length p.others.items;
+}
+
+pub ends_at : (p : Pass) → EndAt (kept_of p) (ends_of p)
+ends_at p = record {
+  entries = refl;
+  beside = refl;
+  readings = refl;
+  insertions = refl;
+  others = refl;
+}
+
 -- ---- room
 
 -- one item more takes one place of the room

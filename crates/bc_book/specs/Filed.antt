@@ -65,6 +65,12 @@ pub record IsFiled (p : Places) (t : Filed) (e : Event) : Type 0 where
   pub tells : (ks more : Kept) → EndAt ks p
       → GrowsTo (kept_after ks t) more → event_of more t.record ≡ e
 
+-- the second pass has this event more: what it is taken apart into
+abbrev pub HasFiled : Pass → Pass → Event → Type 0
+HasFiled p q e = (at : Places) × (t : Filed) × EndAt (kept_of p) at
+    × IsFiled at t e × (kept_of q ≡ kept_after (kept_of p) t)
+    × (q.records.items ≡ p.records.items ++ t.record ∷ [])
+
 -- the history is that of the events, and these stay whatever is put behind them
 pub record IsKept (p : Pass) : Type 0 where
   pub entries : p.entries.items ≡ entries_of (events_in p)

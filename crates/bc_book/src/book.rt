@@ -1,17 +1,21 @@
 //! The book of a run: the list of its events.
 ghost use Rattle.std.specs.Prelude.{◌≡◌, ℕ, ◌+◌, ◌<◌, ◌≤◌, ◌++◌, ◌∷◌, [], length, vec_capacity};
-ghost use Rattle.std.specs.Prelude.{MatchResult, OnOk};
-ghost use Rattle.bc_events.specs.Columns.{halt_of, entries_of, verdict_of};
-ghost use Rattle.bc_book.specs.Pass.{kept_of, events_in};
-ghost use Rattle.bc_book.specs.Filed.{EndAt, IsFiled, alone, kept_after, with_aside, HasRoom};
+ghost use Rattle.std.specs.Prelude.{MatchResult, OnOk, Some};
+ghost use Rattle.bc_events.specs.Columns.{entry_by, halt_of, entries_of, verdict_of};
+ghost use Rattle.bc_events.specs.declared.event.Event.{Event};
+ghost use Rattle.bc_events.specs.declared.event.Deed.TheVariants as deed;
+ghost use Rattle.bc_book.specs.Pass.{kept_of, events_in, event_by, deed_of_entry};
+ghost use Rattle.bc_book.specs.Filed.{EndAt, IsFiled, HasFiled, alone, kept_after, with_aside, HasRoom};
 ghost use Rattle.bc_book.specs.declared.filed.Places.{Places};
 ghost use Rattle.bc_book.specs.declared.filed.Filed.{Filed};
 
-use crate::filed::{Aside, Filed, Places, filed_event, record_alone};
+use crate::filed::{Aside, Filed, Places, filed_event};
 use crate::halt::{halted_after, outlasts_halt};
 use crate::pass::{Pass, Record};
 use bc_disk::disk::Device;
-use bc_events::event::Event;
+use bc_events::event::{Deed, Event};
+use bc_model::history::Entry;
+use bc_model::values::Values;
 use std::alloc::{AllocError, Global};
 use std::marker::Model;
 
@@ -102,28 +106,104 @@ fn put_filed(pass: &mut Pass, filed: Filed)
 // Puts a record that tells its event alone.
 fn put_alone(pass: &mut Pass, item: Record)
     requires { HasRoom pass.old 1 }
-    ensures kept { kept_of pass.new ≡ kept_after (kept_of pass.old) (alone item) }
-    ensures records { pass.new.records.items ≡ pass.old.records.items ++ item ∷ [] }
+    ensures filed { (e : Event) → ((p : Places) → IsFiled p (alone item) e)
+        → HasFiled pass.old pass.new e }
     ensures room { (n : ℕ) → HasRoom pass.old (n + 1) → HasRoom pass.new n }
 {
     put(&mut pass.records, item);
 }
 
-// Puts what an event is taken apart into.
-fn put_apart(pass: &mut Pass, event: Event)
+// Puts an entry, with a record that tells its event by it.
+fn put_entry(pass: &mut Pass, seat: u32, entry: Entry)
+    requires room { HasRoom pass.old 1 }
+    requires entry { entry_by (deed_of_entry entry) ≡ Some entry }
+    ensures filed { HasFiled pass.old pass.new (event_by seat (deed_of_entry entry)) }
+    ensures room { (n : ℕ) → HasRoom pass.old (n + 1) → HasRoom pass.new n }
+{
+    let place = pass.entries.as_slice().len();
+    put(&mut pass.entries, entry);
+    put(&mut pass.records, Record::Entry { seat, entry: place });
+}
+
+// Puts a read of the backing device, with the values that it found.
+fn put_read(pass: &mut Pass, seat: u32, first: u64, values: Values)
     requires { HasRoom pass.old 1 }
-    ensures filed { (p : Places) × (filed : Filed) × EndAt (kept_of pass.old) p
-        × IsFiled p filed event × (kept_of pass.new ≡ kept_after (kept_of pass.old) filed)
-        × (pass.new.records.items ≡ pass.old.records.items ++ filed.record ∷ []) }
+    ensures filed { HasFiled pass.old pass.new (event_by seat (deed.BackingRead first values)) }
+    ensures room { (n : ℕ) → HasRoom pass.old (n + 1) → HasRoom pass.new n }
+{
+    let place = pass.beside.as_slice().len();
+    put(&mut pass.beside, values);
+    let record = Record::BackingRead {
+        seat,
+        first,
+        values: place,
+    };
+    put(&mut pass.records, record);
+}
+
+// Puts what an event is taken apart into, whatever it is. It is kept out of line, so that the deeds of
+// which most events are don't pay for the largest.
+#[inline(never)]
+fn put_any(pass: &mut Pass, event: Event)
+    requires { HasRoom pass.old 1 }
+    ensures filed { HasFiled pass.old pass.new event }
     ensures room { (n : ℕ) → HasRoom pass.old (n + 1) → HasRoom pass.new n }
 {
     let places = places_of(pass);
-    match record_alone(&event) {
-        Some(record) => {
-            drop(event);
-            put_alone(pass, record);
-        }
-        None => put_filed(pass, filed_event(event, places)),
+    put_filed(pass, filed_event(event, places));
+}
+
+// Puts an event. The deeds of which most events are go straight to their lists: to take any event
+// apart takes much longer.
+fn put_apart(pass: &mut Pass, event: Event)
+    requires { HasRoom pass.old 1 }
+    ensures filed { HasFiled pass.old pass.new event }
+    ensures room { (n : ℕ) → HasRoom pass.old (n + 1) → HasRoom pass.new n }
+{
+    let Event { seat, deed } = event;
+    match deed {
+        Deed::Claim {
+            first,
+            count,
+            share,
+        } => put_alone(
+            pass,
+            Record::Claim {
+                seat,
+                first,
+                count,
+                share,
+            },
+        ),
+        Deed::Release => put_alone(pass, Record::Release { seat }),
+        Deed::LineFrom { of } => put_alone(pass, Record::LineFrom { seat, of }),
+        Deed::LineDone { of } => put_alone(pass, Record::LineDone { seat, of }),
+        Deed::BackingRead { first, values } => put_read(pass, seat, first, values),
+        Deed::BackingWrite {
+            first,
+            of: Some(of),
+            values,
+        } => put_entry(
+            pass,
+            seat,
+            Entry::Write {
+                worker: of.worker,
+                line: of.line,
+                first,
+                values,
+            },
+        ),
+        Deed::Answer { of, first, values } => put_entry(
+            pass,
+            seat,
+            Entry::Read {
+                worker: of.worker,
+                line: of.line,
+                first,
+                values,
+            },
+        ),
+        deed => put_any(pass, Event { seat, deed }),
     }
 }
 

@@ -309,30 +309,6 @@ fn filed_hold(seat: u32, deed: Deed, places: Places) -> Filed
     }
 }
 
-/// The record of an event that it tells alone: one that puts neither an entry nor anything beside the
-/// records, as most do. To take any event apart takes much longer.
-pub(crate) fn record_alone(event: &Event) -> Option<Record>
-    ensures { IfSome result (λ r. (p : Places) → IsFiled p (alone r) event.now) }
-{
-    let seat = event.seat;
-    match &event.deed {
-        Deed::Claim {
-            first,
-            count,
-            share,
-        } => Some(Record::Claim {
-            seat,
-            first: *first,
-            count: *count,
-            share: *share,
-        }),
-        Deed::Release => Some(Record::Release { seat }),
-        Deed::LineFrom { of } => Some(Record::LineFrom { seat, of: *of }),
-        Deed::LineDone { of } => Some(Record::LineDone { seat, of: *of }),
-        _ => None,
-    }
-}
-
 // A deed that puts no entry.
 fn filed_call(seat: u32, deed: Deed, places: Places) -> Filed
     requires { entry_by deed ≡ None }
