@@ -31,28 +31,28 @@ impl Last {
     }
 
     // So many sectors more, in which this is seen.
-    fn push(&mut self, seen: Seen, count: u32, text: &mut Vec<u8>) -> Result<(), AllocError>
+    fn push(&mut self, seen: &Seen, count: u32, text: &mut Vec<u8>) -> Result<(), AllocError>
         requires some { 1 ≤ count }
-        requires one { (count ≤ 1) ⊎ (is_joined seen seen ≡ true) }
+        requires one { (count ≤ 1) ⊎ (is_joined seen.now seen.now ≡ true) }
         requires last { IsLast self.old }
         requires room { self.old.count + count < 2 ^ 32 }
         ensures last { OnOk result (IsLast self.new) }
         ensures few { OnOk result (self.new.count ≤ self.old.count + count) }
         ensures prints { OnOk result ((xs : List Seen) → Prints xs self.old text.old.items
-            → Prints (xs ++ replicate count seen) self.new text.new.items) }
+            → Prints (xs ++ replicate count seen.now) self.new text.new.items) }
     {
         if self.count == 0 {
-            self.seen = seen;
+            self.seen = *seen;
             self.count = count;
             return Ok(());
         }
-        if self.seen.is_joined(&seen) {
+        if self.seen.is_joined(seen) {
             self.count += count;
             return Ok(());
         }
         push_seen(text, &self.seen, self.count)?;
         text.push(b' ')?;
-        self.seen = seen;
+        self.seen = *seen;
         self.count = count;
         Ok(())
     }
@@ -68,7 +68,7 @@ impl Last {
     {
         for place in 0..run.len() {
             let seen = Seen::new(first + place as u64, &run.get(place));
-            self.push(seen, 1, text)?;
+            self.push(&seen, 1, text)?;
         }
         Ok(())
     }
@@ -88,7 +88,7 @@ impl Last {
         ensures { OnOk result (Goes first (patterns stamp first count)
             self.old self.new text.old.items text.new.items) }
     {
-        self.push(Seen::Stamp(stamp), count, text)
+        self.push(&Seen::Stamp(stamp), count, text)
     }
 
     // The same of a run at once, where the same is seen in all of its sectors.
@@ -106,7 +106,7 @@ impl Last {
                 first: own,
                 count,
             } if *own == first && *count > 0 => self.push_pattern(first, *stamp, *count, text),
-            Run::Zero { count } if *count > 0 => self.push(Seen::Zero, *count, text),
+            Run::Zero { count } if *count > 0 => self.push(&Seen::Zero, *count, text),
             _ => self.push_each(first, run, text),
         }
     }

@@ -3,7 +3,7 @@ ghost use Rattle.std.specs.Prelude.{◌≡◌, ◌+◌, ◌<◌, ◌≤◌, ◌^
 ghost use Rattle.std.specs.Char.{digit_char};
 ghost use Rattle.std.specs.Fmt.{decimal};
 ghost use Rattle.bc_script.specs.Runs.{AreSeen, hex, seen_text, runs_text};
-ghost use Rattle.bc_script.specs.Answer.{asked_text, device_text, numbers_text, refusal_text, IsText, IsPrintable, AppendsText};
+ghost use Rattle.bc_script.specs.Answer.{asked_text, device_text, numbers_text, refusal_text, IsPrintable, AppendsText};
 ghost use Rattle.bc_script.specs.declared.seen.Seen.{Seen};
 
 use crate::answer::{Answer, Asked, Refusal};
@@ -142,18 +142,6 @@ fn refusal_of(alloc: Global, refusal: Refusal) -> Result<Vec<u8>, AllocError>
     Ok(text)
 }
 
-fn text_of(alloc: Global, answer: &Answer) -> Result<Vec<u8>, AllocError>
-    requires { IsPrintable answer.now }
-    ensures { IfOk result (λ text. IsText answer.now text.items) }
-{
-    match answer {
-        Answer::Silent => Ok(Vec::new(alloc)),
-        Answer::Done => Vec::from_slice(alloc, b"done"),
-        Answer::Runs { first, values } => runs_of(alloc, *first, values),
-        Answer::Refused(refusal) => refusal_of(alloc, *refusal),
-    }
-}
-
 /// Puts the text of an answer, without a newline, behind the bytes of `into`; after an error these
 /// are as before.
 ///
@@ -167,6 +155,16 @@ pub fn print_answer(answer: &Answer, into: &mut Vec<u8>) -> Result<(), AllocErro
     ensures ok { OnOk result (AppendsText answer.now into.old.items into.new.items) }
     ensures err { OnErr result (into.new.items ≡ into.old.items) }
 {
-    let text = text_of(*into.allocator(), answer)?;
-    into.extend_from_slice(&text)
+    match answer {
+        Answer::Silent => Ok(()),
+        Answer::Done => into.extend_from_slice(b"done"),
+        Answer::Runs { first, values } => {
+            let text = runs_of(*into.allocator(), *first, values)?;
+            into.extend_from_slice(&text)
+        }
+        Answer::Refused(refusal) => {
+            let text = refusal_of(*into.allocator(), *refusal)?;
+            into.extend_from_slice(&text)
+        }
+    }
 }
