@@ -10,7 +10,7 @@ use bc_disk::disk::Disk;
 use bc_flight::flight::Flight;
 use bc_journal::Journal;
 use bc_machine::machine::{Core, CoreParts, CoreSeat};
-use bc_machine::part::{BACKING, BackingPart, BucketsPart, CorePart, FLIGHT};
+use bc_machine::part::{Apart, BACKING, BackingPart, BucketsPart, CorePart, FLIGHT};
 use bc_seats::seats;
 use bc_tree::Spine;
 use std::sync::Wait;
@@ -25,11 +25,11 @@ pub struct LeafHand {
 /// The parts that a seat holds, one of each kind at most. They are taken in this order.
 #[derive(Drop)]
 pub struct Hand<C, B> {
-    pub spine: Option<Spine>,
+    pub spine: Option<Apart<Spine>>,
     pub leaves: Option<LeafHand>,
     pub flight: Option<Flight>,
-    pub buckets: Option<BucketsPart>,
-    pub journal: Option<Journal>,
+    pub buckets: Option<Apart<BucketsPart>>,
+    pub journal: Option<Apart<Journal>>,
     pub cache: Option<C>,
     pub backing: Option<BackingPart<B>>,
 }

@@ -11,7 +11,7 @@ use bc_cache::NodeCache;
 use bc_disk::disk::Disk;
 use bc_journal::Journal;
 use bc_machine::machine::{CoreParts, CoreSeat};
-use bc_machine::part::{BUCKETS, BucketsPart, CACHE, CorePart, JOURNAL, SPINE};
+use bc_machine::part::{Apart, BUCKETS, BucketsPart, CACHE, CorePart, JOURNAL, SPINE};
 use bc_seats::seats;
 use bc_tree::Spine;
 use std::sync::Wait;
@@ -22,7 +22,7 @@ pub fn borrow_spine<C: Disk + Drop, B: Disk + Drop, R: Wait>(
     parts: &CoreParts<C, B>,
     seat: &mut CoreSeat<C, B>,
     hand: &mut Hand<C, B>,
-) -> (Spine, bool)
+) -> (Apart<Spine>, bool)
     requires works { Works C.facts B.facts parts.now seat.old hand.old }
     requires cached { are_plain C.facts B.facts parts.now.run.start ≡ false }
     requires order { hand.old.spine ≡ None → HasNoneBehindSpine hand.old }
@@ -47,7 +47,7 @@ pub fn return_spine<C: Disk + Drop, B: Disk + Drop>(
     parts: &CoreParts<C, B>,
     seat: &mut CoreSeat<C, B>,
     hand: &mut Hand<C, B>,
-    spine: Spine,
+    spine: Apart<Spine>,
     taken: bool,
 )
     requires { Works C.facts B.facts parts.now seat.old (record hand.old { spine = Some spine }) }
@@ -71,7 +71,7 @@ pub fn borrow_buckets<C: Disk + Drop, B: Disk + Drop, R: Wait>(
     parts: &CoreParts<C, B>,
     seat: &mut CoreSeat<C, B>,
     hand: &mut Hand<C, B>,
-) -> (BucketsPart, bool)
+) -> (Apart<BucketsPart>, bool)
     requires works { Works C.facts B.facts parts.now seat.old hand.old }
     requires cached { are_plain C.facts B.facts parts.now.run.start ≡ false }
     requires order { hand.old.buckets ≡ None → HasNoneBehindBuckets hand.old }
@@ -96,7 +96,7 @@ pub fn return_buckets<C: Disk + Drop, B: Disk + Drop>(
     parts: &CoreParts<C, B>,
     seat: &mut CoreSeat<C, B>,
     hand: &mut Hand<C, B>,
-    buckets: BucketsPart,
+    buckets: Apart<BucketsPart>,
     taken: bool,
 )
     requires { Works C.facts B.facts parts.now seat.old (record hand.old { buckets = Some buckets }) }
@@ -120,7 +120,7 @@ pub fn borrow_journal<C: Disk + Drop, B: Disk + Drop, R: Wait>(
     parts: &CoreParts<C, B>,
     seat: &mut CoreSeat<C, B>,
     hand: &mut Hand<C, B>,
-) -> (Journal, bool)
+) -> (Apart<Journal>, bool)
     requires works { Works C.facts B.facts parts.now seat.old hand.old }
     requires cached { are_plain C.facts B.facts parts.now.run.start ≡ false }
     requires order { hand.old.journal ≡ None → HasNoneBehindJournal hand.old }
@@ -145,7 +145,7 @@ pub fn return_journal<C: Disk + Drop, B: Disk + Drop>(
     parts: &CoreParts<C, B>,
     seat: &mut CoreSeat<C, B>,
     hand: &mut Hand<C, B>,
-    journal: Journal,
+    journal: Apart<Journal>,
     taken: bool,
 )
     requires { Works C.facts B.facts parts.now seat.old (record hand.old { journal = Some journal }) }

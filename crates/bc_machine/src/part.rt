@@ -1,5 +1,5 @@
 //! The parts in which the running state is held.
-ghost use Rattle.std.specs.Prelude.{◌+◌, ◌<◌, ◌^◌};
+ghost use Rattle.std.specs.Prelude.{◌≡◌, ◌+◌, ◌<◌, ◌^◌, MatchResult};
 ghost use Rattle.bc_alloc.specs.Buckets.{AreFor};
 ghost use Rattle.bc_alloc.specs.Reserves.{IsInOrder};
 ghost use Rattle.bc_fill.specs.Fill.{AreOpen};
@@ -11,6 +11,8 @@ use bc_fill::Fill;
 use bc_flight::flight::Flight;
 use bc_journal::Journal;
 use bc_tree::Spine;
+use std::alloc::{AllocFailed, Global};
+use std::marker::Model;
 
 /// The number of the part with the inner nodes and the ranges of leaves.
 pub const SPINE: u32 = 0;
@@ -56,15 +58,44 @@ pub struct BucketsPart {
     pub ghost sized: { 0 < buckets.size },
 }
 
+/// A large part, kept apart, so that it is taken and given by the one word that leads there.
+#[derive(Drop)]
+pub struct Apart<T> {
+    inner: Box<T>,
+}
+
+impl<T> Model for Apart<T> {
+    ghost Value = { T };
+
+    ghost view = { λ a. a.inner.value };
+}
+
+impl<T> Apart<T> {
+    /// Puts the part there. `Err` comes from want of memory.
+    pub fn new(alloc: Global, part: T) -> Result<Apart<T>, AllocFailed<T>>
+        ensures { MatchResult result (λ apart. apart ≡ part) (λ failed. failed.value ≡ part) }
+    {
+        let inner = Box::new(alloc, part)?;
+        Ok(Apart { inner })
+    }
+
+    /// The part.
+    pub fn get(&self) -> &T
+        ensures { result.now ≡ self.now }
+    {
+        &self.inner
+    }
+}
+
 /// One part of the running state. A run has them in the order of their numbers.
 #[derive(Drop)]
 pub enum CorePart<C, B> {
     /// A part that the run hasn't: one over the backing device alone has no cache.
     Absent,
-    Spine(Spine),
+    Spine(Apart<Spine>),
     Flight(Flight),
-    Buckets(BucketsPart),
-    Journal(Journal),
+    Buckets(Apart<BucketsPart>),
+    Journal(Apart<Journal>),
     Cache(C),
     Backing(BackingPart<B>),
     Leaves(NodeCache),
