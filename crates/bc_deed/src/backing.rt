@@ -1,5 +1,5 @@
 //! The steps that call the backing device. A sector counts from the first one of its data.
-ghost use Rattle.std.specs.Prelude.{◌≡◌, ◌+◌, ◌*◌, ◌/◌, ◌<◌, ◌≤◌, ◌^◌, ◌==◌, ℕ, true, false, None, Some, length, vec_capacity, [], OnOk, IfErr, IfSome};
+ghost use Rattle.std.specs.Prelude.{◌≡◌, ◌+◌, ◌*◌, ◌/◌, ◌<◌, ◌≤◌, ◌^◌, ◌==◌, ℕ, true, false, None, Some, length, vec_capacity, [], OnOk, IfOk, IfErr, IfSome};
 ghost use Rattle.bc_model.specs.Sector.{values_of};
 ghost use Rattle.bc_parts.specs.Seat.{Holds};
 ghost use Rattle.bc_seats.specs.Seats.{Kept};
@@ -107,7 +107,8 @@ fn barrier_in<C: Disk, B: Disk, R: Wait>(
 }
 
 /// Reads the sectors from `first` on into `into`, under the seat's claim, after the gate at
-/// `BeforeRead`. After an error the bytes of `into` are any.
+/// `BeforeRead`, and answers their values too, where there is memory for them. After an error the
+/// bytes of `into` are any.
 pub fn backing_read<C: Disk + Drop, B: Disk + Drop, R: Wait, G: Gate>(
     rt: &R,
     alloc: Global,
@@ -117,7 +118,7 @@ pub fn backing_read<C: Disk + Drop, B: Disk + Drop, R: Wait, G: Gate>(
     first: u64,
     into: &mut [u8],
     gate: &G,
-) -> Result<(), StepError>
+) -> Result<Option<Values>, StepError>
     requires works { Works C.facts B.facts parts.now seat.old hand.old }
     requires promise { 0 < seat.old.promises }
     requires sectors { AreSectors first (length into.old) (size_of C.facts B.facts seat.old.run.start) }
@@ -127,6 +128,7 @@ pub fn backing_read<C: Disk + Drop, B: Disk + Drop, R: Wait, G: Gate>(
     ensures hand { kinds hand.new ≡ kinds hand.old }
     ensures ok { OnOk result (Did C.facts B.facts
         (Some (Deed.BackingRead first (values_of into.new))) seat.old seat.new) }
+    ensures values { IfOk result (λ some. IfSome some (λ values. values ≡ values_of into.new)) }
     ensures err { IfErr result (λ error. HasFailedOr C.facts B.facts error
         (Deed.DeviceFault (Failure.Read Device.Backing)) seat.old seat.new) }
 {
@@ -152,7 +154,7 @@ fn read_in<C: Disk, B: Disk, R: Wait>(
     first: u64,
     into: &mut [u8],
     bytes: Vec<u8>,
-) -> Result<(), StepError>
+) -> Result<Option<Values>, StepError>
     requires run { seat.old.run ≡ parts.now.run }
     requires seat { IsCoreSeat C.facts B.facts seat.old }
     requires unheard { seat.old.heard ≡ None }
@@ -168,6 +170,7 @@ fn read_in<C: Disk, B: Disk, R: Wait>(
     ensures backing { IsBacking C.facts B.facts backing.new (world C.facts B.facts seat.new) }
     ensures ok { OnOk result (Did C.facts B.facts
         (Some (Deed.BackingRead first (values_of into.new))) seat.old seat.new) }
+    ensures values { IfOk result (λ some. IfSome some (λ values. values ≡ values_of into.new)) }
     ensures err { IfErr result (λ error. HasFailed C.facts B.facts error
         (Deed.DeviceFault (Failure.Read Device.Backing)) seat.old seat.new) }
 {
@@ -179,8 +182,9 @@ fn read_in<C: Disk, B: Disk, R: Wait>(
                 unreachable!()
             };
             let values = Values::from_sectors(first, bytes);
+            let copy = values.copy().ok();
             called(rt, parts, seat, Deed::BackingRead { first, values });
-            Ok(())
+            Ok(copy)
         }
         Err(_) => {
             let failure = Failure::Read {

@@ -91,7 +91,6 @@ fn read_under<C: Disk + Drop, B: Disk + Drop, R: Wait, G: Gate>(
     requires promise { 1 < seat.old.promises }
     requires line { worker_of seat.old.first ≡ of.worker }
     requires sectors { AreSectors first (length into.old) (size_of C.facts B.facts seat.old.run.start) }
-    requires range { first + length into.old / 512 ≤ 2 ^ 64 }
     requires looked { (note C.facts B.facts seat.old).looked ≡ true }
     requires covered { IsWithin (note C.facts B.facts seat.old).range first (length into.old / 512) }
     ensures works { Works C.facts B.facts parts.now seat.new hand.new }
@@ -102,11 +101,11 @@ fn read_under<C: Disk + Drop, B: Disk + Drop, R: Wait, G: Gate>(
         ∷ Deed.Answer of first (values_of into.new) ∷ []) seat.old seat.new) }
     ensures err { IfErr result (λ error. ReadUnder C.facts B.facts error first seat.old seat.new) }
 {
-    match backing_read(rt, alloc, parts, seat, hand, first, into, gate) {
-        Ok(()) => {}
+    let read = match backing_read(rt, alloc, parts, seat, hand, first, into, gate) {
+        Ok(read) => read,
         Err(error) => return Err(error),
-    }
-    let Ok(values) = Values::from_bytes(alloc, first, into) else {
+    };
+    let Some(values) = read else {
         return Err(StepError::Memory);
     };
     answer(rt, parts, seat, hand, of, first, &values)

@@ -1,5 +1,6 @@
-use Rattle.std.proofs.Common.{◌≡◌, ℕ, ◌+◌, ◌/◌, ◌≤◌, List, length, inl, refl, sym, ap, ◌∙◌, subst}
-use Rattle.bc_model.specs.Sector.{Value}
+use Rattle.std.proofs.Common.{◌≡◌, ℕ, ◌/◌, List, length, Option, Some, refl, ap, ◌∙◌, subst}
+use Rattle.std.specs.Prelude.{IfSome}
+use Rattle.bc_model.specs.Sector.{Value, values_of}
 use Rattle.bc_model.proofs.Sectors.{length_values_of}
 use Rattle.bc_events.specs.declared.event.Deed.TheVariants as deed
 use Rattle.bc_events.specs.declared.event.Failure.TheVariants as failure
@@ -10,6 +11,11 @@ use Rattle.bc_deed.proofs.Noting.{range_failed, range_either}
 use Rattle.bc_job.proofs.Under.{read_failed, read_noted, read_there, read_answered, answer_stopped, within_same}
 use Rattle.bc_job.proofs.piece.read_under.Goals as goal
 
+same : (found : Option (List Value)) (values : List Value) (bytes : List ℕ)
+    → IfSome found (λ vs. vs ≡ values_of bytes) → found ≡ Some values → values ≡ values_of bytes
+same found values bytes h is =
+    subst (λ (o : Option (List Value)). IfSome o (λ vs. vs ≡ values_of bytes)) is h
+
 pub returns-in-Err-clause-claim : goal.returns-in-Err-clause-claim
 returns-in-Err-clause-claim g c = range_failed g.C.Disk.facts g.B.Disk.facts c.in-Err.error
     (deed.DeviceFault (failure.Read Backing)) c.args.seat.now c.backing_read.new.seat c.requires.works.seat
@@ -19,10 +25,6 @@ pub returns-in-Err-clause-err : goal.returns-in-Err-clause-err
 returns-in-Err-clause-err g c = read_failed g.C.Disk.facts g.B.Disk.facts c.in-Err.error c.args.first
     c.args.seat.now c.backing_read.new.seat c.in-Err.ensures.err
 
-pub from_bytes-requires-clause-range : goal.from_bytes-requires-clause-range
-from_bytes-requires-clause-range g c = subst (λ n. c.args.first + n / 512 ≤ 18446744073709551616)
-    (sym c.backing_read.auto.into) c.requires.range
-
 pub returns-in_default-clause-claim : goal.returns-in_default-clause-claim
 returns-in_default-clause-claim g c = (read_noted g.C.Disk.facts g.B.Disk.facts c.args.first _ c.args.seat.now
     c.backing_read.new.seat c.requires.works.seat c.in-Ok.ensures.ok).range
@@ -31,7 +33,7 @@ pub returns-in_default-clause-err : goal.returns-in_default-clause-err
 returns-in_default-clause-err g c = Rattle.std.proofs.Common.inr (
   _,
   done_first g.C.Disk.facts g.B.Disk.facts
-      (Rattle.std.proofs.Common.Some (deed.BackingRead c.args.first _)) c.args.seat.now c.backing_read.new.seat
+      (Some (deed.BackingRead c.args.first _)) c.args.seat.now c.backing_read.new.seat
       c.in-Ok.ensures.ok,
 )
 
@@ -41,28 +43,28 @@ answer-requires-clause-looked g c = (read_noted g.C.Disk.facts g.B.Disk.facts c.
 
 pub answer-requires-clause-covered : goal.answer-requires-clause-covered
 answer-requires-clause-covered g c =
-    let long : length c.in-Ok-from_bytes.values ≡ length c.args.into.now / 512 =
-    ap (λ (vs : List Value). length vs) c.in-Ok-from_bytes.ensures ∙ length_values_of c.backing_read.new.into
+    let long : length c.in-Some.values ≡ length c.args.into.now / 512 =
+    ap (λ (vs : List Value). length vs) (same _ c.in-Some.values c.backing_read.new.into c.in-Ok.ensures.values c.in-Some.is) ∙ length_values_of c.backing_read.new.into
     ∙ ap (λ n. n / 512) c.backing_read.auto.into in
     within_same _ _ c.args.first _ _
     (read_noted g.C.Disk.facts g.B.Disk.facts c.args.first _ c.args.seat.now
     c.backing_read.new.seat c.requires.works.seat c.in-Ok.ensures.ok).range long c.requires.covered
 
 pub answer-requires-clause-read : goal.answer-requires-clause-read
-answer-requires-clause-read g c = read_there g.C.Disk.facts g.B.Disk.facts c.args.first _ c.in-Ok-from_bytes.values
-    c.args.seat.now c.backing_read.new.seat c.requires.works.seat c.in-Ok-from_bytes.ensures c.in-Ok.ensures.ok
+answer-requires-clause-read g c = read_there g.C.Disk.facts g.B.Disk.facts c.args.first _ c.in-Some.values
+    c.args.seat.now c.backing_read.new.seat c.requires.works.seat (same _ c.in-Some.values c.backing_read.new.into c.in-Ok.ensures.values c.in-Some.is) c.in-Ok.ensures.ok
 
 pub returns-clause-claim : goal.returns-clause-claim
 returns-clause-claim g c = range_either g.C.Disk.facts g.B.Disk.facts c.answer.result
-    (deed.Answer c.args.of c.args.first c.in-Ok-from_bytes.values) c.backing_read.new.seat c.answer.new.seat
+    (deed.Answer c.args.of c.args.first c.in-Some.values) c.backing_read.new.seat c.answer.new.seat
     c.backing_read.ensures.works.seat (λ plain. refl) c.answer.ensures.ok c.answer.ensures.err
     ∙ (read_noted g.C.Disk.facts g.B.Disk.facts c.args.first _ c.args.seat.now
     c.backing_read.new.seat c.requires.works.seat c.in-Ok.ensures.ok).range
 
 pub returns-clause-ok : goal.returns-clause-ok
 returns-clause-ok g c = map_ok c.answer.result
-    (read_answered g.C.Disk.facts g.B.Disk.facts c.args.of c.args.first _ c.in-Ok-from_bytes.values
-    c.args.seat.now c.backing_read.new.seat c.answer.new.seat c.in-Ok-from_bytes.ensures c.in-Ok.ensures.ok)
+    (read_answered g.C.Disk.facts g.B.Disk.facts c.args.of c.args.first _ c.in-Some.values
+    c.args.seat.now c.backing_read.new.seat c.answer.new.seat (same _ c.in-Some.values c.backing_read.new.into c.in-Ok.ensures.values c.in-Some.is) c.in-Ok.ensures.ok)
     c.answer.ensures.ok
 
 pub returns-clause-err : goal.returns-clause-err
