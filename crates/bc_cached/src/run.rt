@@ -23,11 +23,11 @@ use bc_fill::Fill;
 use bc_flight::flight::Flight;
 use bc_journal::Journal;
 use bc_machine::machine::{CoreParts, CoreSeat};
-use bc_machine::part::{BackingPart, BucketsPart, CorePart};
+use bc_machine::part::{Apart, BackingPart, BucketsPart, CorePart};
 use bc_parts::not_made::NotMade;
 use bc_parts::parts::Parts;
 use bc_tree::Spine;
-use std::alloc::Global;
+use std::alloc::{AllocError, Global};
 
 /// What a run is begun with: the parts of a pair in memory, and both devices.
 #[derive(Drop)]
@@ -75,6 +75,33 @@ fn unopened(buckets: Buckets, reserves: Reserves) -> BucketsPart
         reserves,
         fill: Fill::new(),
     }
+}
+
+// The large parts, each kept apart.
+#[derive(Drop)]
+struct Large {
+    tree: Apart<Spine>,
+    buckets: Apart<BucketsPart>,
+    journal: Apart<Journal>,
+}
+
+// Sets the large parts apart. `Err` comes from want of memory.
+fn set_apart(
+    alloc: Global,
+    tree: Spine,
+    buckets: BucketsPart,
+    journal: Journal,
+) -> Result<Large, AllocError>
+    ensures { IfOk result (λ l. (l.tree ≡ tree) × (l.buckets ≡ buckets) × (l.journal ≡ journal)) }
+{
+    let tree = Apart::new(alloc, tree)?;
+    let buckets = Apart::new(alloc, buckets)?;
+    let journal = Apart::new(alloc, journal)?;
+    Ok(Large {
+        tree,
+        buckets,
+        journal,
+    })
 }
 
 // Puts the leaves behind the other parts, for which there is room.
@@ -137,10 +164,13 @@ pub fn begin<C: Disk + Drop, B: Disk + Drop>(
         return Err(Devices { cache, backing });
     };
     let buckets = unopened(buckets, reserves);
-    parts.push_reserved(CorePart::Spine(tree));
+    let Ok(large) = set_apart(alloc, tree, buckets, journal) else {
+        return Err(Devices { cache, backing });
+    };
+    parts.push_reserved(CorePart::Spine(large.tree));
     parts.push_reserved(CorePart::Flight(flight));
-    parts.push_reserved(CorePart::Buckets(buckets));
-    parts.push_reserved(CorePart::Journal(journal));
+    parts.push_reserved(CorePart::Buckets(large.buckets));
+    parts.push_reserved(CorePart::Journal(large.journal));
     parts.push_reserved(CorePart::Cache(cache));
     parts.push_reserved(CorePart::Backing(backing));
     add_leaves(&mut parts, leaves);

@@ -5,7 +5,10 @@ use Rattle.bc_machine.specs.World.{opening}
 use Rattle.bc_machine.specs.declared.part.CorePart.{CorePart}
 use Rattle.bc_machine.specs.declared.part.CorePart.TheVariants as part
 use Rattle.bc_hand.specs.Seats.{View, Works, core, empty}
-use Rattle.bc_begun.specs.Begin.{Beginning}
+use Rattle.bc_machine.specs.declared.part.BucketsPart.{BucketsPart}
+use Rattle.bc_tree.specs.Spine.{Spine}
+use Rattle.bc_begun.specs.Begin.{Beginning, parts_of}
+use Rattle.bc_cached.specs.Begun.{AreUnopened}
 use Rattle.bc_cached.proofs.Beginning.{begins, made, newcomer_works}
 use Rattle.bc_cached.proofs.run.begin.Goals as goal
 
@@ -13,28 +16,28 @@ pub new-requires-3-clause-stand : goal.new-requires-3-clause-stand
 new-requires-3-clause-stand g c =
     let k : Beginning g.row.C.Denot g.row.B.Denot = record {
       flight = c.in-Ok.flight;
-      buckets = c.unopened-buckets.result;
-      journal = c.args.ready.journal;
+      buckets = c.in-Ok-set_apart.large.buckets;
+      journal = c.in-Ok-set_apart.large.journal;
       cache = c.args.ready.cache;
       backing = c.args.ready.backing;
       leaves = c.args.ready.leaves.items;
     } in
     subst (λ (ps : List (CorePart g.row.C.Denot g.row.B.Denot)).
     StandFrom (core g.C.Disk.facts g.B.Disk.facts) (opening g.C.Disk.facts g.B.Disk.facts ps) 0 ps)
-    (sym (made g.C.Disk.facts g.B.Disk.facts c.args.ready.tree k _ _ _ _ _ _ _ _
+    (sym (made g.C.Disk.facts g.B.Disk.facts c.in-Ok-set_apart.large.tree k _ _ _ _ _ _ _ _
     c.in-Ok-with_capacity.ensures.items c.push_reserved.ensures.items
     c.push_reserved-2.ensures.items c.push_reserved-3.ensures.items
     c.push_reserved-4.ensures.items c.push_reserved-5.ensures.items
     c.push_reserved-6.ensures.items c.add_leaves.ensures))
-    (begins g.C.Disk.facts g.B.Disk.facts c.args.ready.tree k c.in-Ok.ensures.0 c.in-Ok.ensures.1
+    (begins g.C.Disk.facts g.B.Disk.facts c.in-Ok-set_apart.large.tree k c.in-Ok.ensures.0 c.in-Ok.ensures.1
     c.requires.cache c.requires.backing c.requires.inside)
 
 pub devices_in-requires : goal.devices_in-requires
 devices_in-requires g c =
     let k : Beginning g.row.C.Denot g.row.B.Denot = record {
       flight = c.in-Ok.flight;
-      buckets = c.unopened-buckets.result;
-      journal = c.args.ready.journal;
+      buckets = c.in-Ok-set_apart.large.buckets;
+      journal = c.in-Ok-set_apart.large.journal;
       cache = c.args.ready.cache;
       backing = c.args.ready.backing;
       leaves = c.args.ready.leaves.items;
@@ -42,12 +45,12 @@ devices_in-requires g c =
       k.cache,
       k.backing,
       (
-        part.Spine c.args.ready.tree,
+        part.Spine c.in-Ok-set_apart.large.tree,
         part.Flight k.flight,
         part.Buckets k.buckets,
         part.Journal k.journal,
         map part.Leaves k.leaves,
-        c.in-Err.ensures.err.0 ∙ made g.C.Disk.facts g.B.Disk.facts c.args.ready.tree k _ _ _ _ _ _ _ _
+        c.in-Err.ensures.err.0 ∙ made g.C.Disk.facts g.B.Disk.facts c.in-Ok-set_apart.large.tree k _ _ _ _ _ _ _ _
             c.in-Ok-with_capacity.ensures.items c.push_reserved.ensures.items
             c.push_reserved-2.ensures.items c.push_reserved-3.ensures.items
             c.push_reserved-4.ensures.items c.push_reserved-5.ensures.items
@@ -59,18 +62,19 @@ pub returns-in-Ok-new-clause-ok : goal.returns-in-Ok-new-clause-ok
 returns-in-Ok-new-clause-ok g c =
     let k : Beginning g.row.C.Denot g.row.B.Denot = record {
       flight = c.in-Ok.flight;
-      buckets = c.unopened-buckets.result;
-      journal = c.args.ready.journal;
+      buckets = c.in-Ok-set_apart.large.buckets;
+      journal = c.in-Ok-set_apart.large.journal;
       cache = c.args.ready.cache;
       backing = c.args.ready.backing;
       leaves = c.args.ready.leaves.items;
     } in
     let ok = c.in-Ok-new.ensures.ok in
-    let start = ok.0 ∙ made g.C.Disk.facts g.B.Disk.facts c.args.ready.tree k _ _ _ _ _ _ _ _
+    let start = ok.0 ∙ made g.C.Disk.facts g.B.Disk.facts c.in-Ok-set_apart.large.tree k _ _ _ _ _ _ _ _
     c.in-Ok-with_capacity.ensures.items c.push_reserved.ensures.items
     c.push_reserved-2.ensures.items c.push_reserved-3.ensures.items
     c.push_reserved-4.ensures.items c.push_reserved-5.ensures.items
-    c.push_reserved-6.ensures.items c.add_leaves.ensures in
+    c.push_reserved-6.ensures.items c.add_leaves.ensures
+    ∙ ap (λ (t : Spine). parts_of t k) c.in-Ok-set_apart.ensures.0 in
     let many : 5 < length c.in-Ok-new.run'.0.run.start =
     subst (λ (ps : List (CorePart g.row.C.Denot g.row.B.Denot)). 5 < length ps) (sym start)
     (omega arith) in
@@ -79,8 +83,9 @@ returns-in-Ok-new-clause-ok g c =
       made = record {
         seats = c.in-Ok.ensures.0;
         claims = c.in-Ok.ensures.1;
-        buckets = c.unopened-buckets.ensures;
-        journal = refl;
+        buckets = subst (λ (b : BucketsPart). AreUnopened c.args.ready.buckets c.args.ready.reserves b)
+            (sym c.in-Ok-set_apart.ensures.1) c.unopened-buckets.ensures;
+        journal = c.in-Ok-set_apart.ensures.2;
         cache = refl;
         backing = refl;
         leaves = refl;
