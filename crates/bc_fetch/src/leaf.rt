@@ -41,11 +41,11 @@ fn take_spine<C: Disk + Drop, B: Disk + Drop, R: Wait>(
     ensures none { IfNone result (hand.new ≡ empty) }
 {
     let (spine, _) = borrow_spine(rt, parts, seat, hand);
-    if spine.root().end() <= first {
+    if spine.get().root().end() <= first {
         return_spine(parts, seat, hand, spine, true);
         return None;
     }
-    let range = spine.find(first);
+    let range = spine.get().find(first);
     let missing = range.end < first + u64::from(count);
     return_spine(parts, seat, hand, spine, missing);
     if missing { None } else { Some(range) }

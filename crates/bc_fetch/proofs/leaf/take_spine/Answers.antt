@@ -1,5 +1,6 @@
-use Rattle.std.proofs.Common.{None, Some, Bool, ap, ◌∙◌, arith}
-use Rattle.std.specs.Prelude.{if◌then◌else◌}
+use Rattle.std.proofs.Common.{None, Some, Bool, ap, ◌∙◌, subst, arith}
+use Rattle.std.specs.Prelude.{Contains, if◌then◌else◌}
+use Rattle.bc_tree.specs.Spine.{Spine}
 use Rattle.std.proofs.lemmas.Bool.{le-ltb}
 use Rattle.bc_hand.proofs.Between.{did_between}
 use Rattle.bc_deed.proofs.May.{did_nothing}
@@ -40,7 +41,8 @@ returns-else-missing-clause-some g c = (
     is = ap (λ h. h.spine) c.return_spine-2.ensures.hand
         ∙ ap (λ (b : Bool). if b then None else Some c.borrow_spine-spine.result.0)
         (le-ltb _ _ c.if-missing.false);
-    range_in = c.find-range.ensures.held;
+    range_in = subst (λ (s : Spine). Contains s.leaves c.find-range.result) c.get-2.ensures
+        c.find-range.ensures.held;
   },
   c.find-range.ensures.spans.0,
   (let few = c.if-missing.false in let same = c.from.ensures in omega (arith, few, same)),
