@@ -1,5 +1,5 @@
 -- From where a sector is read.
-use Rattle.std.specs.Prelude.{◌≡◌, ◌⊎◌, ℕ, ◌+◌, ◌-◌, ◌/◌, ◌<◌, ◌≤◌, true, false, List, [], ◌∷◌, Option, Some, None, length}
+use Rattle.std.specs.Prelude.{◌≡◌, ◌≢◌, ◌⊎◌, ℕ, ◌+◌, ◌-◌, ◌/◌, ◌<◌, ◌≤◌, true, false, List, [], ◌∷◌, Option, Some, None, length}
 use Rattle.bc_bucket.specs.Buckets.{Buckets, bucket_of}
 use Rattle.bc_key.specs.Key.{pointer_of}
 use Rattle.bc_key.specs.declared.key.Key.{Key}
@@ -57,6 +57,20 @@ abbrev pub AreRuns : Leaf → Buckets → ℕ → ℕ → List ReadRun → Type 
 AreRuns leaf b s end [] = s ≡ end
 AreRuns leaf b s end (r ∷ rs) =
     (r.first ≡ s) × (0 < r.count) × IsRun leaf b r × AreRuns leaf b (s + r.count) end rs
+
+-- the sector behind the run isn't read from where the run would go on
+abbrev pub EndsThere : Leaf → Buckets → ReadRun → Type 0
+EndsThere leaf b r = ¬ (IsReadFrom leaf b (r.first + r.count) (moved r.from r.count))
+
+-- the run behind this one, if there is one, isn't where this one would go on
+abbrev pub EndsBefore : ReadRun → List ReadRun → Type 0
+EndsBefore r [] = Unit {0}
+EndsBefore r (next ∷ rs) = next.from ≢ moved r.from r.count
+
+-- each run is as long as it can be: no two neighbouring ones could be one
+abbrev pub AreLongest : List ReadRun → Type 0
+AreLongest [] = Unit {0}
+AreLongest (r ∷ rs) = EndsBefore r rs × AreLongest rs
 
 -- one of these sectors is lost
 abbrev pub HasLost : Leaf → Buckets → ℕ → ℕ → Type 0

@@ -1,6 +1,6 @@
 //! Neighbouring sectors that are read by one call.
 ghost use Rattle.std.specs.Prelude.{◌≡◌, ◌+◌, ◌-◌, ◌<◌, ◌≤◌, ◌^◌, MatchBool, MatchOption, IfOk, IfSome, IsNone};
-ghost use Rattle.bc_reads.specs.Reads.{AreRuns, IsLost, IsRun, HasLost, moved};
+ghost use Rattle.bc_reads.specs.Reads.{AreLongest, AreRuns, EndsThere, IsLost, IsRun, HasLost, moved};
 
 use crate::source::{ReadFrom, read_from};
 use bc_bucket::Buckets;
@@ -29,13 +29,16 @@ fn goes_on(from: ReadFrom, count: u32, next: ReadFrom) -> bool
     }
 }
 
-// The longest run from a sector on that isn't longer than so many, if that sector isn't lost.
+// The longest run from a sector on that isn't longer than so many, if that sector isn't lost: where
+// it is shorter, the sector behind it isn't read from where it would go on.
 fn next_run(leaf: &Leaf, buckets: &Buckets, first: u64, count: u32) -> Option<ReadRun>
     requires some { 0 < count }
     requires few { first + count < 2 ^ 64 }
-    ensures { MatchOption result (IsLost leaf.now buckets.now first)
+    ensures run { MatchOption result (IsLost leaf.now buckets.now first)
         (λ run. (run.first ≡ first) × (0 < run.count) × (run.count ≤ count)
         × IsRun leaf.now buckets.now run) }
+    ensures longest { IfSome result
+        (λ run. run.count < count → EndsThere leaf.now buckets.now run) }
 {
     let from = read_from(leaf, buckets, first)?;
     for done in 1..count {
@@ -50,8 +53,9 @@ fn next_run(leaf: &Leaf, buckets: &Buckets, first: u64, count: u32) -> Option<Re
     Some(ReadRun { first, count, from })
 }
 
-/// The runs in which so many sectors from `first` on are read, in order, each as long as it can be.
-/// None where one of them is lost. Takes no more memory than the runs do.
+/// The runs in which so many sectors from `first` on are read, in order, each as long as it can be:
+/// none goes on in the one behind it, so that no two of them could be one. None where one of the
+/// sectors is lost. Takes no more memory than the runs do.
 pub fn runs_of(
     alloc: Global,
     leaf: &Leaf,
@@ -60,8 +64,10 @@ pub fn runs_of(
     count: u32,
 ) -> Result<Option<Vec<ReadRun>>, AllocError>
     requires { first + count < 2 ^ 64 }
-    ensures { IfOk result (λ o. MatchOption o (HasLost leaf.now buckets.now first (first + count))
+    ensures runs { IfOk result (λ o. MatchOption o
+        (HasLost leaf.now buckets.now first (first + count))
         (λ runs. AreRuns leaf.now buckets.now first (first + count) runs.items)) }
+    ensures longest { IfOk result (λ o. IfSome o (λ runs. AreLongest runs.items)) }
 {
     let mut runs = Vec::new(alloc);
     let mut done = 0;
