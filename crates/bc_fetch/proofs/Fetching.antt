@@ -1,6 +1,6 @@
 -- A leaf that is fetched stands for the core's.
 use Rattle.std.proofs.Common.{◌≡◌, inl, inr, [], ℕ, ◌+◌, ◌-◌, ◌≤◌, ◌%◌, List, Option, Some, None, length, refl, sym, ap, subst, ◌∙◌, arith}
-use Rattle.std.specs.Prelude.{Contains, IfSome, OnErr, Result, Ok, Err, is_some}
+use Rattle.std.specs.Prelude.{Contains, IfOk, IfSome, OnErr, Result, Ok, Err, is_some}
 use Rattle.bc_cache.specs.Fetch.{IsUsed}
 use Rattle.bc_cache.specs.Slots.{Misses, NodeCache}
 use Rattle.bc_deed.proofs.May.{did_nothing}
@@ -37,7 +37,7 @@ use Rattle.bc_shares.specs.Shares.{leaf_share, shape_of}
 use Rattle.bc_spine.specs.declared.leaf.LeafRange.{LeafRange}
 use Rattle.bc_sight.specs.Asked.{HasFailedRead}
 use Rattle.bc_tree.specs.Spine.{Spine}
-use Rattle.bc_fetch.specs.Fetch.{HasPart, IsInSpine, IsLeafStop, IsNoLeaf, IsPutInto, IsSameButCache, MayStandAt, MayStandIn, OfLeaves, node_read, refusal}
+use Rattle.bc_fetch.specs.Fetch.{HasPart, IsInSpine, IsLeafStop, IsNoLeaf, IsPutInto, IsSameButCache, MayStandAt, MayStandIn, OfBoth, OfLeaves, node_read, refusal}
 use Rattle.bc_fetch.specs.declared.error.LeafError.{LeafError}
 use Rattle.bc_fetch.specs.declared.error.LeafError.TheVariants as errors
 use Rattle.bc_fetch.proofs.Slots.{put_stands, use_stands}
@@ -165,6 +165,11 @@ pub of_after : {C B : Type 0} (a b : Hand C B) (P : NodeCache → Type 0) → Is
     → OfLeaves a P → OfLeaves b P
 of_after a b P same of = (of.0, leaves_after a b same ∙ of.1, of.2)
 
+-- what is said of the part before a step
+pub both_after : {C B : Type 0} (a b now : Hand C B) (P : NodeCache → NodeCache → Type 0)
+    → IsSameButCache a b → OfBoth b now P → OfBoth a now P
+both_after a b now P same of = (of.0, sym (leaves_after a b same) ∙ of.1, of.2)
+
 pub spine_after : {C B : Type 0} (a b : Hand C B) (range : LeafRange) → IsSameButCache a b
     → IsInSpine a range → IsInSpine b range
 spine_after a b range same there = record {
@@ -193,6 +198,11 @@ pub same_hand : {C B : Type 0} (h : Hand C B) (l : LeafHand) (new : NodeCache) �
 same_hand h l new is same =
     ap (λ (c : NodeCache). record h { leaves = Some (record { part = l.part; cache = c }) }) same
     ∙ ap (λ (o : Option LeafHand). record h { leaves = o }) (sym is)
+
+pub map_if_ok : {A E : Type 0} {P Q : A → Type 0} (r : Result A E) → ((a : A) → P a → Q a)
+    → IfOk r P → IfOk r Q
+map_if_ok (Ok a) f h = f a h
+map_if_ok (Err e) f h = tt
 
 pub always_err : {A E : Type 0} {P : Type 0} (r : Result A E) → P → OnErr r P
 always_err (Ok a) p = tt

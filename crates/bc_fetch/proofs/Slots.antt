@@ -16,7 +16,7 @@ use Rattle.bc_node.specs.Leaf.{Leaf}
 use Rattle.bc_node.specs.declared.pending.Entries.{Entries}
 use Rattle.bc_shares.specs.Shares.{leaf_share}
 use Rattle.bc_whole.specs.State.{Opening}
-use Rattle.bc_fetch.specs.Fetch.{IsPutInto}
+use Rattle.bc_fetch.specs.Fetch.{HasTaken, IsPutInto}
 
 -- ---- a list with an item set
 
@@ -245,6 +245,26 @@ used_has slot number old new has is = subst (λ (c : NodeCache). HasLeaf c.slots
     one_cached : (a b : Cached) (o : Option (Option Cached)) → o ≡ Some (Some a) → o ≡ Some (Some b)
         → b ≡ a
     one_cached a b o p q = cc
+
+-- ---- which slot is taken
+
+pub used_taken : (slot number : ℕ) (old new : NodeCache) → HasLeaf old.slots slot number
+    → IsUsed slot old new → HasTaken slot number old new
+used_taken slot number old new has is = record {
+  others = λ i other. ap (λ (c : NodeCache). slice_get c.slots i) is.after
+      ∙ set_other old.slots slot i (Some (record is.cached { used = next_count old.uses })) other;
+  how = inl (has, is);
+}
+
+pub put_taken : (slot number : ℕ) (leaf : Leaf) (old new : NodeCache) → Misses old.slots number
+    → IsPutInto slot number leaf old new → HasTaken slot number old new
+put_taken slot number leaf old new misses put = record {
+  others = λ i other. ap (λ (c : NodeCache). slice_get c.slots i) put.after
+      ∙ set_other (slice_set old.slots slot None) slot i
+      (Some (coming number leaf (next_count old.uses))) other
+      ∙ set_other old.slots slot i None other;
+  how = inr (misses, (leaf, put));
+}
 
 -- ---- whether a leaf can go
 

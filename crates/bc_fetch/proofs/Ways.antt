@@ -1,5 +1,5 @@
 -- The way to a leaf, from an empty hand to the part with the leaf in it.
-use Rattle.std.proofs.Common.{◌≡◌, inl, inr, ℕ, ◌+◌, ◌≤◌, [], ◌∷◌, false, Option, Some, None, refl, sym, ap, ◌∙◌, subst}
+use Rattle.std.proofs.Common.{◌≡◌, inl, inr, ℕ, ◌+◌, ◌-◌, ◌≤◌, [], ◌∷◌, false, Option, Some, None, refl, sym, ap, ◌∙◌, subst}
 use Rattle.std.specs.Prelude.{is_some, slice_get}
 use Rattle.bc_cache.specs.Slots.{HasLeaf, IsOccupied, NodeCache}
 use Rattle.bc_cache.specs.declared.slots.Cached.{Cached}
@@ -11,15 +11,19 @@ use Rattle.bc_events.specs.declared.event.Deed.{Deed}
 use Rattle.bc_events.specs.declared.event.Deed.TheVariants as deed
 use Rattle.bc_events.specs.declared.event.Failure.TheVariants as failure
 use Rattle.bc_hand.proofs.Knowing.{View, m}
-use Rattle.bc_hand.specs.Seats.{Did, IsCoreSeat, Kinds, empty, part_of}
+use Rattle.bc_hand.specs.Seats.{Did, IsCoreSeat, Kinds, Works, empty, part_of, world}
 use Rattle.bc_hand.specs.declared.error.StepError.TheVariants as steps
 use Rattle.bc_hand.specs.declared.hand.Hand.{Hand}
 use Rattle.bc_hand.specs.declared.hand.LeafHand.{LeafHand}
+use Rattle.bc_machine.specs.World.{AreLeaves}
+use Rattle.bc_machine.specs.declared.part.CorePart.{CorePart}
+use Rattle.bc_parts.specs.Seat.{PartsView}
 use Rattle.bc_seats.specs.Seats.{Waited}
 use Rattle.bc_spine.specs.declared.leaf.LeafRange.{LeafRange}
-use Rattle.bc_fetch.specs.Fetch.{HasFetched, HasLeafFor, HasPart, HasReadOne, HasStoppedAt, IsInSpine, IsLeafStop, IsSameButLeaves, OfLeaves, node_read}
+use Rattle.bc_fetch.specs.Fetch.{HasFetched, HasLeafFor, HasPart, HasReadOne, HasStoppedAt, HasTaken, HasTakenIn, IsInSpine, IsLeafStop, IsSameButLeaves, OfBoth, OfLeaves, node_read}
 use Rattle.bc_fetch.specs.declared.error.LeafError.{LeafError}
 use Rattle.bc_fetch.specs.declared.error.LeafError.TheVariants as errors
+use Rattle.bc_fetch.proofs.Fetching.{in_hand, its_number}
 
 -- ---- the hand
 
@@ -106,6 +110,26 @@ leaf_for a b slot number first count is of all rest =
         end = all.2.3;
       };
     }
+
+-- ---- the slot
+
+module _ {C B : Type 0} (cache_facts : C → DiskFacts) (backing_facts : B → DiskFacts) where
+  -- the part was taken, then a slot of it, and then the tree was given back
+  pub taken_in : (p : PartsView (CorePart C B)) (u v : View cache_facts backing_facts)
+      (a b c : Hand C B) (part number slot : ℕ) → HasDone cache_facts backing_facts [] u v
+      → Works cache_facts backing_facts p v a → HasPart a part → OfBoth a b (HasTaken slot number)
+      → c ≡ record b { spine = None } → HasTakenIn cache_facts backing_facts part number c u
+  taken_in p u v a b c part number slot way works has both is =
+      let l = both.0 in record {
+        at = v;
+        way = way;
+        was = l.cache;
+        stood = subst (λ n. AreLeaves (n - 6) l.cache (world cache_facts backing_facts v))
+            (its_number a part l has both.1)
+            (in_hand cache_facts backing_facts p v a l works both.1).1;
+        slot = slot;
+        taken = of_given b c (HasTaken slot number l.cache) is both.2;
+      }
 
 -- ---- the way
 

@@ -1,6 +1,7 @@
 -- What a step that fetches a leaf leaves, and why it refuses.
-use Rattle.std.specs.Prelude.{◌≡◌, ◌≢◌, ◌⊎◌, ℕ, ◌+◌, ◌<◌, List, [], ◌∷◌, Contains, None, Some, is_some}
+use Rattle.std.specs.Prelude.{◌≡◌, ◌≢◌, ◌⊎◌, ℕ, ◌+◌, ◌-◌, ◌<◌, List, [], ◌∷◌, Contains, None, Some, is_some, slice_get}
 use Rattle.bc_cache.specs.declared.slots.Cached.{Cached}
+use Rattle.bc_cache.specs.Fetch.{IsUsed}
 use Rattle.bc_cache.specs.Slots.{HasLeaf, IsOldest, Misses, NodeCache, NoneCanGo, coming, used_with, with_slot}
 use Rattle.bc_disk.specs.Device.{Among, next_count}
 use Rattle.bc_disk.specs.Disk.{DiskFacts}
@@ -16,7 +17,7 @@ use Rattle.bc_hand.specs.declared.error.StepError.TheVariants as steps
 use Rattle.bc_hand.specs.declared.hand.Hand.{Hand}
 use Rattle.bc_hand.specs.declared.hand.LeafHand.{LeafHand}
 use Rattle.bc_key.specs.declared.key.Key.{Key}
-use Rattle.bc_machine.specs.World.{IsCourseOf, IsOrigin, Origin, World, replay}
+use Rattle.bc_machine.specs.World.{AreLeaves, IsCourseOf, IsOrigin, Origin, World, replay}
 use Rattle.bc_model.specs.Sector.{Image, Value, values_of}
 use Rattle.bc_node.specs.Leaf.{Leaf}
 use Rattle.bc_node.specs.Loading.{IsNotDecoded}
@@ -39,6 +40,13 @@ pub record IsPutInto (slot number : ℕ) (leaf : Leaf) (old new : NodeCache) : T
   pub after : new ≡ used_with (with_slot old slot None) slot
       (Some (coming number leaf (next_count old.uses)))
   pub has : HasLeaf new.slots slot number
+
+-- Every other slot is as it was. Where no slot had the leaf, it came into the one that was used
+-- longest ago of those whose leaf could go; an empty one goes first.
+pub record HasTaken (slot number : ℕ) (old new : NodeCache) : Type 0 where
+  pub others : (i : ℕ) → i ≢ slot → slice_get new.slots i ≡ slice_get old.slots i
+  pub how : (HasLeaf old.slots slot number × IsUsed slot old new)
+      ⊎ (Misses old.slots number × ((leaf : Leaf) × IsPutInto slot number leaf old new))
 
 -- ---- what is in hand
 
@@ -75,6 +83,10 @@ pub record HasLeafFor {C B : Type 0} (h : Hand C B) (number first count : ℕ) :
 -- of the part in hand
 abbrev pub OfLeaves : {C B : Type 0} → Hand C B → (NodeCache → Type 0) → Type 0
 OfLeaves h P = (l : LeafHand) × (h.leaves ≡ Some l) × P l.cache
+
+-- of the part in hand before and now
+abbrev pub OfBoth : {C B : Type 0} → Hand C B → Hand C B → (NodeCache → NodeCache → Type 0) → Type 0
+OfBoth old new P = OfLeaves old (λ was. OfLeaves new (λ now. P was now))
 
 -- ---- refusals
 
@@ -145,6 +157,17 @@ module _ {C B : Type 0} (cache_facts : C → DiskFacts) (backing_facts : B → D
   abbrev pub HasReadOne : View cache_facts backing_facts → View cache_facts backing_facts → Type 0
   HasReadOne v w = HasDone cache_facts backing_facts [] v w
       ⊎ ((at : ℕ) × HasDone cache_facts backing_facts (node_read at ∷ []) v w)
+
+  -- A slot of this part was taken for the leaf, as the part stood for its share when it came into
+  -- hand.
+  pub record HasTakenIn (part number : ℕ) (h : Hand C B) (v : View cache_facts backing_facts) : Type 0
+    where
+      pub at : View cache_facts backing_facts
+      pub way : HasDone cache_facts backing_facts [] v at
+      pub was : NodeCache
+      pub stood : AreLeaves (part - 6) was (world cache_facts backing_facts at)
+      pub slot : ℕ
+      pub taken : OfLeaves h (HasTaken slot number was)
 
   -- at some point of its way the seat was told of this device's halt, and it did nothing
   abbrev pub HasHalted : Device → View cache_facts backing_facts → View cache_facts backing_facts

@@ -5,7 +5,7 @@ ghost use Rattle.bc_deed.specs.Asked.{AreSectors};
 ghost use Rattle.bc_hand.specs.Seats.{HasNoneBehindCache, Works, Did};
 ghost use Rattle.bc_machine.specs.World.{are_plain, cache_among};
 ghost use Rattle.bc_model.specs.Sector.{values_of};
-ghost use Rattle.bc_fetch.specs.Fetch.{HasFetched, HasPart, IsInSpine, IsLeafStop, IsNoLeaf, IsSameButLeaves, MayStandAt, OfLeaves, node_read, refusal};
+ghost use Rattle.bc_fetch.specs.Fetch.{HasFetched, HasPart, HasTaken, IsInSpine, IsLeafStop, IsNoLeaf, IsSameButLeaves, MayStandAt, OfBoth, OfLeaves, node_read, refusal};
 
 use crate::error::LeafError;
 use crate::node::{cache_sectors, read_node};
@@ -22,8 +22,9 @@ use std::alloc::Global;
 use std::sync::Wait;
 
 /// The slot of a leaf of the tree in hand, in its part in hand. Where no slot has it, it is read of
-/// the cache device, in one call behind the gate at `BeforeRead`, into the slot that was used longest
-/// ago, and there is no call where a slot has it.
+/// the cache device, in one call behind the gate at `BeforeRead`, into the slot that was used
+/// longest ago of those that are empty or whose leaf can go, which goes then. There is no call where
+/// a slot has it. Every other slot is as it was.
 ///
 /// `Busy` comes where no slot has the leaf and none has one that can go, `Outside` where it doesn't
 /// lie on the device; then nothing is done. `Node` comes where the device gave no leaf of the range.
@@ -49,6 +50,8 @@ pub fn fetch<C: Disk + Drop, B: Disk + Drop, R: Wait, G: Gate>(
     ensures hand { IsSameButLeaves hand.old hand.new }
     ensures ok { IfOk result (λ slot. OfLeaves hand.new
         (λ c. HasLeaf c.slots slot range.now.number)) }
+    ensures slots { IfOk result
+        (λ slot. OfBoth hand.old hand.new (HasTaken slot range.now.number)) }
     ensures did { OnOk result (HasFetched C.facts B.facts hand.old range.now seat.old seat.new) }
     ensures err { IfErr result (λ error. IsLeafStop C.facts B.facts hand.old range.now
         (cache_among C.facts B.facts parts.now.run.start).sectors error seat.old seat.new) }
@@ -95,6 +98,8 @@ fn read_leaf<C: Disk + Drop, B: Disk + Drop, R: Wait, G: Gate>(
     ensures hand { IsSameButLeaves hand.old hand.new }
     ensures ok { IfOk result (λ slot. OfLeaves hand.new
         (λ c. HasLeaf c.slots slot range.now.number)) }
+    ensures slots { IfOk result
+        (λ slot. OfBoth hand.old hand.new (HasTaken slot range.now.number)) }
     ensures did { OnOk result (Did C.facts B.facts (Some (node_read range.now.ptr.offset)) seat.old
         seat.new) }
     ensures err { IfErr result (λ error. IsLeafStop C.facts B.facts hand.old range.now
@@ -142,6 +147,8 @@ fn read_into<C: Disk + Drop, B: Disk + Drop, R: Wait, G: Gate>(
     ensures hand { IsSameButLeaves hand.old hand.new }
     ensures ok { IfOk result (λ slot. OfLeaves hand.new
         (λ c. HasLeaf c.slots slot range.now.number)) }
+    ensures slots { IfOk result
+        (λ slot. OfBoth hand.old hand.new (HasTaken slot range.now.number)) }
     ensures did { OnOk result (Did C.facts B.facts (Some (node_read range.now.ptr.offset)) seat.old
         seat.new) }
     ensures err { IfErr result (λ error. IsLeafStop C.facts B.facts hand.old range.now
@@ -175,6 +182,8 @@ fn take_in<C: Disk + Drop, B: Disk + Drop>(
     ensures hand { hand.new ≡ record hand.old { leaves = hand.new.leaves } }
     ensures ok { IfOk result (λ slot. OfLeaves hand.new
         (λ c. HasLeaf c.slots slot range.now.number)) }
+    ensures slots { IfOk result
+        (λ slot. OfBoth hand.old hand.new (HasTaken slot range.now.number)) }
     ensures part { HasPart hand.new (6 + range.now.number % (length parts.now.run.start - 6)) }
     ensures err { IfErr result (λ error. IsNoLeaf C.facts B.facts hand.old range.now error seat.now) }
     ensures kept { OnErr result (hand.new ≡ hand.old) }

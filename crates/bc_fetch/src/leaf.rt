@@ -5,7 +5,7 @@ ghost use Rattle.bc_cache.specs.declared.slots.Cached.{Cached};
 ghost use Rattle.bc_hand.specs.Seats.{core, Works, HasNoneBehindSpine, HasNoneBehindLeaves, empty};
 ghost use Rattle.bc_machine.specs.World.{are_plain};
 ghost use Rattle.bc_seats.specs.Seats.{Waited};
-ghost use Rattle.bc_fetch.specs.Fetch.{HasLeafFor, HasPart, HasReadOne, HasStoppedAt, IsInSpine, OfLeaves};
+ghost use Rattle.bc_fetch.specs.Fetch.{HasLeafFor, HasPart, HasReadOne, HasStoppedAt, HasTakenIn, IsInSpine, OfLeaves};
 
 use crate::error::LeafError;
 use crate::fetch::fetch;
@@ -94,7 +94,7 @@ fn take_leaves<C: Disk + Drop, B: Disk + Drop, R: Wait>(
 }
 
 // Gives the part with leaves in hand back.
-fn give_leaves<C: Disk + Drop, B: Disk + Drop, R: Wait>(
+pub(crate) fn give_leaves<C: Disk + Drop, B: Disk + Drop, R: Wait>(
     rt: &R,
     parts: &CoreParts<C, B>,
     seat: &mut CoreSeat<C, B>,
@@ -131,7 +131,9 @@ fn has_range<C, B>(hand: &Hand<C, B>, slot: u32, first: u64, count: u32) -> bool
 
 /// Takes the part of the leaf that has all sectors of a range, with the leaf in one of its slots,
 /// and gives the leaf's number. It stays the leaf of these sectors for as long as the part is in
-/// hand. At most one call of the cache device is made, and none where a slot had the leaf.
+/// hand. At most one call of the cache device is made, and none where a slot had the leaf. Of the
+/// other slots of the part each is as it was when the part was taken; another leaf goes only where
+/// the device was called, by the rule of `fetch`.
 ///
 /// `Missing` comes where no leaf has all of them. After an error the hand is empty again.
 pub fn leaf_at<C: Disk + Drop, B: Disk + Drop, R: Wait, G: Gate>(
@@ -152,6 +154,10 @@ pub fn leaf_at<C: Disk + Drop, B: Disk + Drop, R: Wait, G: Gate>(
     requires few { first + count < 2 ^ 64 }
     ensures works { Works C.facts B.facts parts.now seat.new hand.new }
     ensures ok { IfOk result (λ number. HasLeafFor hand.new number first count) }
+    ensures part { IfOk result
+        (λ number. HasPart hand.new (6 + number % (length parts.now.run.start - 6))) }
+    ensures slots { IfOk result (λ number. HasTakenIn C.facts B.facts
+        (6 + number % (length parts.now.run.start - 6)) number hand.new seat.old) }
     ensures err { OnErr result (hand.new ≡ empty) }
     ensures did { OnOk result (HasReadOne C.facts B.facts seat.old seat.new) }
     ensures stopped { IfErr result (λ error. HasStoppedAt C.facts B.facts error seat.old seat.new) }

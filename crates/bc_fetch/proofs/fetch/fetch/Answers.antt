@@ -5,9 +5,9 @@ use Rattle.bc_hand.proofs.Knowing.{map_ok}
 use Rattle.bc_hand.specs.Seats.{world}
 use Rattle.bc_hand.specs.declared.hand.Hand.{Hand}
 use Rattle.bc_machine.specs.World.{AreLeaves, cache_among}
-use Rattle.bc_fetch.specs.Fetch.{IsLeafStop}
-use Rattle.bc_fetch.proofs.Fetching.{always_err, in_hand, its_number, same_hand, use_leaves, works_with}
-use Rattle.bc_fetch.proofs.Slots.{none_go, one_goes, used_has}
+use Rattle.bc_fetch.specs.Fetch.{HasTaken, IsLeafStop, OfBoth}
+use Rattle.bc_fetch.proofs.Fetching.{always_err, in_hand, its_number, map_if_ok, same_hand, use_leaves, works_with}
+use Rattle.bc_fetch.proofs.Slots.{none_go, one_goes, used_has, used_taken}
 use Rattle.bc_fetch.proofs.fetch.fetch.Goals as goal
 
 pub returns-then-not-can_go-clause-err : goal.returns-then-not-can_go-clause-err
@@ -85,6 +85,18 @@ returns-in-Some-used-clause-ok g c = (
       c.use_slot-used.new.cache c.in-Some-used.ensures.some.0 c.in-Some-used.ensures.some.1,
 )
 
+pub returns-in-Some-used-clause-slots : goal.returns-in-Some-used-clause-slots
+returns-in-Some-used-clause-slots g c = (
+  c.in-Some.leaves,
+  sym c.take.ensures.value ∙ c.in-Some.is,
+  (
+    record { part = c.in-Some.leaves.part; cache = c.use_slot-used.new.cache },
+    refl,
+    used_taken c.in-Some-used.slot c.args.range.now.number c.in-Some.leaves.cache
+        c.use_slot-used.new.cache c.in-Some-used.ensures.some.0 c.in-Some-used.ensures.some.1,
+  ),
+)
+
 pub returns-in-Some-used-clause-did : goal.returns-in-Some-used-clause-did
 returns-in-Some-used-clause-did g c = inl (
   (
@@ -94,6 +106,13 @@ returns-in-Some-used-clause-did g c = inl (
   ),
   did_nothing g.C.Disk.facts g.B.Disk.facts c.args.seat.now c.requires.works.seat,
 )
+
+pub returns-else-not-can_go-clause-slots : goal.returns-else-not-can_go-clause-slots
+returns-else-not-can_go-clause-slots g c = map_if_ok c.read_leaf.result (λ slot both.
+    subst (λ (h : Hand _ _). OfBoth h c.read_leaf.new.hand (HasTaken slot c.args.range.now.number))
+    (same_hand c.args.hand.now c.in-Some.leaves c.use_slot-used.new.cache
+    (sym c.take.ensures.value ∙ c.in-Some.is) c.in-None.ensures.none.1) both)
+    c.read_leaf.ensures.slots
 
 pub returns-else-not-can_go-clause-did : goal.returns-else-not-can_go-clause-did
 returns-else-not-can_go-clause-did g c = map_ok c.read_leaf.result (λ did. inr (

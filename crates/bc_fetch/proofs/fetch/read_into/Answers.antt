@@ -2,7 +2,8 @@ use Rattle.std.proofs.Common.{◌≡◌, ◌*◌, length, ◌∙◌}
 use Rattle.bc_cache.specs.Slots.{Misses, NodeCache, NoneCanGo}
 use Rattle.bc_deed.proofs.May.{map_if_err}
 use Rattle.bc_machine.specs.World.{cache_among}
-use Rattle.bc_fetch.proofs.Fetching.{no_leaf_before, of_after, part_after, spine_after, stopped_by}
+use Rattle.bc_fetch.specs.Fetch.{HasTaken}
+use Rattle.bc_fetch.proofs.Fetching.{both_after, map_if_ok, no_leaf_before, of_after, part_after, spine_after, stopped_by}
 use Rattle.bc_fetch.proofs.fetch.read_into.Goals as goal
 
 pub take_in-requires-clause-spine : goal.take_in-requires-clause-spine
@@ -27,6 +28,11 @@ take_in-requires-clause-whole g c = of_after c.args.hand.now c.read_node.new.han
     (λ (x : NodeCache). length c.read_node.new.into ≡ 512 * x.geometry.node_sectors)
     c.read_node.ensures.hand
     (c.requires.whole.0, c.requires.whole.1, c.read_node.auto.into ∙ c.requires.whole.2)
+
+pub returns-in-Ok-clause-slots : goal.returns-in-Ok-clause-slots
+returns-in-Ok-clause-slots g c = map_if_ok c.take_in.result (λ slot both.
+    both_after c.args.hand.now c.read_node.new.hand c.take_in.new.hand
+    (HasTaken slot c.args.range.now.number) c.read_node.ensures.hand both) c.take_in.ensures.slots
 
 pub returns-in-Ok-clause-err : goal.returns-in-Ok-clause-err
 returns-in-Ok-clause-err g c = map_if_err c.take_in.result (λ e none.

@@ -4,8 +4,8 @@ use Rattle.bc_deed.proofs.May.{map_if_err}
 use Rattle.bc_disk.specs.declared.geometry.Geometry.{Geometry}
 use Rattle.bc_hand.proofs.Knowing.{map_ok}
 use Rattle.bc_machine.specs.World.{cache_among}
-use Rattle.bc_fetch.specs.Fetch.{node_read}
-use Rattle.bc_fetch.proofs.Fetching.{did_before, of_after, part_after, spine_after, stop_before}
+use Rattle.bc_fetch.specs.Fetch.{HasTaken, node_read}
+use Rattle.bc_fetch.proofs.Fetching.{both_after, did_before, map_if_ok, of_after, part_after, spine_after, stop_before}
 use Rattle.bc_fetch.proofs.fetch.read_leaf.Goals as goal
 
 pub returns-then-sectors-range-clause-err : goal.returns-then-sectors-range-clause-err
@@ -50,6 +50,12 @@ read_into-requires-clause-whole g c = of_after c.args.hand.now c.cache_sectors-s
       c.deref_mut.ensures.len ∙ c.in-Ok.ensures.len
           ∙ ap (λ (a : Geometry). 512 * a.node_sectors) c.geometry.ensures,
     )
+
+pub returns-clause-slots : goal.returns-clause-slots
+returns-clause-slots g c = map_if_ok c.read_into.result (λ slot both.
+    both_after c.args.hand.now c.cache_sectors-sectors.new.hand c.read_into.new.hand
+    (HasTaken slot c.args.range.now.number) c.cache_sectors-sectors.ensures.hand both)
+    c.read_into.ensures.slots
 
 pub returns-clause-did : goal.returns-clause-did
 returns-clause-did g c = map_ok c.read_into.result (λ did.

@@ -6,6 +6,7 @@ use Rattle.bc_fetch.specs.Fetch.{IsNoLeaf}
 use Rattle.bc_hand.specs.Seats.{world}
 use Rattle.bc_node.specs.Loading.{IsDecoded, IsNotDecoded}
 use Rattle.bc_fetch.proofs.Fetching.{in_hand, its_number, its_part, no_leaf, of_leaves, put_leaves, spine_in_hand, works_with}
+use Rattle.bc_fetch.proofs.Slots.{put_taken}
 use Rattle.bc_fetch.proofs.fetch.take_in.Goals as goal
 
 pub put_leaf-slot-requires-clause-new : goal.put_leaf-slot-requires-clause-new
@@ -47,6 +48,23 @@ returns-in-Ok-clause-ok g c = (
   refl,
   c.put_leaf-slot.ensures.has,
 )
+
+pub returns-in-Ok-clause-slots : goal.returns-in-Ok-clause-slots
+returns-in-Ok-clause-slots g c =
+    let h = c.args.hand.now in
+    let l = c.in-Some.leaves in
+    let is : h.leaves ≡ Some l = sym c.take.ensures.value ∙ c.in-Some.is in (
+      l,
+      is,
+      (
+        record { part = l.part; cache = c.put_leaf-slot.new.cache },
+        refl,
+        put_taken c.put_leaf-slot.result c.args.range.now.number c.in-Ok.leaf l.cache
+            c.put_leaf-slot.new.cache
+            (of_leaves h (λ (x : NodeCache). Misses x.slots c.args.range.now.number) c.requires.new l
+            is) c.put_leaf-slot.ensures,
+      ),
+    )
 
 pub returns-in-Ok-clause-part : goal.returns-in-Ok-clause-part
 returns-in-Ok-clause-part g c = record {

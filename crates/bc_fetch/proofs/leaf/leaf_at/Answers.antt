@@ -1,9 +1,10 @@
-use Rattle.std.proofs.Common.{sym, subst}
+use Rattle.std.proofs.Common.{◌+◌, ◌-◌, ◌%◌, None, sym, ap, ◌∙◌, subst}
 use Rattle.bc_cache.specs.Slots.{IsOccupied, NodeCache}
+use Rattle.bc_hand.specs.declared.hand.Hand.{Hand}
 use Rattle.bc_machine.specs.World.{cache_among}
-use Rattle.bc_fetch.specs.Fetch.{HasStoppedAt}
+use Rattle.bc_fetch.specs.Fetch.{HasPart, HasStoppedAt, HasTakenIn}
 use Rattle.bc_fetch.specs.declared.error.LeafError.{LeafError}
-use Rattle.bc_fetch.proofs.Ways.{fetched_way, leaf_for, occupied, of_given, part_given, rest_of, spine_leaves, stopped_way, then_done, waited_done}
+use Rattle.bc_fetch.proofs.Ways.{fetched_way, leaf_for, occupied, of_given, part_given, rest_of, spine_leaves, stopped_way, taken_in, then_done, waited_done}
 use Rattle.bc_fetch.proofs.leaf.leaf_at.Goals as goal
 use Rattle.bc_fetch.proofs.leaf.leaf_at.Goals.{in-Ok-2, in-Err}
 
@@ -36,6 +37,36 @@ returns-in-Ok-clause-did g c = fetched_way g.C.Disk.facts g.B.Disk.facts c.take_
     c.take_leaves.ensures.works.seat c.take_leaves.ensures.waited))
     (waited_done g.C.Disk.facts g.B.Disk.facts c.fetch-done.new.seat c.give_spine.new.seat
     c.give_spine.ensures.works.seat c.give_spine.ensures.waited) c.in-Ok.ensures.did
+
+pub returns-in-Ok-clause-part : goal.returns-in-Ok-clause-part
+returns-in-Ok-clause-part g c =
+    subst (λ n. HasPart c.give_spine.new.hand (6 + c.in-Some.range.number % (n - 6)))
+    c.part_count.ensures
+    (part_given c.take_leaves.new.hand c.fetch-done.new.hand c.give_spine.new.hand
+    (6 + c.in-Some.range.number % (c.part_count.result - 6)) c.take_leaves.ensures.has
+    c.fetch-done.ensures.hand c.give_spine.ensures.hand)
+
+pub returns-in-Ok-clause-slots : goal.returns-in-Ok-clause-slots
+returns-in-Ok-clause-slots g c =
+    subst (λ n. HasTakenIn g.C.Disk.facts g.B.Disk.facts (6 + c.in-Some.range.number % (n - 6))
+    c.in-Some.range.number c.give_spine.new.hand c.args.seat.now) c.part_count.ensures
+    (taken_in g.C.Disk.facts g.B.Disk.facts c.args.parts.now c.args.seat.now
+    c.take_leaves.new.seat c.take_leaves.new.hand c.fetch-done.new.hand c.give_spine.new.hand
+    (6 + c.in-Some.range.number % (c.part_count.result - 6)) c.in-Some.range.number c.in-Ok.slot
+    (then_done g.C.Disk.facts g.B.Disk.facts c.args.seat.now c.take_spine.new.seat
+    c.take_leaves.new.seat
+    (waited_done g.C.Disk.facts g.B.Disk.facts c.args.seat.now c.take_spine.new.seat
+    c.take_spine.ensures.works.seat c.take_spine.ensures.waited)
+    (waited_done g.C.Disk.facts g.B.Disk.facts c.take_spine.new.seat c.take_leaves.new.seat
+    c.take_leaves.ensures.works.seat c.take_leaves.ensures.waited)) c.take_leaves.ensures.works
+    c.take_leaves.ensures.has c.in-Ok.ensures.slots c.give_spine.ensures.hand)
+
+pub returns-clause-err : goal.returns-clause-err
+returns-clause-err g c = c.give_leaves.ensures.hand
+    ∙ ap (λ (h : Hand _ _). record h { leaves = None })
+    (rest_of c.take_spine.new.hand c.take_leaves.new.hand c.fetch-done.new.hand
+    c.give_spine.new.hand c.take_spine.ensures.hand c.take_leaves.ensures.hand
+    c.fetch-done.ensures.hand c.give_spine.ensures.hand)
 
 pub give_leaves-requires-clause-has : goal.give_leaves-requires-clause-has
 give_leaves-requires-clause-has g c = part_given c.take_leaves.new.hand c.fetch-done.new.hand
