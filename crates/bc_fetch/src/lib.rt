@@ -12,3 +12,5 @@ pub mod fetch;
 pub mod leaf;
 pub mod node;
 mod slot;
+#[cfg(test)]
+mod tests;
