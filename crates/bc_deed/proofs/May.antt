@@ -45,6 +45,14 @@ use Rattle.bc_deed.specs.Asked.{HasFailed, HasFailedOr, IsLast, IsWithin, MayWri
 use Rattle.bc_disk.specs.Disk.{IsRead}
 use Rattle.bc_deed.proofs.Devices.{may_have_read}
 
+-- a hand whose backing device was borrowed and returned
+pub same_but_backing : {C B : Type 0} (a b c : Hand C B) (o : Option (BackingPart B))
+    → b ≡ record a { backing = None } → c ≡ record b { backing = o }
+    → c ≡ record a { backing = c.backing }
+same_but_backing a b c o lent back = back ∙ ap (λ (h : Hand _ _). record h { backing = o }) lent
+    ∙ ap (λ (p : Option (BackingPart _)). record a { backing = p })
+    (sym (ap (λ (h : Hand _ _). h.backing) back))
+
 pub map_if_ok : {A E : Type 0} {P Q : A → Type 0} (r : Result A E) → ((a : A) → P a → Q a) → IfOk r P
     → IfOk r Q
 map_if_ok (Ok a) f h = f a h

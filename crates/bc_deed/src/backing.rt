@@ -126,6 +126,7 @@ pub fn backing_read<C: Disk + Drop, B: Disk + Drop, R: Wait, G: Gate>(
     requires covered { IsWithin (note C.facts B.facts seat.old).range first (length into.old / 512) }
     ensures works { Works C.facts B.facts parts.now seat.new hand.new }
     ensures hand { kinds hand.new ≡ kinds hand.old }
+    ensures rest { hand.new ≡ record hand.old { backing = hand.new.backing } }
     ensures ok { OnOk result (Did C.facts B.facts
         (Some (Deed.BackingRead first (values_of into.new))) seat.old seat.new) }
     ensures values { IfOk result (λ some. IfSome some (λ values. values ≡ values_of into.new)) }

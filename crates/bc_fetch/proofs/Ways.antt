@@ -1,5 +1,5 @@
 -- The way to a leaf, from an empty hand to the part with the leaf in it.
-use Rattle.std.proofs.Common.{◌≡◌, inl, inr, ℕ, ◌+◌, ◌-◌, ◌≤◌, [], ◌∷◌, false, Option, Some, None, refl, sym, ap, ◌∙◌, subst}
+use Rattle.std.proofs.Common.{◌≡◌, inl, inr, ℕ, ◌+◌, ◌-◌, ◌≤◌, [], ◌∷◌, false, Option, Some, None, refl, sym, ap, ◌∙◌, subst, arith}
 use Rattle.std.specs.Prelude.{is_some, slice_get}
 use Rattle.bc_cache.specs.Slots.{HasLeaf, IsOccupied, NodeCache}
 use Rattle.bc_cache.specs.declared.slots.Cached.{Cached}
@@ -152,6 +152,28 @@ module _ {C B : Type 0} (cache_facts : C → DiskFacts) (backing_facts : B → D
   around (Some d) u v w x a did b = done_both cache_facts backing_facts [] (d ∷ []) u v x a
       (done_both cache_facts backing_facts (d ∷ []) [] v w x
       (done_one cache_facts backing_facts (Some d) v w did) b)
+
+  module _ (h : Hand C B) (range : LeafRange) (v w : View cache_facts backing_facts) where
+    pub fetched_left : HasFetched cache_facts backing_facts h range v w
+        → v.promises ≤ w.promises + 1
+    fetched_left (inl there) = let p = there.1.is.promises in omega (arith, p)
+    fetched_left (inr missed) = let p = missed.1.is.promises in omega (arith, p)
+
+    pub stopped_left : (sectors : ℕ) (e : LeafError)
+        → IsLeafStop cache_facts backing_facts h range sectors e v w
+        → v.promises ≤ w.promises + 1
+    stopped_left sectors (errors.Step steps.Memory) (inl did) =
+        let p = did.is.promises in omega (arith, p)
+    stopped_left sectors (errors.Step steps.Memory) (inr did) =
+        let p = did.is.promises in omega (arith, p)
+    stopped_left sectors (errors.Step (steps.Fault d)) stop =
+        let p = stop.1.is.promises in omega (arith, p)
+    stopped_left sectors (errors.Step (steps.Halted d)) stop =
+        let p = stop.1.is.promises in omega (arith, p)
+    stopped_left sectors errors.Busy stop = let p = stop.1.is.promises in omega (arith, p)
+    stopped_left sectors errors.Outside stop = let p = stop.1.is.promises in omega (arith, p)
+    stopped_left sectors errors.Missing stop = absurd stop
+    stopped_left sectors (errors.Node e) stop = let p = stop.1.is.promises in omega (arith, p)
 
   module _ (h : Hand C B) (range : LeafRange) (u v w x : View cache_facts backing_facts)
       (a : HasDone cache_facts backing_facts [] u v)

@@ -93,8 +93,8 @@ fn take_leaves<C: Disk + Drop, B: Disk + Drop, R: Wait>(
     return_leaves(parts, seat, hand, part, leaves, false);
 }
 
-// Gives the part with leaves in hand back.
-pub(crate) fn give_leaves<C: Disk + Drop, B: Disk + Drop, R: Wait>(
+/// Gives the part with leaves in hand back.
+pub fn give_leaves<C: Disk + Drop, B: Disk + Drop, R: Wait>(
     rt: &R,
     parts: &CoreParts<C, B>,
     seat: &mut CoreSeat<C, B>,
@@ -131,9 +131,9 @@ fn has_range<C, B>(hand: &Hand<C, B>, slot: u32, first: u64, count: u32) -> bool
 
 /// Takes the part of the leaf that has all sectors of a range, with the leaf in one of its slots,
 /// and gives the leaf's number. It stays the leaf of these sectors for as long as the part is in
-/// hand. At most one call of the cache device is made, and none where a slot had the leaf. Of the
-/// other slots of the part each is as it was when the part was taken; another leaf goes only where
-/// the device was called, by the rule of `fetch`.
+/// hand. At most one call of the cache device is made, and none where a slot had the leaf; so it takes
+/// one of the seat's promises at most. Of the other slots of the part each is as it was when the part
+/// was taken; another leaf goes only where the device was called, by the rule of `fetch`.
 ///
 /// `Missing` comes where no leaf has all of them. After an error the hand is empty again.
 pub fn leaf_at<C: Disk + Drop, B: Disk + Drop, R: Wait, G: Gate>(
@@ -160,6 +160,7 @@ pub fn leaf_at<C: Disk + Drop, B: Disk + Drop, R: Wait, G: Gate>(
         (6 + number % (length parts.now.run.start - 6)) number hand.new seat.old) }
     ensures err { OnErr result (hand.new ≡ empty) }
     ensures did { OnOk result (HasReadOne C.facts B.facts seat.old seat.new) }
+    ensures left { seat.old.promises ≤ seat.new.promises + 1 }
     ensures stopped { IfErr result (λ error. HasStoppedAt C.facts B.facts error seat.old seat.new) }
 {
     let Some(range) = take_spine(rt, parts, seat, hand, first, count) else {

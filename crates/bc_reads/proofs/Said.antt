@@ -82,7 +82,8 @@ HaveEnded leaf b (r ∷ x ∷ xs) = HaveEnded leaf b (x ∷ xs)
 -- a run's first sector is read from where the run is
 run_start : (from : ReadFrom) → moved from 0 ≡ from
 run_start Backing = refl
-run_start (Cache at) = let same : at + 0 ≡ at = omega arith in ap Cache same
+run_start (Cache at dirty) =
+    let same : at + 0 ≡ at = omega arith in ap (λ n. Cache n dirty) same
 
 first_from : (leaf : Leaf) (b : Buckets) (r : ReadRun) → 0 < r.count → IsRun leaf b r
     → IsReadFrom leaf b r.first r.from

@@ -25,8 +25,8 @@ said_of key s = ref_by key s (pointer_of key)
 abbrev pub IsReadBy : Option Ref → Buckets → ReadFrom → Type 0
 IsReadBy said b Backing = (said ≡ None) ⊎ ((ref : Ref) × (said ≡ Some ref) × (ref.dirty ≡ false)
     × ¬ (IsLiveAt b ref.place ref.generation))
-IsReadBy said b (Cache at) = (ref : Ref) × (said ≡ Some ref) × (ref.place ≡ at)
-    × IsLiveAt b at ref.generation
+IsReadBy said b (Cache at dirty) = (ref : Ref) × (said ≡ Some ref) × (ref.place ≡ at)
+    × (ref.dirty ≡ dirty) × IsLiveAt b at ref.generation
 
 -- dirty data of a bucket that was used anew since
 abbrev pub IsLostBy : Option Ref → Buckets → Type 0
@@ -45,7 +45,7 @@ IsLost leaf b s = IsLostBy (said_in leaf s) b
 -- so many sectors further
 abbrev pub moved : ReadFrom → ℕ → ReadFrom
 moved Backing k = Backing
-moved (Cache at) k = Cache (at + k)
+moved (Cache at dirty) k = Cache (at + k) dirty
 
 -- each of the run's sectors is read from where the first one is, as many sectors further
 abbrev pub IsRun : Leaf → Buckets → ReadRun → Type 0

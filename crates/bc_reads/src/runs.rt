@@ -7,7 +7,7 @@ use bc_bucket::Buckets;
 use bc_node::Leaf;
 use std::alloc::{AllocError, Global};
 
-/// Neighbouring sectors that are read from neighbouring ones of one device.
+/// Neighbouring sectors that are read from neighbouring ones of one device, and are dirty all or none.
 #[derive(Clone, Copy, Debug, PartialEq, Eq)]
 pub struct ReadRun {
     /// The first of the sectors.
@@ -24,7 +24,9 @@ fn goes_on(from: ReadFrom, count: u32, next: ReadFrom) -> bool
 {
     match (from, next) {
         (ReadFrom::Backing, ReadFrom::Backing) => true,
-        (ReadFrom::Cache(at), ReadFrom::Cache(to)) => at <= to && to - at == u64::from(count),
+        (ReadFrom::Cache { at, dirty }, ReadFrom::Cache { at: to, dirty: too }) => {
+            dirty == too && at <= to && to - at == u64::from(count)
+        }
         _ => false,
     }
 }

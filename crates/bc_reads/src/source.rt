@@ -12,8 +12,8 @@ use bc_node::Leaf;
 pub enum ReadFrom {
     /// From the backing device, which has it.
     Backing,
-    /// From this sector of the cache device.
-    Cache(u64),
+    /// From this sector of the cache device, which has it alone where it is dirty.
+    Cache { at: u64, dirty: bool },
 }
 
 // Whether a pointer with this generation to this sector of the cache device is one into a bucket for
@@ -44,7 +44,10 @@ fn of_key(key: &Key, buckets: &Buckets, sector: u64) -> Option<ReadFrom>
     let ptr = key.ptrs[0];
     let at = (ptr.offset + (sector - key.start())) % (1 << 43);
     if is_live(buckets, at, ptr.generation) {
-        return Some(ReadFrom::Cache(at));
+        return Some(ReadFrom::Cache {
+            at,
+            dirty: key.dirty,
+        });
     }
     if key.dirty {
         None

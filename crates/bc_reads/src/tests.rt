@@ -69,8 +69,19 @@ fn runs_of_a_leaf(rt: HostRuntime) -> Result<(), Fail> {
     let expected = [
         ReadRun {
             first: 4,
-            count: 12,
-            from: ReadFrom::Cache(6_404),
+            count: 4,
+            from: ReadFrom::Cache {
+                at: 6_404,
+                dirty: false,
+            },
+        },
+        ReadRun {
+            first: 8,
+            count: 8,
+            from: ReadFrom::Cache {
+                at: 6_408,
+                dirty: true,
+            },
         },
         ReadRun {
             first: 16,

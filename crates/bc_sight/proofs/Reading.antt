@@ -32,6 +32,7 @@ use Rattle.bc_machine.specs.Frame.{by_test}
 use Rattle.bc_machine.specs.World.{World, CanFollow, after, called, counted, same_device, Side, cache_among, data_of, is_told, are_plain, model, opening, Origin, IsOrigin, IsSeenFrom, IsCourseOf, seen_from, replay, IsCache}
 use Rattle.bc_hand.specs.Seats.{by, world, note, IsCoreSeat, MayDo, Did}
 use Rattle.bc_hand.specs.declared.error.StepError.{StepError}
+use Rattle.bc_hand.specs.declared.hand.Hand.{Hand}
 use Rattle.bc_hand.specs.declared.error.StepError.TheVariants as error
 use Rattle.bc_hand.proofs.Between.{did_between}
 use Rattle.bc_hand.proofs.Knowing.{View, m, framed, is_plain_at}
@@ -41,6 +42,13 @@ use Rattle.bc_sight.specs.Asked.{HasFailedRead, HasFailedReadOr}
 use Rattle.bc_sight.specs.Sight.{HasLooked, Knows, OfClaim, PointsTo, claim_from, with_values}
 use Rattle.bc_sight.proofs.Claims.{cached_claim, claim_committed, claim_since, claim_waited}
 use Rattle.bc_sight.proofs.Held.{IsHeld, cache_of, held_stays, run_held}
+
+-- a hand whose cache device was borrowed and returned
+pub same_but_cache : {C B : Type 0} (a b c : Hand C B) (o : Option C)
+    → b ≡ record a { cache = None } → c ≡ record b { cache = o }
+    → c ≡ record a { cache = c.cache }
+same_but_cache a b c o lent back = back ∙ ap (λ (h : Hand _ _). record h { cache = o }) lent
+    ∙ ap (λ (p : Option _). record a { cache = p }) (sym (ap (λ (h : Hand _ _). h.cache) back))
 
 -- a run of values, further on
 at_shift : (n first : ℕ) (vs : List Value) (s : ℕ) → at_run (n + first) vs (n + s) ≡ at_run first vs s

@@ -76,6 +76,7 @@ pub fn cache_read<C: Disk + Drop, B: Disk + Drop, R: Wait, G: Gate>(
         × PointsTo leaf first (length into.old / 512) at }
     ensures works { Works C.facts B.facts parts.now seat.new hand.new }
     ensures hand { kinds hand.new ≡ kinds hand.old }
+    ensures rest { hand.new ≡ record hand.old { cache = hand.new.cache } }
     ensures ok { OnOk result (Did C.facts B.facts
         (Some (Deed.CacheRead at (Some first) (values_of into.new))) seat.old seat.new) }
     ensures knows { OnOk result ((leaf : Leaf) (buckets : Buckets) (read : ℕ → Option Value)

@@ -7,7 +7,7 @@ use Rattle.bc_hand.proofs.Knowing.{map_ok, note_waited}
 use Rattle.bc_hand.proofs.Lending.{works_backing}
 use Rattle.bc_hand.proofs.Between.{did_between}
 use Rattle.bc_deed.specs.Asked.{IsWithin}
-use Rattle.bc_deed.proofs.May.{did_nothing, other_number, map_if_err, failed_or_between, size_waited}
+use Rattle.bc_deed.proofs.May.{did_nothing, other_number, map_if_err, failed_or_between, same_but_backing, size_waited}
 use Rattle.bc_deed.proofs.backing.backing_read.Goals as goal
 
 pub returns-in-Some-clause-err : goal.returns-in-Some-clause-err
@@ -42,6 +42,10 @@ return_backing-requires g c = works_backing g.C.Disk.facts g.B.Disk.facts c.args
     c.borrow_backing-backing.new.seat c.read_in-done.new.seat c.borrow_backing-backing.new.hand
     c.borrow_backing-backing.result.0 c.read_in-done.new.backing _ c.borrow_backing-backing.ensures.lent
     c.read_in-done.ensures.seat c.read_in-done.ensures.kept (other_number 5) c.read_in-done.ensures.backing
+
+pub returns-clause-rest : goal.returns-clause-rest
+returns-clause-rest g c = same_but_backing c.args.hand.now c.borrow_backing-backing.new.hand
+    c.return_backing.new.hand _ c.borrow_backing-backing.ensures.hand c.return_backing.ensures.hand
 
 pub returns-clause-ok : goal.returns-clause-ok
 returns-clause-ok g c = map_ok c.read_in-done.result (λ did.

@@ -1,10 +1,10 @@
-use Rattle.std.proofs.Common.{◌+◌, ◌-◌, ◌%◌, None, sym, ap, ◌∙◌, subst}
+use Rattle.std.proofs.Common.{◌+◌, ◌-◌, ◌%◌, ◌≤◌, None, sym, ap, ◌∙◌, subst, arith}
 use Rattle.bc_cache.specs.Slots.{IsOccupied, NodeCache}
 use Rattle.bc_hand.specs.declared.hand.Hand.{Hand}
 use Rattle.bc_machine.specs.World.{cache_among}
 use Rattle.bc_fetch.specs.Fetch.{HasPart, HasStoppedAt, HasTakenIn}
 use Rattle.bc_fetch.specs.declared.error.LeafError.{LeafError}
-use Rattle.bc_fetch.proofs.Ways.{fetched_way, leaf_for, occupied, of_given, part_given, rest_of, spine_leaves, stopped_way, taken_in, then_done, waited_done}
+use Rattle.bc_fetch.proofs.Ways.{fetched_left, fetched_way, leaf_for, occupied, of_given, part_given, rest_of, spine_leaves, stopped_left, stopped_way, taken_in, then_done, waited_done}
 use Rattle.bc_fetch.proofs.leaf.leaf_at.Goals as goal
 use Rattle.bc_fetch.proofs.leaf.leaf_at.Goals.{in-Ok-2, in-Err}
 
@@ -37,6 +37,14 @@ returns-in-Ok-clause-did g c = fetched_way g.C.Disk.facts g.B.Disk.facts c.take_
     c.take_leaves.ensures.works.seat c.take_leaves.ensures.waited))
     (waited_done g.C.Disk.facts g.B.Disk.facts c.fetch-done.new.seat c.give_spine.new.seat
     c.give_spine.ensures.works.seat c.give_spine.ensures.waited) c.in-Ok.ensures.did
+
+pub returns-in-Ok-clause-left : goal.returns-in-Ok-clause-left
+returns-in-Ok-clause-left g c =
+    let a = c.take_spine.ensures.waited.promises in
+    let b = c.take_leaves.ensures.waited.promises in
+    let d = c.give_spine.ensures.waited.promises in
+    let one = fetched_left g.C.Disk.facts g.B.Disk.facts c.take_leaves.new.hand
+    c.in-Some.range c.take_leaves.new.seat c.fetch-done.new.seat c.in-Ok.ensures.did in omega (arith, a, b, d, one)
 
 pub returns-in-Ok-clause-part : goal.returns-in-Ok-clause-part
 returns-in-Ok-clause-part g c =
@@ -100,3 +108,20 @@ returns-clause-stopped g c =
           a b (cache_among g.C.Disk.facts g.B.Disk.facts c.args.parts.now.run.start).sectors
           n.in-Err.error n.in-Err.ensures.err)
     ]
+
+pub returns-clause-left : goal.returns-clause-left
+returns-clause-left g c =
+    let v = c.take_leaves.new.seat in
+    let w = c.fetch-done.new.seat in
+    let a = c.take_spine.ensures.waited.promises in
+    let b = c.take_leaves.ensures.waited.promises in
+    let d = c.give_spine.ensures.waited.promises in
+    let f = c.give_leaves.ensures.waited.promises in
+    let one : v.promises ≤ w.promises + 1 = elim c.match-done.branch [
+      | in-Ok-2 n ↦ fetched_left g.C.Disk.facts g.B.Disk.facts c.take_leaves.new.hand
+          c.in-Some.range v w n.in-Ok.ensures.did
+      | in-Err n ↦ stopped_left g.C.Disk.facts g.B.Disk.facts c.take_leaves.new.hand
+          c.in-Some.range v w
+          (cache_among g.C.Disk.facts g.B.Disk.facts c.args.parts.now.run.start).sectors
+          n.in-Err.error n.in-Err.ensures.err
+    ] in omega (arith, a, b, d, f, one)

@@ -1,4 +1,4 @@
-use Rattle.std.proofs.Common.{◌≡◌, ◌<◌, ◌+◌, ◌-◌, ◌%◌, ◌^◌, get_or, sym, ap, arith}
+use Rattle.std.proofs.Common.{◌≡◌, ◌<◌, ◌+◌, ◌-◌, ◌%◌, ◌^◌, get_or, refl, sym, ap, arith}
 use Rattle.std.proofs.lemmas.List.{get_or_default}
 use Rattle.bc_key.specs.Key.{ptr_at}
 use Rattle.bc_key.specs.Ptr.{no_ptr}
@@ -16,6 +16,7 @@ returns-then-is_live c =
       pointed key c.args.sector ptr,
       said_there key c.args.sector ptr some is,
       ap (λ n. (ptr.offset + (c.args.sector - n)) % 2 ^ 43) (sym c.start.ensures),
+      refl,
       c.if-is_live.ensures,
     )
 

@@ -7,7 +7,7 @@ use Rattle.bc_hand.proofs.Between.{did_between}
 use Rattle.bc_deed.proofs.May.{did_nothing, other_number, map_if_err}
 use Rattle.bc_sight.specs.Sight.{HasLooked, with_values}
 use Rattle.bc_sight.proofs.Claims.{claim_waited}
-use Rattle.bc_sight.proofs.Reading.{knows_read, knows_waited, read_failed_between}
+use Rattle.bc_sight.proofs.Reading.{knows_read, knows_waited, read_failed_between, same_but_cache}
 use Rattle.bc_sight.proofs.cache.cache_read.Goals as goal
 
 pub returns-in-Some-clause-err : goal.returns-in-Some-clause-err
@@ -34,6 +34,10 @@ return_cache-requires g c = works_cache g.C.Disk.facts g.B.Disk.facts c.args.par
     c.borrow_cache-cache.new.seat c.read_in-done.new.seat c.borrow_cache-cache.new.hand
     c.borrow_cache-cache.result.0 c.read_in-done.new.cache _ c.borrow_cache-cache.ensures.lent
     c.read_in-done.ensures.seat c.read_in-done.ensures.kept (other_number 4) c.read_in-done.ensures.cache
+
+pub returns-clause-rest : goal.returns-clause-rest
+returns-clause-rest g c = same_but_cache c.args.hand.now c.borrow_cache-cache.new.hand
+    c.return_cache.new.hand _ c.borrow_cache-cache.ensures.hand c.return_cache.ensures.hand
 
 pub returns-clause-ok : goal.returns-clause-ok
 returns-clause-ok g c = map_ok c.read_in-done.result (λ did.
