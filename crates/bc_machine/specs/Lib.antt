@@ -5,3 +5,4 @@ pub mod Frame
 pub mod Standing
 pub mod Note
 pub mod Bare
+pub mod Lending

@@ -71,6 +71,10 @@ impl<T> Model for Apart<T> {
 }
 
 impl<T> Apart<T> {
+    ghost use Rattle.std.specs.Prelude.{◌≡◌, MatchResult};
+    ghost use Rattle.bc_machine.specs.Lending.{LendsPart};
+    ghost use Rattle.std.specs.Borrow.{sem};
+
     /// Puts the part there. `Err` comes from want of memory.
     pub fn new(alloc: Global, part: T) -> Result<Apart<T>, AllocFailed<T>>
         ensures { MatchResult result (λ apart. apart ≡ part) (λ failed. failed.value ≡ part) }
@@ -84,6 +88,14 @@ impl<T> Apart<T> {
         ensures { result.now ≡ self.now }
     {
         &self.inner
+    }
+
+    /// The part, to be changed where it lies.
+    pub fn get_mut(&mut self) -> &mut T
+        ensures* lends { sem 𝓛 (LendsPart T.row self.entry result) }
+        ensures part { result.now ≡ self.old }
+    {
+        &mut self.inner
     }
 }
 
