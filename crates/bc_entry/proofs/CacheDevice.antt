@@ -1,23 +1,33 @@
--- A barrier on the cache device: when the core allows it, and what it leaves.
-use Rattle.std.proofs.Common.{◌≡◌, ◌≢◌, inr, ℕ, Bool, true, false, Some, None, refl, sym, ap, ◌∙◌, subst}
-use Rattle.std.specs.Prelude.{◌==◌, if◌then◌else◌}
+-- Calls of the cache device: when the core allows a barrier, and what they leave.
+use Rattle.std.proofs.Common.{◌≡◌, ◌≢◌, inr, ℕ, ◌+◌, ◌*◌, ◌<◌, ◌≤◌, Bool, true, false, List, [], ◌∷◌, length, Option, Some, None, refl, sym, ap, ◌∙◌, subst, arith}
+use Rattle.std.specs.Prelude.{◌==◌, fold, if◌then◌else◌}
+use Rattle.std.proofs.Math.Nat.{mul-add, mul-le-mul_left}
 use Rattle.std.proofs.lemmas.Bool.{lt-ltb}
-use Rattle.bc_disk.specs.Device.{Content, after_barrier, settled}
-use Rattle.bc_disk.specs.Disk.{DiskFacts, IsKept, IsSettled, StandsFor}
+use Rattle.bc_model.specs.Sector.{Value}
+use Rattle.bc_disk.specs.Device.{Content, after_barrier, after_failed_write, after_write, failed, settled, written}
+use Rattle.bc_disk.specs.Disk.{DiskFacts, IsFailedWrite, IsKept, IsOnDisk, IsSettled, IsWritten, StandsFor}
 use Rattle.bc_disk.specs.declared.disk.Device.TheVariants as which
-use Rattle.bc_disk.proofs.Stands.{CountsFault, CountsGood, barrier_stands, fault_stands}
+use Rattle.bc_disk.specs.declared.geometry.Geometry.{Geometry}
+use Rattle.bc_disk.proofs.Stands.{CountsFault, CountsGood, barrier_stands, failed_write_stands, fault_stands, write_stands}
+use Rattle.bc_record.proofs.Found.{takes_some}
+use Rattle.bc_jset.specs.Entries.{bucket_start}
+use Rattle.bc_jset.specs.Records.{entry_kind, entry_sectors}
+use Rattle.bc_jset.proofs.Records.{entry_codec}
+use Rattle.bc_journal.specs.Sealed.{AreBytesOf, IsWithin, Sealed, sector_at}
 use Rattle.bc_parts.specs.Seat.{Holds, PartsView, Run}
 use Rattle.bc_seats.specs.Seats.{Waited}
 use Rattle.bc_seats.proofs.Knowing.{held}
 use Rattle.bc_data.specs.Data as flow
-use Rattle.bc_events.specs.Columns.{halt_of}
+use Rattle.bc_events.specs.Columns.{Call, call_by, halt_of}
 use Rattle.bc_events.specs.declared.event.Deed.{Deed}
 use Rattle.bc_events.specs.declared.event.Deed.TheVariants as deed
+use Rattle.bc_events.specs.declared.event.Event.{Event}
 use Rattle.bc_events.specs.declared.event.Failure.TheVariants as failure
+use Rattle.bc_events.specs.declared.event.Written.TheVariants as what
 use Rattle.bc_machine.specs.declared.part.CorePart.{CorePart}
 use Rattle.bc_machine.specs.declared.part.CorePart.TheVariants as part
 use Rattle.bc_machine.specs.Frame.{by_test}
-use Rattle.bc_machine.specs.World.{IsCache, Side, World, after, are_plain, counted, model}
+use Rattle.bc_machine.specs.World.{IsCache, Side, World, after, are_plain, cache_among, called, counted, model, opening, same_device}
 use Rattle.bc_hand.specs.Seats.{Did, IsCoreSeat, MayDo, by, world}
 use Rattle.bc_hand.specs.declared.error.StepError.{StepError}
 use Rattle.bc_hand.specs.declared.error.StepError.TheVariants as error
@@ -55,6 +65,62 @@ barrier_model x c = go x.told
         ≡ model (counted false (record x { told = b })) (settled c)
     go true = refl
     go false = refl
+
+write_model : (x : Side) (at : ℕ) (values : List Value) (c : Content)
+    → after_write at values (model x c) ≡ model (counted false x) (written at values c)
+write_model x at values c = go x.told
+  where
+    go : (b : Bool) → after_write at values (model (record x { told = b }) c)
+        ≡ model (counted false (record x { told = b })) (written at values c)
+    go true = refl
+    go false = refl
+
+failed_model : (x : Side) (at : ℕ) (values : List Value) (c : Content)
+    → after_failed_write at values (model x c) ≡ model (counted true x) (failed at values c)
+failed_model x at values c = go x.told
+  where
+    go : (b : Bool) → after_failed_write at values (model (record x { told = b }) c)
+        ≡ model (counted true (record x { told = b })) (failed at values c)
+    go true = refl
+    go false = refl
+
+-- ---- the place of an entry
+
+bucket_within : (g : Geometry) (i : ℕ) → i < g.journal
+    → bucket_start g i + g.bucket ≤ g.bucket * g.nbuckets
+bucket_within g i in_ =
+    let more : g.bucket * (g.first_bucket + i + 1)
+    ≡ g.bucket * (g.first_bucket + i) + g.bucket * 1 = mul-add g.bucket (g.first_bucket + i) 1 in
+    let room : g.bucket * (g.first_bucket + i + 1) ≤ g.bucket * g.nbuckets =
+    mul-le-mul_left g.bucket (let w = g.journal_within in omega (arith, w, in_)) in
+    omega (arith, more, room)
+
+pub entry_on_disk : (s : Sealed) (bytes : List ℕ) (at : ℕ) (d : DiskFacts) → IsWithin s
+    → AreBytesOf s.geometry s.entry bytes → at ≡ sector_at s.geometry s.place
+    → s.geometry.bucket * s.geometry.nbuckets ≤ d.sectors → IsOnDisk at (length bytes) d
+entry_on_disk s bytes at d within are here room =
+    let g = s.geometry in
+    let inside = within.inside in
+    let all = bucket_within g s.place.bucket within.place.bucket in (
+      entry_sectors g s.entry,
+      takes_some (entry_kind g) (entry_codec g) s.entry,
+      are.whole,
+      omega (arith, here, inside, all, room),
+    )
+
+-- ---- how many sectors the device has
+
+sectors_called : (o : Option Call) (x : Side) → (called which.Cache o x).sectors ≡ x.sectors
+sectors_called None x = refl
+sectors_called (Some call) x = go (same_device call.device which.Cache)
+  where
+    go : (b : Bool) → (if b then counted call.failed x else x).sectors ≡ x.sectors
+    go true = refl
+    go false = refl
+
+sectors_stay : (x : World) (es : List Event) → (fold after x es).cache.sectors ≡ x.cache.sectors
+sectors_stay x [] = refl
+sectors_stay x (e ∷ es) = sectors_stay (after x e) es ∙ sectors_called (call_by e.deed) x.cache
 
 never : (b : Bool) → b ≡ true → b ≡ false → ⊥
 never b is off = cc
@@ -120,6 +186,36 @@ module _ {C B : Type 0} (cache_facts : C → DiskFacts) (backing_facts : B → D
     stands = fault_stands (cache_facts old) (cache_facts new) (model x.cache x.held) on.stands is
         counts;
   }
+
+  pub behind_write : (old new : C) (x : World) (i at : ℕ) (values : List Value)
+      → IsCache {B = B} cache_facts backing_facts old x
+      → IsWritten at values (cache_facts old) (cache_facts new)
+      → CountsGood (cache_facts old) (cache_facts new)
+      → IsCache {B = B} cache_facts backing_facts new
+      (after x (by i (deed.CacheWrite at what.Entry values)))
+  behind_write old new x i at values on is counts = record {
+    stands = subst (StandsFor (cache_facts new)) (write_model x.cache at values x.held)
+        (write_stands (cache_facts old) (cache_facts new) (model x.cache x.held) on.stands at values
+        is counts);
+  }
+
+  pub behind_failed_write : (old new : C) (x : World) (i at : ℕ) (values : List Value)
+      → IsCache {B = B} cache_facts backing_facts old x
+      → IsFailedWrite at values (cache_facts old) (cache_facts new)
+      → CountsFault (cache_facts old) (cache_facts new)
+      → IsCache {B = B} cache_facts backing_facts new
+      (after x (by i (deed.DeviceFault (failure.CacheWrite at what.Entry values))))
+  behind_failed_write old new x i at values on is counts = record {
+    stands = subst (StandsFor (cache_facts new)) (failed_model x.cache at values x.held)
+        (failed_write_stands (cache_facts old) (cache_facts new) (model x.cache x.held) on.stands at
+        values is counts);
+  }
+
+  pub cache_sectors : (v : View cache_facts backing_facts) (disk : C)
+      → IsCache {B = B} cache_facts backing_facts disk (world cache_facts backing_facts v)
+      → (cache_facts disk).sectors ≡ (cache_among cache_facts backing_facts v.run.start).sectors
+  cache_sectors v disk on = on.stands.sectors
+      ∙ sectors_stay (opening cache_facts backing_facts v.run.start) v.seen
 
   -- the cache device behind a commit that changed it
   pub committed_cache : (v w : View cache_facts backing_facts) (old new : C) (d : Deed)

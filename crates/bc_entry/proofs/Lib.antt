@@ -1,1 +1,6 @@
 pub mod CacheDevice
+pub mod Course
+pub mod Holding
+pub mod Allowed
+pub mod Ending
+pub mod Writing

@@ -9,6 +9,7 @@ ghost use Rattle.bc_disk.specs.declared.disk.Device.{Device};
 ghost use Rattle.bc_machine.specs.World.{IsCache, are_plain, changes};
 ghost use Rattle.bc_hand.specs.Seats.{core, by, world, kinds};
 ghost use Rattle.bc_hand.specs.Seats.{IsCoreSeat, MayDo, Works, Did, HasNoneBehindCache};
+ghost use Rattle.bc_entry.specs.Entry.{HasJournalAndCache, MakesFirm};
 ghost use Rattle.bc_entry.specs.Failed.{HasFailedAtCache};
 
 use bc_disk::disk::{Device, Disk};
@@ -21,7 +22,7 @@ use bc_machine::machine::{CoreParts, CoreSeat};
 use std::sync::Wait;
 
 // Commits a call of the cache device, which no halt keeps out of a seat that wasn't told of one.
-fn called<C: Disk, B: Disk, R: Wait>(
+pub(crate) fn called<C: Disk, B: Disk, R: Wait>(
     rt: &R,
     parts: &CoreParts<C, B>,
     seat: &mut CoreSeat<C, B>,
@@ -43,7 +44,9 @@ fn called<C: Disk, B: Disk, R: Wait>(
     };
 }
 
-/// Makes a barrier on the cache device. It may come at any time.
+/// Makes a barrier on the cache device. It may come at any time. Of an entry that the seat has
+/// sealed, and keeps journal and device in hand for, it makes one that may be written, or a durable
+/// one.
 ///
 /// `Fault` says that the barrier itself failed, which is committed then, and `Halted` that a device
 /// had halted the run before; then nothing was done.
@@ -60,6 +63,8 @@ pub fn cache_barrier<C: Disk + Drop, B: Disk + Drop, R: Wait>(
     ensures works { Works C.facts B.facts parts.now seat.new hand.new }
     ensures hand { kinds hand.new ≡ kinds hand.old }
     ensures ok { OnOk result (Did C.facts B.facts (Some Deed.CacheBarrier) seat.old seat.new) }
+    ensures firm { OnOk result (HasJournalAndCache hand.old
+        → MakesFirm C.facts B.facts seat.old seat.new) }
     ensures err { IfErr result (λ error. HasFailedAtCache C.facts B.facts error
         (Deed.DeviceFault (Failure.Barrier Device.Cache)) seat.old seat.new) }
 {

@@ -4,6 +4,12 @@
 //! the journal stands between two: the first makes durable what it names, and the second makes the
 //! entry itself durable, before anything may rest on it. Each is a deed of its own, as each call of
 //! a device is, since a run may be cut off before any of them.
+//!
+//! From the seal on until the entry is durable a seat keeps the journal and the cache device in
+//! hand. So no other seat seals, writes or ends an entry meanwhile, and what the seat knows of its
+//! own goes on to hold whatever others do.
 #![tactic(auto)]
 
 pub mod barrier;
+pub mod durable;
+pub mod write;

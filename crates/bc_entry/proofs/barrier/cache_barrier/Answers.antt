@@ -7,6 +7,7 @@ use Rattle.bc_hand.proofs.Lends.{works_cache}
 use Rattle.bc_hand.proofs.Between.{did_between}
 use Rattle.bc_deed.proofs.May.{did_nothing, other_number, map_if_err}
 use Rattle.bc_entry.proofs.CacheDevice.{failed_between}
+use Rattle.bc_entry.proofs.Holding.{makes_firm, works_cache_held, works_journal_held}
 use Rattle.bc_entry.proofs.barrier.cache_barrier.Goals as goal
 
 pub returns-in-Some-clause-err : goal.returns-in-Some-clause-err
@@ -38,3 +39,16 @@ returns-clause-err g c = map_if_err c.barrier_in-done.result (λ e h.
     c.borrow_cache-cache.ensures.still c.borrow_cache-cache.ensures.waited h
     c.return_cache.ensures.waited c.return_cache.ensures.seen c.return_cache.ensures.heard
     c.return_cache.ensures.works.seat) c.barrier_in-done.ensures.err
+
+pub returns-clause-firm : goal.returns-clause-firm
+returns-clause-firm g c = map_ok c.barrier_in-done.result (λ did both.
+    makes_firm g.C.Disk.facts g.B.Disk.facts c.args.seat.now c.return_cache.new.seat
+    (works_journal_held g.C.Disk.facts g.B.Disk.facts c.args.parts.now c.args.seat.now
+    c.args.hand.now c.requires.works both.journal)
+    (works_cache_held g.C.Disk.facts g.B.Disk.facts c.args.parts.now c.args.seat.now
+    c.args.hand.now c.requires.works both.cache)
+    (did_between g.C.Disk.facts g.B.Disk.facts (Some deed.CacheBarrier) c.args.seat.now
+    c.borrow_cache-cache.new.seat c.barrier_in-done.new.seat c.return_cache.new.seat
+    c.borrow_cache-cache.ensures.still c.borrow_cache-cache.ensures.waited did
+    c.return_cache.ensures.waited c.return_cache.ensures.seen c.return_cache.ensures.heard
+    c.return_cache.ensures.works.seat)) c.barrier_in-done.ensures.ok

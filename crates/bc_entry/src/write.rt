@@ -1,0 +1,130 @@
+//! The step that writes a sealed entry to the cache device.
+ghost use Rattle.std.specs.Prelude.{◌≡◌, ◌+◌, ◌*◌, ◌<◌, ◌≤◌, ◌==◌, ℕ, List, false, None, Some, length, OnOk, IfErr, IfSome};
+ghost use Rattle.bc_disk.specs.declared.disk.Device.{Device};
+ghost use Rattle.bc_entry.specs.Entry.{AreValuesOf, HasJournalAndCache, IsReadyEntry, IsWrittenEntry};
+ghost use Rattle.bc_entry.specs.Failed.{HasFailedToWrite};
+ghost use Rattle.bc_events.specs.Columns.{outlasts_halt};
+ghost use Rattle.bc_events.specs.declared.event.Deed.{Deed};
+ghost use Rattle.bc_events.specs.declared.event.Written.{Written};
+ghost use Rattle.bc_hand.specs.Seats.{core, by, IsCoreSeat, MayDo, Works, Did, world};
+ghost use Rattle.bc_journal.specs.Sealed.{AreBytesOf, sector_at};
+ghost use Rattle.bc_machine.specs.World.{FromEach, IsCache, are_plain, cache_among, changes};
+ghost use Rattle.bc_model.specs.Sector.{Value, values_of};
+ghost use Rattle.bc_parts.specs.Seat.{Holds};
+ghost use Rattle.bc_seats.specs.Seats.{Kept};
+
+use crate::barrier::called;
+use bc_disk::disk::{Device, Disk};
+use bc_events::event::{Deed, Failure, Written};
+use bc_hand::error::StepError;
+use bc_hand::hand::Hand;
+use bc_journal::Sealed;
+use bc_machine::machine::{CoreParts, CoreSeat};
+use bc_model::values::Values;
+use std::alloc::Global;
+use std::sync::Wait;
+
+/// Writes the sealed entry to its place, once a barrier came behind the seal: what the entry names
+/// is durable then. The journal and the cache device are in hand, and stay so.
+///
+/// `Fault` says that the write itself failed, which is committed then: the entry stands there in
+/// part, whole or not at all. `Halted` says that a device had halted the run before, `Memory` that
+/// there was none for the values; then nothing was done.
+pub fn write_entry<C: Disk + Drop, B: Disk + Drop, R: Wait>(
+    rt: &R,
+    alloc: Global,
+    parts: &CoreParts<C, B>,
+    seat: &mut CoreSeat<C, B>,
+    hand: &mut Hand<C, B>,
+    entry: &Sealed,
+) -> Result<(), StepError>
+    requires works { Works C.facts B.facts parts.now seat.old hand.old }
+    requires cached { are_plain C.facts B.facts parts.now.run.start ≡ false }
+    requires promise { 0 < seat.old.promises }
+    requires hand { HasJournalAndCache hand.old }
+    requires disk { entry.now.geometry.bucket * entry.now.geometry.nbuckets
+        ≤ (cache_among C.facts B.facts parts.now.run.start).sectors }
+    requires ready { FromEach (world C.facts B.facts seat.old) (IsReadyEntry entry.now) }
+    ensures works { Works C.facts B.facts parts.now seat.new hand.new }
+    ensures hand { HasJournalAndCache hand.new }
+    ensures rest { hand.new ≡ record hand.old { cache = hand.new.cache } }
+    ensures ok { OnOk result ((values : List Value) × AreValuesOf entry.now values × Did C.facts B.facts
+        (Some (Deed.CacheWrite (sector_at entry.now.geometry entry.now.place) Written.Entry values))
+        seat.old seat.new) }
+    ensures knows { OnOk result (FromEach (world C.facts B.facts seat.new) (IsWrittenEntry entry.now)) }
+    ensures err { IfErr result (λ error. HasFailedToWrite C.facts B.facts error entry.now
+        seat.old seat.new) }
+{
+    if let Some(device) = seat.heard() {
+        return Err(StepError::Halted(device));
+    }
+    let bytes = entry.bytes();
+    let Some(values) = values_in(alloc, entry, bytes) else {
+        return Err(StepError::Memory);
+    };
+    let Some(mut cache) = hand.cache.take() else {
+        unreachable!()
+    };
+    let done = write_in(rt, parts, seat, &mut cache, entry, bytes, values);
+    hand.cache = Some(cache);
+    done
+}
+
+// The values of an entry's bytes. It is no sector's pattern, so any number does for the first one.
+fn values_in(alloc: Global, entry: &Sealed, bytes: &[u8]) -> Option<Values>
+    requires { AreBytesOf entry.now.geometry entry.now.entry bytes.now }
+    ensures { IfSome result (λ values. values ≡ values_of bytes.now) }
+{
+    let _sectors = entry.sectors();
+    let bytes = bytes.to_vec(alloc).ok()?;
+    Some(Values::from_sectors(0, bytes))
+}
+
+// The same, of the device in hand, with the values of the entry's bytes.
+fn write_in<C: Disk, B: Disk, R: Wait>(
+    rt: &R,
+    parts: &CoreParts<C, B>,
+    seat: &mut CoreSeat<C, B>,
+    cache: &mut C,
+    entry: &Sealed,
+    bytes: &[u8],
+    values: Values,
+) -> Result<(), StepError>
+    requires run { seat.old.run ≡ parts.now.run }
+    requires seat { IsCoreSeat C.facts B.facts seat.old }
+    requires unheard { seat.old.heard ≡ None }
+    requires cached { are_plain C.facts B.facts parts.now.run.start ≡ false }
+    requires promise { 0 < seat.old.promises }
+    requires holds { Holds seat.old.parts 3 × Holds seat.old.parts 4 }
+    requires cache { IsCache {C = C} {B = B} C.facts B.facts cache.old (world C.facts B.facts seat.old) }
+    requires disk { entry.now.geometry.bucket * entry.now.geometry.nbuckets
+        ≤ (cache_among C.facts B.facts parts.now.run.start).sectors }
+    requires bytes { AreBytesOf entry.now.geometry entry.now.entry bytes.now }
+    requires values { values ≡ values_of bytes.now }
+    requires ready { FromEach (world C.facts B.facts seat.old) (IsReadyEntry entry.now) }
+    ensures seat { IsCoreSeat C.facts B.facts seat.new }
+    ensures kept { Kept (core C.facts B.facts) seat.old seat.new (λ k. k == 4) }
+    ensures cache { IsCache {C = C} {B = B} C.facts B.facts cache.new (world C.facts B.facts seat.new) }
+    ensures ok { OnOk result ((values : List Value) × AreValuesOf entry.now values × Did C.facts B.facts
+        (Some (Deed.CacheWrite (sector_at entry.now.geometry entry.now.place) Written.Entry values))
+        seat.old seat.new) }
+    ensures err { IfErr result (λ error. HasFailedToWrite C.facts B.facts error entry.now
+        seat.old seat.new) }
+{
+    // An entry lies in its bucket, as its place does.
+    let _place = entry.place();
+    let at = entry.sector();
+    match cache.write(at, bytes) {
+        Ok(()) => {
+            let what = Written::Entry;
+            called(rt, parts, seat, Deed::CacheWrite { at, what, values });
+            Ok(())
+        }
+        Err(_) => {
+            let what = Written::Entry;
+            let failure = Failure::CacheWrite { at, what, values };
+            called(rt, parts, seat, Deed::DeviceFault { failure });
+            Err(StepError::Fault(Device::Cache))
+        }
+    }
+}
