@@ -111,6 +111,16 @@ module _ {C B : Type 0} (cache_facts : C → DiskFacts) (backing_facts : B → D
       subst (λ (o : Option Journal). Works cache_facts backing_facts p v (record h { journal = o }))
       is works
 
+  -- one that stands anew for what a deed made of it
+  pub works_anew : (p : PartsView (CorePart C B)) (v w : View cache_facts backing_facts)
+      (h : Hand C B) (j new : Journal) → h.journal ≡ Some j → Works cache_facts backing_facts p v h
+      → IsCoreSeat cache_facts backing_facts w
+      → Kept (m cache_facts backing_facts) v w (λ k. k == 3)
+      → IsJournal new (world cache_facts backing_facts w)
+      → Works cache_facts backing_facts p w (record h { journal = Some new })
+  works_anew p v w h j new is works seat kept on = works_journal cache_facts backing_facts p v w h j
+      new (λ k. k == 3) (with_journal_in p v h j is works) seat kept (other_number 3) on
+
   pub works_ended : (p : PartsView (CorePart C B)) (v w : View cache_facts backing_facts)
       (h : Hand C B) (j : Journal) (s : Sealed) → h.journal ≡ Some j
       → Works cache_facts backing_facts p v h
@@ -120,8 +130,7 @@ module _ {C B : Type 0} (cache_facts : C → DiskFacts) (backing_facts : B → D
       → Works cache_facts backing_facts p w (record h { journal = Some (with_durable s j) })
   works_ended p v w h j s is works knows did kept =
       let there = with_journal_in p v h j is works in
-      works_journal cache_facts backing_facts p v w h j (with_durable s j) (λ k. k == 3) there did.seat
-      kept (other_number 3)
+      works_anew p v w h j (with_durable s j) is works did.seat kept
       (journal_ended v w
       (subst (λ ks. Holds ks 3) (sym works.parts) (holds_journal h (some_is h.journal j is))) s knows did
       j works.seat there.stand.journal)

@@ -4,3 +4,5 @@ pub mod Holding
 pub mod Allowed
 pub mod Ending
 pub mod Writing
+pub mod Needed
+pub mod Sealing

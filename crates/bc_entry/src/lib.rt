@@ -12,4 +12,5 @@
 
 pub mod barrier;
 pub mod durable;
+pub mod seal;
 pub mod write;

@@ -1,0 +1,448 @@
+-- When an entry may be sealed, and what that leaves.
+use Rattle.std.proofs.Common.{◌≡◌, ◌⊎◌, inl, inr, ℕ, suc, ◌+◌, ◌<◌, Bool, true, false, List, [], Option, Some, None, refl, sym, ap, ◌∙◌, subst, arith}
+use Rattle.std.specs.Prelude.{◌&&◌, ◌||◌, IfOk, IsSome, Result, Ok, Err, not, reverse, nat_le, nat_lt, slice_index, if◌then◌else◌, Vec}
+use Rattle.std.specs.declared.alloc.Global.{Global}
+use Rattle.std.proofs.lemmas.Bool.{lt-ltb, ltb-true}
+use Rattle.std.proofs.lemmas.List.{reverse-reverse}
+use Rattle.std.proofs.lemmas.List.Elements.{All-get_or}
+use Rattle.bc_disk.specs.Disk.{DiskFacts}
+use Rattle.bc_disk.specs.declared.geometry.Geometry.{Geometry}
+use Rattle.bc_key.specs.declared.key.Key.{Key}
+use Rattle.bc_parts.specs.Seat.{Holds}
+use Rattle.bc_seats.specs.Seats.{Since}
+use Rattle.bc_seats.proofs.Knowing.{held}
+use Rattle.bc_events.specs.Run as core
+use Rattle.bc_events.specs.declared.event.Deed.{Deed}
+use Rattle.bc_events.specs.declared.event.Deed.TheVariants as deed
+use Rattle.bc_events.specs.declared.event.Event.{Event}
+use Rattle.bc_facts.specs.Layout.{IsLayoutOf}
+use Rattle.bc_facts.specs.Seen.{bucket_of, counted, entry_rest, seen_entry, word_of}
+use Rattle.bc_hand.specs.Seats.{Did, IsCoreSeat, MayDo, by, world}
+use Rattle.bc_hand.proofs.Knowing.{View, framed, is_plain_at, m}
+use Rattle.bc_deed.proofs.May.{low}
+use Rattle.bc_journal.specs.Journal.{IsJournal as IsGoodJournal, IsSealed, Journal, newest_of, number_of, place_for, waiting_words}
+use Rattle.bc_journal.specs.Ring.{following, is_free, may_begin, sectors_for, with_entry}
+use Rattle.bc_journal.specs.Sealed.{Sealed, sector_at}
+use Rattle.bc_journal.specs.declared.heads.Heads.{Heads}
+use Rattle.bc_journal.specs.declared.place.Numbers.{Numbers}
+use Rattle.bc_journal.specs.declared.place.Place.{Place}
+use Rattle.bc_jset.specs.Records.{entry_sectors}
+use Rattle.bc_known.specs.Acts.{BeginBucket, Seal, State, after}
+use Rattle.bc_known.specs.Run.{IsEnabled}
+use Rattle.bc_known.specs.Laws.{IsSound}
+use Rattle.bc_leaves.specs.Enabled.{CanSealNext}
+use Rattle.bc_machine.specs.Containers.{IsJournalOf, IsRingOf, numbers_in, sealed_numbers}
+use Rattle.bc_machine.specs.World.{CanFollow, FromEach, IsCourseOf, IsJournal, IsSeenFrom, Origin, World, are_plain, data_of, replay}
+use Rattle.bc_machine.specs.declared.part.CorePart.TheVariants as part
+use Rattle.bc_meta.specs.Entries.{Entry}
+use Rattle.bc_meta.specs.Layout.{entry_len}
+use Rattle.bc_meta.specs.Records.{Fixed, Nothing, Ready, Records, Safe, Sent, Stage}
+use Rattle.bc_sealing.specs.Laws.{IsNew, Seals, front_of}
+use Rattle.bc_sealing.proofs.Acts.{law_acts}
+use Rattle.bc_sealing.proofs.Ring.{law_places, law_ring}
+use Rattle.bc_shares.specs.Shares.{JournalShare, if_sealed, journal_share}
+use Rattle.bc_shares.proofs.Law.{law_journal}
+use Rattle.bc_whole.specs.State as whole
+use Rattle.bc_whole.specs.State.{SameChain, SameRoot}
+use Rattle.bc_whole.specs.Together.{entry_of}
+use Rattle.bc_entry.specs.Entry.{IsFixedEntry, IsSealedAs}
+use Rattle.bc_entry.specs.Seal.{AreNamed, CanSeal, HasSealed, IsNamed, NeedsNone, begun_by, rest_of}
+use Rattle.bc_entry.proofs.Course.{is_sealed, nothing_course, waits_course}
+use Rattle.bc_entry.proofs.Holding.{IsKept, known_committed, known_since}
+use Rattle.bc_entry.proofs.Needed.{needs_kept}
+
+never : (b : Bool) → b ≡ true → b ≡ false → ⊥
+never b is off = cc
+
+none_sealed : (g : Stage) (e : Entry) → sealed_numbers (if_sealed g e) ≡ None → g ≡ Nothing
+none_sealed Nothing e is = refl
+none_sealed Fixed e is = absurd (cc)
+none_sealed Ready e is = absurd (cc)
+none_sealed Sent e is = absurd (cc)
+none_sealed Safe e is = absurd (cc)
+
+and_left : (p q : Bool) → (p && q) ≡ true → p ≡ true
+and_left true q is = refl
+and_left false q is = absurd (cc)
+
+-- ---- where it goes
+
+-- behind the last entry, or to the front of the bucket behind, which is free
+abbrev pub GoesTo : Journal → Place → Option ℕ → Type 0
+GoesTo j p begun = ((begun ≡ None) × (p ≡ j.ring.next))
+    ⊎ ((b : ℕ) × (begun ≡ Some b) × (p ≡ front_of b) × (b < j.ring.geometry.journal)
+    × (is_free j.ring j.durable.last_seq b ≡ true))
+
+following_in : (g : Geometry) (n : ℕ) → n < g.journal → following g n < g.journal
+following_in g n in_ = go (nat_lt (n + 1) g.journal) refl
+  where
+    go : (b : Bool) → nat_lt (n + 1) g.journal ≡ b → (if b then n + 1 else 0) < g.journal
+    go true is = ltb-true (n + 1) g.journal is
+    go false is = omega (arith, in_)
+
+by_place : (j : Journal) (p : Place) (b : ℕ) (rest fits begins : Bool)
+    → b < j.ring.geometry.journal → (is_free j.ring j.durable.last_seq b && rest) ≡ begins
+    → (if fits then Some j.ring.next else (if begins then Some (front_of b) else None)) ≡ Some p
+    → GoesTo j p (if fits then None else Some b)
+by_place j p b rest true begins in_ may at = inl (refl, cc)
+by_place j p b rest false true in_ may at =
+    inr (b, refl, cc, in_, and_left (is_free j.ring j.durable.last_seq b) rest may)
+by_place j p b rest false false in_ may at = absurd (cc)
+
+pub goes_to : (j : Journal) (p : Place) → IsGoodJournal j → place_for j (waiting_words j) ≡ Some p
+    → GoesTo j p (begun_by j)
+goes_to j p good is =
+    let g = j.ring.geometry in
+    let b = following g j.ring.next.bucket in
+    let keyed = nat_lt 0 (waiting_words j) in
+    by_place j p b (not keyed || is_free j.ring j.durable.last_seq (following g b))
+    (nat_le (j.ring.next.sector + sectors_for g (waiting_words j)) g.bucket)
+    (may_begin j.ring j.durable.last_seq keyed b)
+    (following_in g j.ring.next.bucket good.ring.next.bucket) refl is
+
+pub some_place : (o : Option Place) → IsSome o → (p : Place) × (o ≡ Some p)
+some_place None some = absurd (cc)
+some_place (Some p) some = (p, refl)
+
+pub has_place : (j : Journal) → CanSeal j
+    → (p : Place) × (place_for j (waiting_words j) ≡ Some p)
+has_place j can = some_place (place_for j (waiting_words j))
+    (subst (λ n. IsSome (place_for j n)) (omega arith) can.room.place)
+
+-- ---- in a state of a run
+
+module _ (o : Origin) (sound : IsSound o.opening.machine o.parts) (es : List Event)
+    (on : IsCourseOf o es) (j : Journal) (good : IsGoodJournal j) (can : CanSeal j)
+    (h : IsJournalOf o.opening.machine (journal_share (replay o es).machine) j) where
+  abbrev w : whole.Opening
+  w = o.opening.machine
+
+  abbrev st : State
+  st = (replay o es).machine
+
+  abbrev r : Records
+  r = st.whole.parts.records
+
+  idle : r.stage ≡ Nothing
+  idle = none_sealed r.stage r.entry (sym h.sealed ∙ can.none)
+
+  seq_is : j.durable.seq ≡ r.newest.number
+  seq_is = ap (λ (n : Numbers). n.seq) h.durable
+
+  low_is : j.durable.last_seq ≡ r.newest.last_seq
+  low_is = ap (λ (n : Numbers). n.last_seq) h.durable
+
+  number_is : number_of j ≡ j.durable.seq + 1
+  number_is = ap (λ n. newest_of j.durable n + 1) can.none
+
+  can_seal : NeedsNone j.needed o (replay o es) → CanSealNext st.whole.parts j.needed
+  can_seal needs =
+      let seq = seq_is in
+      let least = low_is in
+      let number = number_is in
+      let from = good.needed_from in
+      let to = good.needed_to in
+      (idle, omega (arith, least, from), omega (arith, to, number, seq), needs)
+
+  not_waiting : st.whole.flow.books.journal.waiting ≡ false
+  not_waiting = waits_course o sound es on ∙ ap is_sealed (nothing_course o sound es on idle)
+
+  seals : (i : ℕ) (rest : List ℕ) → NeedsNone j.needed o (replay o es)
+      → st.whole.flow.halted ≡ false → IsEnabled w st i (Seal j.needed rest SameRoot SameChain)
+  seals i rest needs running = record {
+    data_allows = (record { heard = running; steps = (not_waiting, tt); can = tt }, tt);
+    asks = (can_seal needs, tt);
+  }
+
+  -- a bucket that is begun has older entries alone
+  begins : (i b : ℕ) → b < j.ring.geometry.journal → is_free j.ring j.durable.last_seq b ≡ true
+      → IsEnabled w st i (BeginBucket b)
+  begins i b in_ free = record {
+    data_allows = tt;
+    asks = (
+      (
+        idle,
+        law_places.free w (journal_share st) j.ring b h.ring
+            (subst (λ n. is_free j.ring n b ≡ true) low_is free),
+      ),
+      let same = h.ring.layout.journal in omega (arith, in_, same),
+    );
+  }
+
+  seals_behind : (i b : ℕ) (rest : List ℕ) → NeedsNone j.needed o (replay o es)
+      → st.whole.flow.halted ≡ false
+      → IsEnabled w (after w st i (BeginBucket b)) i (Seal j.needed rest SameRoot SameChain)
+  seals_behind i b rest needs running = record {
+    data_allows = (record { heard = running; steps = (not_waiting, tt); can = tt }, tt);
+    asks = (can_seal needs, tt);
+  }
+
+  -- ---- what it leaves
+
+  module _ (heads : Heads) (named : AreNamed j.ring.geometry heads o (replay o es)) (s : Sealed)
+      (new : Journal) (is : IsSealed j heads s new) (rest : List ℕ)
+      (rest_is : rest ≡ entry_rest s.entry) where
+    abbrev g : Geometry
+    g = j.ring.geometry
+
+    abbrev e : Entry
+    e = seen_entry g s.entry
+
+    entry_is : entry_of st.whole j.needed rest SameRoot SameChain ≡ e
+    entry_is =
+        let at = is.entry in
+        let number : suc r.newest.number ≡ s.entry.seq =
+        let seq = seq_is in
+        let all = number_is in
+        let same = ap (λ x. x.seq) at in omega (arith, seq, all, same) in
+        let low = sym (ap (λ x. x.last_seq) at) in
+        let root = named.root ∙ sym (ap (λ x. bucket_of g x.root) at) in
+        let word = named.word ∙ sym (ap (λ x. word_of x.root) at) in
+        let level = named.level ∙ sym (ap (λ x. x.level) at) in
+        let prio = named.prio ∙ sym (ap (λ x. counted g x.prio) at) in
+        let keys : r.waiting ≡ reverse s.entry.keys = sym (reverse-reverse r.waiting)
+        ∙ ap (λ (ks : List Key). reverse ks) (sym h.waiting)
+        ∙ ap (λ x. reverse x.keys) (sym at) in
+        λ i. record {
+          number = number i;
+          last_seq = low i;
+          root = root i;
+          word = word i;
+          level = level i;
+          prio = prio i;
+          keys = keys i;
+          rest = rest_is i;
+        }
+
+    abbrev x : JournalShare
+    x = journal_share st
+
+    none_before : x.entries.sealed ≡ None
+    none_before = ap (λ a. if_sealed a r.entry) idle
+
+    sectors_are : entry_sectors g s.entry ≡ entry_len w.layout e
+    sectors_are = sym (h.ring.layout.entries.long tt s.entry)
+
+    is_new : (b : ℕ) → b < g.journal → IsNew w j.ring b e (entry_sectors g s.entry)
+    is_new b in_ = record {
+      long = sectors_are;
+      within = let all = good.ring.buckets in omega (arith, in_, all);
+      number =
+          let all = good.ring.buckets in
+          let below : slice_index j.ring.newest b < number_of j =
+          All-get_or (λ n. n < number_of j) j.ring.newest b 0 (omega (arith, in_, all))
+          good.newest in
+          let same = ap (λ y. y.seq) is.entry in omega (arith, below, same);
+    }
+
+    sealed_as : (i : ℕ) (before : State) → Seals (entry_of before.whole j.needed rest SameRoot SameChain)
+        (journal_share before)
+        (journal_share (after w before i (Seal j.needed rest SameRoot SameChain)))
+    sealed_as i before = law_acts.seals w before i j.needed rest SameRoot SameChain
+
+    -- of a share in which the ring has it at its place
+    module _ (y : JournalShare) (sealed : y.entries.sealed ≡ Some e) (waiting : y.entries.waiting ≡ [])
+        (newest : y.entries.newest ≡ r.newest)
+        (ring : IsRingOf w y (with_entry j.ring s.place (entry_sectors g s.entry) s.entry.seq)) where
+      journal_is : IsJournalOf w y new
+      journal_is = subst (IsJournalOf w y) (sym is.journal) (record {
+        waiting = ap (λ (ks : List Key). reverse ks) (sym waiting);
+        durable = h.durable ∙ ap numbers_in (sym newest);
+        sealed = ap sealed_numbers (sym sealed);
+        ring = ring;
+      })
+
+      sealed_is_as : IsSealedAs s w y
+      sealed_is_as = record {
+        layout = subst (λ (k : Geometry). IsLayoutOf k w.layout) (sym is.geometry) h.ring.layout;
+        entry = sealed ∙ ap (λ (k : Geometry). Some (seen_entry k s.entry)) (sym is.geometry);
+        bucket = sym ring.bucket;
+        next = law_places.place w y j.ring s.place e (entry_sectors g s.entry) ring sealed sectors_are
+            ∙ ap (λ (k : Geometry). sector_at k s.place) (sym is.geometry);
+      }
+
+    -- behind the last entry, and in front of a bucket
+    abbrev Leaves : State → Type 0
+    Leaves a = IsJournalOf w (journal_share a) new × IsSealedAs s w (journal_share a)
+
+    leaves_behind : (i : ℕ) → s.place ≡ j.ring.next
+        → Leaves (after w st i (Seal j.needed rest SameRoot SameChain))
+    leaves_behind i place =
+        let y = journal_share (after w st i (Seal j.needed rest SameRoot SameChain)) in
+        let seals = subst (λ (z : Entry). Seals z x y) entry_is (sealed_as i st) in
+        let ring = subst (λ (p : Place). IsRingOf w y
+        (with_entry j.ring p (entry_sectors g s.entry) s.entry.seq)) (sym place)
+        (law_ring.behind w x y j.ring e (entry_sectors g s.entry) h.ring none_before seals
+        (is_new j.ring.next.bucket good.ring.next.bucket)) in (
+          journal_is y seals.sealed refl refl ring,
+          sealed_is_as y seals.sealed refl refl ring,
+        )
+
+    leaves_in_front : (i b : ℕ) → b < g.journal → s.place ≡ front_of b
+        → Leaves (after w (after w st i (BeginBucket b)) i (Seal j.needed rest SameRoot SameChain))
+    leaves_in_front i b in_ place =
+        let before = after w st i (BeginBucket b) in
+        let y = journal_share before in
+        let z = journal_share (after w before i (Seal j.needed rest SameRoot SameChain)) in
+        let seals = subst (λ (d : Entry). Seals d y z) entry_is (sealed_as i before) in
+        let ring = subst (λ (p : Place). IsRingOf w z
+        (with_entry j.ring p (entry_sectors g s.entry) s.entry.seq)) (sym place)
+        (law_ring.front w x y z j.ring b e (entry_sectors g s.entry) h.ring
+        (law_acts.begins w st i b) seals (is_new b in_)) in (
+          journal_is z seals.sealed refl refl ring,
+          sealed_is_as z seals.sealed refl refl ring,
+        )
+
+-- ---- as a deed
+
+abbrev pub sealing : Journal → Option ℕ → Vec ℕ Global → Deed
+sealing j begun rest = deed.Seal j.needed begun rest None None
+
+module _ (o : Origin) (sound : IsSound o.opening.machine o.parts)
+    (not_plain : o.opening.machine.flow.plain ≡ false) (es : List Event)
+    (on : IsCourseOf o es) (j : Journal) (good : IsGoodJournal j) (can : CanSeal j)
+    (h : IsJournalOf o.opening.machine (journal_share (replay o es).machine) j) (i : ℕ)
+    (rest : Vec ℕ Global) where
+  enabled : (begun : Option ℕ) (p : Place) → GoesTo j p begun → i < 320
+      → NeedsNone j.needed o (replay o es) → (replay o es).machine.whole.flow.halted ≡ false
+      → core.IsEnabled o.opening (replay o es) (by i (sealing j begun rest))
+  enabled begun p (inl (is, place)) few needs running =
+      subst (λ (b : Option ℕ). core.IsEnabled o.opening (replay o es) (by i (sealing j b rest)))
+      (sym is) (record {
+        seat = lt-ltb i 320 few;
+        course = (seals o sound es on j good can h i rest.items needs running, tt);
+        fit = tt;
+        its_line = tt;
+        plain = λ plain. absurd (never o.opening.machine.flow.plain plain not_plain);
+      })
+  enabled begun p (inr (b, is, place, in_, free)) few needs running =
+      subst (λ (b : Option ℕ). core.IsEnabled o.opening (replay o es) (by i (sealing j b rest)))
+      (sym is) (record {
+        seat = lt-ltb i 320 few;
+        course = (
+          begins o sound es on j good can h i b in_ free,
+          (seals_behind o sound es on j good can h i b rest.items needs running, tt),
+        );
+        fit = tt;
+        its_line = tt;
+        plain = λ plain. absurd (never o.opening.machine.flow.plain plain not_plain);
+      })
+
+  module _ (heads : Heads) (named : AreNamed j.ring.geometry heads o (replay o es)) (s : Sealed)
+      (new : Journal) (is : IsSealed j heads s new) (rest_is : rest.items ≡ entry_rest s.entry) where
+    abbrev Left : Option ℕ → Type 0
+    Left begun =
+        let a = core.after o.opening (replay o es) (by i (sealing j begun rest)) in
+        IsJournalOf o.opening.machine (journal_share a.machine) new × IsFixedEntry s o a
+
+    left : (begun : Option ℕ) → GoesTo j s.place begun → Left begun
+    left begun (inl (none, place)) = subst Left (sym none)
+        (let both = leaves_behind o sound es on j good can h heads named s new is rest.items rest_is i
+        place in (both.0, record { sealed = both.1; stage = tt }))
+    left begun (inr (b, some, place, in_, free)) = subst Left (sym some)
+        (let both = leaves_in_front o sound es on j good can h heads named s new is rest.items rest_is
+        i b in_ place in (both.0, record { sealed = both.1; stage = tt }))
+
+-- ---- of a seat
+
+named_kept : (g : Geometry) (heads : Heads) → IsKept (AreNamed g heads)
+named_kept g heads o st e on off h = subst (λ (x : JournalShare). IsNamed g heads x.entries.newest)
+    (sym (law_journal o.opening st e on off)) h
+
+module _ {C B : Type 0} (cache_facts : C → DiskFacts) (backing_facts : B → DiskFacts) where
+  module _ (v : View cache_facts backing_facts) (seat : IsCoreSeat cache_facts backing_facts v)
+      (journal : Holds v.parts 3) (j : Journal) (good : IsGoodJournal j) (can : CanSeal j)
+      (stands : IsJournal j (world cache_facts backing_facts v)) where
+    pub journal_since : (x : World) → Since (m cache_facts backing_facts) v x → IsJournal j x
+    journal_since x since = (held (m cache_facts backing_facts) (framed cache_facts backing_facts) v x
+        3 (part.Journal j) seat.seat since journal (refl, stands)).1
+
+    pub may_seal : are_plain cache_facts backing_facts v.run.start ≡ false
+        → FromEach (world cache_facts backing_facts v) (NeedsNone j.needed)
+        → (rest : Vec ℕ Global)
+        → MayDo cache_facts backing_facts v (sealing j (begun_by j) rest)
+    may_seal cached needs rest x y at told =
+        let seen = at.from (is_plain_at cache_facts backing_facts v x at.since ∙ cached) in
+        go x y seen.0 seen.1 at.since (at.running refl)
+      where
+        go : (x y : World) (o : Origin) → IsSeenFrom o x y → Since (m cache_facts backing_facts) v x
+            → (data_of y).halted ≡ false
+            → CanFollow y (by v.first (sealing j (begun_by j) rest))
+        go x y o seen since = subst (λ (z : World). (data_of z).halted ≡ false
+            → CanFollow z (by v.first (sealing j (begun_by j) rest))) (sym seen.is)
+            (λ running. let place = has_place j can in record {
+              enabled = enabled o seen.origin.sound seen.origin.cached x.log seen.course j good can
+                  (journal_since x since o seen.origin seen.course) v.first rest (begun_by j) place.0
+                  (goes_to j place.0 good place.1) (low cache_facts backing_facts v seat)
+                  (known_since cache_facts backing_facts v x (NeedsNone j.needed) journal
+                  (needs_kept j.needed) since needs o seen.origin seen.course) running;
+              names = tt;
+            })
+
+    module _ (w : View cache_facts backing_facts) (heads : Heads)
+        (named : FromEach (world cache_facts backing_facts v) (AreNamed j.ring.geometry heads))
+        (s : Sealed) (new : Journal) (is : IsSealed j heads s new) (rest : Vec ℕ Global)
+        (rest_is : rest.items ≡ entry_rest s.entry)
+        (did : Did cache_facts backing_facts (Some (sealing j (begun_by j) rest)) v w) where
+      both_left : FromEach (world cache_facts backing_facts w) (λ o a.
+          IsJournalOf o.opening.machine (journal_share a.machine) new × IsFixedEntry s o a)
+      both_left = known_committed cache_facts backing_facts v w (sealing j (begun_by j) rest)
+          (λ o st. IsJournalOf o.opening.machine (journal_share st.machine) j)
+          (λ o a. IsJournalOf o.opening.machine (journal_share a.machine) new × IsFixedEntry s o a)
+          did
+          (λ o origin course on h. left o origin.sound origin.cached did.is.before.log course j good
+          can h v.first rest heads
+          (known_since cache_facts backing_facts v did.is.before (AreNamed j.ring.geometry heads)
+          journal (named_kept j.ring.geometry heads) did.is.since named o origin course) s new is
+          rest_is (begun_by j) (goes_to j s.place good is.place))
+          (journal_since did.is.before did.is.since)
+
+      pub journal_sealed : IsJournal new (world cache_facts backing_facts w)
+      journal_sealed o origin course = (both_left o origin course).0
+
+      pub knows_fixed : FromEach (world cache_facts backing_facts w) (IsFixedEntry s)
+      knows_fixed o origin course = (both_left o origin course).1
+
+      -- as what the seat did
+      pub has_sealed : HasSealed cache_facts backing_facts j s v w
+      has_sealed = record {
+        rest = rest;
+        rest_is = rest_is;
+        did = subst (λ n. Did cache_facts backing_facts (Some (deed.Seal n (begun_by j) rest None None))
+            v w) (sym (ap (λ x. x.last_seq) is.entry)) did;
+      }
+
+    -- by whatever numbers these are
+    pub may_seal_at : (n : ℕ) (begun : Option ℕ) → n ≡ j.needed → begun ≡ begun_by j
+        → are_plain cache_facts backing_facts v.run.start ≡ false
+        → FromEach (world cache_facts backing_facts v) (NeedsNone j.needed)
+        → (rest : Vec ℕ Global)
+        → MayDo cache_facts backing_facts v (deed.Seal n begun rest None None)
+    may_seal_at n begun n_is begun_is cached needs rest = subst
+        (λ k. MayDo cache_facts backing_facts v (deed.Seal k begun rest None None)) (sym n_is)
+        (subst (λ (b : Option ℕ). MayDo cache_facts backing_facts v
+        (deed.Seal j.needed b rest None None)) (sym begun_is) (may_seal cached needs rest))
+
+  pub did_sealing : (v w : View cache_facts backing_facts) (j : Journal) (n : ℕ) (begun : Option ℕ)
+      (rest : Vec ℕ Global) → n ≡ j.needed → begun ≡ begun_by j
+      → Did cache_facts backing_facts (Some (deed.Seal n begun rest None None)) v w
+      → Did cache_facts backing_facts (Some (sealing j (begun_by j) rest)) v w
+  did_sealing v w j n begun rest n_is begun_is did = subst (λ (b : Option ℕ).
+      Did cache_facts backing_facts (Some (deed.Seal j.needed b rest None None)) v w) begun_is
+      (subst (λ k. Did cache_facts backing_facts (Some (deed.Seal k begun rest None None)) v w) n_is did)
+
+pub rest_is_entry : (j : Journal) (heads : Heads) (s : Sealed) (new : Journal) (keys : List Key)
+    (rest : List ℕ) → IsSealed j heads s new → rest ≡ rest_of heads keys → keys ≡ j.waiting
+    → rest ≡ entry_rest s.entry
+rest_is_entry j heads s new keys rest is rest_is keys_are =
+    rest_is ∙ ap (rest_of heads) keys_are ∙ sym (ap entry_rest is.entry)
+
+-- ---- of the journal in hand
+
+pub same_some : {A : Type 0} (o : Option A) (a b : A) → o ≡ Some a → o ≡ Some b → a ≡ b
+same_some o a b is at = let both : Some a ≡ Some b = sym is ∙ at in cc
+
+pub both_ok : {A E : Type 0} {P Q R : A → Type 0} (x : Result A E)
+    → ((a : A) → P a → Q a → R a) → IfOk x P → IfOk x Q → IfOk x R
+both_ok (Ok a) f p q = f a p q
+both_ok (Err e) f p q = tt

@@ -1,0 +1,41 @@
+use Rattle.std.proofs.Common.{refl, sym, ◌∙◌, subst}
+use Rattle.bc_hand.specs.Seats.{world}
+use Rattle.bc_deed.proofs.May.{did_nothing}
+use Rattle.bc_journal.specs.Journal.{Journal}
+use Rattle.bc_machine.specs.World.{FromEach}
+use Rattle.bc_entry.specs.Seal.{AreNamed, NeedsNone}
+use Rattle.bc_entry.proofs.Ending.{works_anew}
+use Rattle.bc_entry.proofs.Sealing.{both_ok, same_some}
+use Rattle.bc_entry.proofs.seal.seal.Goals as goal
+
+pub returns-in-Some-clause-err : goal.returns-in-Some-clause-err
+returns-in-Some-clause-err g c = did_nothing g.C.Disk.facts g.B.Disk.facts c.args.seat.now
+    c.requires.works.seat
+
+pub seal_in-done-requires-clause-named : goal.seal_in-done-requires-clause-named
+seal_in-done-requires-clause-named g c = subst (λ (j : Journal). FromEach
+    (world g.C.Disk.facts g.B.Disk.facts c.args.seat.now) (AreNamed j.ring.geometry c.args.heads.now))
+    (same_some c.args.hand.now.journal c.requires.journal.0 c.in-Some-take.journal
+    c.requires.journal.1 (sym c.take.ensures.value ∙ c.in-Some-take.is)) c.requires.journal.3
+
+pub seal_in-done-requires-clause-needs : goal.seal_in-done-requires-clause-needs
+seal_in-done-requires-clause-needs g c = subst (λ (j : Journal). FromEach
+    (world g.C.Disk.facts g.B.Disk.facts c.args.seat.now) (NeedsNone j.needed))
+    (same_some c.args.hand.now.journal c.requires.journal.0 c.in-Some-take.journal
+    c.requires.journal.1 (sym c.take.ensures.value ∙ c.in-Some-take.is)) c.requires.journal.4
+
+pub returns-clause-works : goal.returns-clause-works
+returns-clause-works g c = works_anew g.C.Disk.facts g.B.Disk.facts c.args.parts.now c.args.seat.now
+    c.seal_in-done.new.seat c.args.hand.now c.in-Some-take.journal c.seal_in-done.new.journal
+    (sym c.take.ensures.value ∙ c.in-Some-take.is) c.requires.works c.seal_in-done.ensures.seat
+    c.seal_in-done.ensures.kept c.seal_in-done.ensures.journal
+
+pub returns-clause-ok : goal.returns-clause-ok
+returns-clause-ok g c = both_ok c.seal_in-done.result (λ entry is did. (
+  c.in-Some-take.journal,
+  c.seal_in-done.new.journal,
+  sym c.take.ensures.value ∙ c.in-Some-take.is,
+  refl,
+  is,
+  did,
+)) c.seal_in-done.ensures.sealed c.seal_in-done.ensures.ok

@@ -1,0 +1,64 @@
+use Rattle.bc_hand.specs.Seats.{world}
+use Rattle.bc_deed.proofs.May.{did_nothing, kept_as}
+use Rattle.bc_entry.proofs.CacheDevice.{cached_by}
+use Rattle.bc_entry.proofs.Ending.{journal_changed}
+use Rattle.bc_entry.proofs.Sealing.{did_sealing, has_sealed, journal_sealed, journal_since, knows_fixed, may_seal_at, rest_is_entry}
+use Rattle.bc_entry.proofs.seal.seal_in.Goals as goal
+
+pub returns-in_default-clause-err : goal.returns-in_default-clause-err
+returns-in_default-clause-err g c = did_nothing g.C.Disk.facts g.B.Disk.facts c.args.seat.now
+    c.requires.seat
+
+pub returns-clause-kept : goal.returns-clause-kept
+returns-clause-kept g c = kept_as g.C.Disk.facts g.B.Disk.facts c.args.seat.now c.commit.new.seat _ _
+    journal_changed c.commit.ensures.kept
+
+pub returns-in-Err-clause-journal : goal.returns-in-Err-clause-journal
+returns-in-Err-clause-journal g c = journal_since g.C.Disk.facts g.B.Disk.facts c.args.seat.now
+    c.requires.seat c.requires.holds c.args.journal.now c.needed-last_seq.ensures.journal c.requires.can
+    c.requires.journal (world g.C.Disk.facts g.B.Disk.facts c.commit.new.seat)
+    c.in-Err.ensures.err.is.since
+
+pub commit-requires-clause-may : goal.commit-requires-clause-may
+commit-requires-clause-may g c = may_seal_at g.C.Disk.facts g.B.Disk.facts c.args.seat.now
+    c.requires.seat c.requires.holds c.args.journal.now c.needed-last_seq.ensures.journal c.requires.can
+    c.requires.journal c.needed-last_seq.result c.bucket_begun-bucket.result
+    c.needed-last_seq.ensures.value c.bucket_begun-bucket.ensures
+    (cached_by g.C.Disk.facts g.B.Disk.facts c.args.parts.now c.args.seat.now
+    c.requires.run c.requires.cached) c.requires.needs c.in-Ok.rest
+
+pub returns-clause-journal : goal.returns-clause-journal
+returns-clause-journal g c = journal_sealed g.C.Disk.facts g.B.Disk.facts c.args.seat.now
+    c.requires.seat c.requires.holds c.args.journal.now c.needed-last_seq.ensures.journal c.requires.can
+    c.requires.journal c.commit.new.seat c.args.heads.now c.requires.named c.in-Ok-seal.entry
+    c.seal.new.self c.in-Ok-seal.ensures.sealed c.in-Ok.rest
+    (rest_is_entry c.args.journal.now c.args.heads.now c.in-Ok-seal.entry c.seal.new.self
+    c.waiting.result.now c.in-Ok.rest.items c.in-Ok-seal.ensures.sealed c.in-Ok.ensures
+    c.waiting.ensures.value)
+    (did_sealing g.C.Disk.facts g.B.Disk.facts c.args.seat.now c.commit.new.seat c.args.journal.now
+    c.needed-last_seq.result c.bucket_begun-bucket.result c.in-Ok.rest
+    c.needed-last_seq.ensures.value c.bucket_begun-bucket.ensures c.in_default-commit.ensures.ok)
+
+pub returns-clause-ok : goal.returns-clause-ok
+returns-clause-ok g c = has_sealed g.C.Disk.facts g.B.Disk.facts c.args.seat.now
+    c.requires.seat c.requires.holds c.args.journal.now c.needed-last_seq.ensures.journal c.requires.can
+    c.requires.journal c.commit.new.seat c.args.heads.now c.requires.named c.in-Ok-seal.entry
+    c.seal.new.self c.in-Ok-seal.ensures.sealed c.in-Ok.rest
+    (rest_is_entry c.args.journal.now c.args.heads.now c.in-Ok-seal.entry c.seal.new.self
+    c.waiting.result.now c.in-Ok.rest.items c.in-Ok-seal.ensures.sealed c.in-Ok.ensures
+    c.waiting.ensures.value)
+    (did_sealing g.C.Disk.facts g.B.Disk.facts c.args.seat.now c.commit.new.seat c.args.journal.now
+    c.needed-last_seq.result c.bucket_begun-bucket.result c.in-Ok.rest
+    c.needed-last_seq.ensures.value c.bucket_begun-bucket.ensures c.in_default-commit.ensures.ok)
+
+pub returns-clause-knows : goal.returns-clause-knows
+returns-clause-knows g c = knows_fixed g.C.Disk.facts g.B.Disk.facts c.args.seat.now
+    c.requires.seat c.requires.holds c.args.journal.now c.needed-last_seq.ensures.journal c.requires.can
+    c.requires.journal c.commit.new.seat c.args.heads.now c.requires.named c.in-Ok-seal.entry
+    c.seal.new.self c.in-Ok-seal.ensures.sealed c.in-Ok.rest
+    (rest_is_entry c.args.journal.now c.args.heads.now c.in-Ok-seal.entry c.seal.new.self
+    c.waiting.result.now c.in-Ok.rest.items c.in-Ok-seal.ensures.sealed c.in-Ok.ensures
+    c.waiting.ensures.value)
+    (did_sealing g.C.Disk.facts g.B.Disk.facts c.args.seat.now c.commit.new.seat c.args.journal.now
+    c.needed-last_seq.result c.bucket_begun-bucket.result c.in-Ok.rest
+    c.needed-last_seq.ensures.value c.bucket_begun-bucket.ensures c.in_default-commit.ensures.ok)

@@ -1,0 +1,60 @@
+-- An entry that a seat seals: what it has to know for it, and what it did.
+use Rattle.std.specs.Prelude.{◌≡◌, ◌≢◌, ℕ, ◌+◌, ◌^◌, ◌<◌, List, [], ◌∷◌, length, nat_le, Option, Some, None, if◌then◌else◌, Vec}
+use Rattle.std.specs.declared.alloc.Global.{Global}
+use Rattle.bc_disk.specs.Disk.{DiskFacts}
+use Rattle.bc_disk.specs.declared.geometry.Geometry.{Geometry}
+use Rattle.bc_events.specs.Run.{State}
+use Rattle.bc_events.specs.declared.event.Deed.TheVariants as deed
+use Rattle.bc_facts.specs.Seen.{bucket_of, counted, entry_rest, word_of}
+use Rattle.bc_hand.specs.Seats.{Did, View}
+use Rattle.bc_journal.specs.Journal.{HasRoom, Journal, number_of, waiting_words}
+use Rattle.bc_journal.specs.Ring.{following, sectors_for}
+use Rattle.bc_journal.specs.Sealed.{Sealed}
+use Rattle.bc_journal.specs.declared.heads.Heads.{Heads}
+use Rattle.bc_key.specs.declared.key.Key.{Key}
+use Rattle.bc_keys.specs.Spelling.{words_of_all}
+use Rattle.bc_leaves.specs.Parts.{AllFrom, NoNode}
+use Rattle.bc_machine.specs.World.{Origin}
+use Rattle.bc_meta.specs.Entries.{Entry}
+use Rattle.bc_shares.specs.Shares.{journal_share}
+
+-- no entry is being written, and the next one has a place in the ring and a number
+pub record CanSeal (j : Journal) : Type 0 where
+  pub none : j.sealed ≡ None
+  pub room : HasRoom j 0
+  pub numbered : number_of j < 2 ^ 63
+
+-- the newest durable entry names this root and these priorities
+pub record IsNamed (g : Geometry) (heads : Heads) (e : Entry) : Type 0 where
+  pub root : e.root ≡ bucket_of g heads.root
+  pub word : e.word ≡ word_of heads.root
+  pub level : e.level ≡ heads.level
+  pub prio : e.prio ≡ counted g heads.prio
+
+abbrev pub AreNamed : Geometry → Heads → Origin → State → Type 0
+AreNamed g heads o st = IsNamed g heads (journal_share st.machine).entries.newest
+
+-- no leaf waits for a key of an older entry
+abbrev pub NeedsNone : ℕ → Origin → State → Type 0
+NeedsNone low o st = (k : ℕ) → (st.machine.whole.parts.leaves k).role ≢ NoNode
+    → AllFrom low (st.machine.whole.parts.leaves k).pending
+
+-- the journal bucket that the next entry begins, where it has no room behind the last one
+abbrev pub begun_by : Journal → Option ℕ
+begun_by j = if nat_le (j.ring.next.sector + sectors_for j.ring.geometry (waiting_words j))
+    j.ring.geometry.bucket then None
+    else Some (following j.ring.geometry j.ring.next.bucket)
+
+-- what an entry's record says besides its numbers, the root and the keys
+abbrev pub rest_of : Heads → List Key → List ℕ
+rest_of heads keys =
+    length (words_of_all keys) ∷ heads.prio ∷ words_of_all (heads.uuid_bucket ∷ heads.root ∷ [])
+
+module _ {C B : Type 0} (cache_facts : C → DiskFacts) (backing_facts : B → DiskFacts) where
+  -- The seat sealed this entry, of the same root and the same priorities as the one before.
+  pub record HasSealed (j : Journal) (s : Sealed) (v w : View cache_facts backing_facts) :
+      Type 0 where
+    pub rest : Vec ℕ Global
+    pub rest_is : rest.items ≡ entry_rest s.entry
+    pub did : Did cache_facts backing_facts
+        (Some (deed.Seal s.entry.last_seq (begun_by j) rest None None)) v w
