@@ -6,3 +6,5 @@ pub mod Ending
 pub mod Writing
 pub mod Needed
 pub mod Sealing
+pub mod Putting
+pub mod Begun

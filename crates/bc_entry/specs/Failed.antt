@@ -25,12 +25,18 @@ module _ {C B : Type 0} (cache_facts : C → DiskFacts) (backing_facts : B → D
       (halt_of w.seen ≡ Some device) × Did cache_facts backing_facts None v w
   HasFailedAtCache error.Memory failed v w = ⊥
 
+  -- the entry was written
+  abbrev pub HasWritten : Sealed → View cache_facts backing_facts
+      → View cache_facts backing_facts → Type 0
+  HasWritten s v w = (values : List Value) × AreValuesOf s values × Did cache_facts backing_facts
+      (Some (deed.CacheWrite (sector_at s.geometry s.place) written.Entry values)) v w
+
   -- the write of the entry failed
   abbrev pub HasLostEntry : Sealed → View cache_facts backing_facts
       → View cache_facts backing_facts → Type 0
   HasLostEntry s v w = (values : List Value) × AreValuesOf s values × Did cache_facts backing_facts
-      (Some (deed.DeviceFault (failure.CacheWrite (sector_at s.geometry s.place) written.Entry values)))
-      v w
+      (Some (deed.DeviceFault
+      (failure.CacheWrite (sector_at s.geometry s.place) written.Entry values))) v w
 
   -- A step that was to write it committed that, or only waited: for want of memory, or behind a
   -- halt.

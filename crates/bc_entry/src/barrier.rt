@@ -62,6 +62,7 @@ pub fn cache_barrier<C: Disk + Drop, B: Disk + Drop, R: Wait>(
     requires order { hand.old.cache ≡ None → HasNoneBehindCache hand.old }
     ensures works { Works C.facts B.facts parts.now seat.new hand.new }
     ensures hand { kinds hand.new ≡ kinds hand.old }
+    ensures rest { hand.new ≡ record hand.old { cache = hand.new.cache } }
     ensures ok { OnOk result (Did C.facts B.facts (Some Deed.CacheBarrier) seat.old seat.new) }
     ensures firm { OnOk result (HasJournalAndCache hand.old
         → MakesFirm C.facts B.facts seat.old seat.new) }

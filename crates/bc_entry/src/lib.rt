@@ -12,5 +12,7 @@
 
 pub mod barrier;
 pub mod durable;
+pub mod laws;
+pub mod put;
 pub mod seal;
 pub mod write;

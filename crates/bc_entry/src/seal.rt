@@ -89,7 +89,8 @@ fn seal_in<C: Disk, B: Disk, R: Wait>(
     ensures kept { Kept (core C.facts B.facts) seat.old seat.new (λ k. k == 3) }
     ensures journal { IsJournal journal.new (world C.facts B.facts seat.new) }
     ensures sealed { IfOk result (λ entry. IsSealed journal.old heads.now entry journal.new) }
-    ensures ok { IfOk result (λ entry. HasSealed C.facts B.facts journal.old entry seat.old seat.new) }
+    ensures ok { IfOk result (λ entry. HasSealed C.facts B.facts journal.old entry seat.old
+        seat.new) }
     ensures knows { IfOk result (λ entry. FromEach (world C.facts B.facts seat.new)
         (IsFixedEntry entry)) }
     ensures err { OnErr result (Did C.facts B.facts None seat.old seat.new) }

@@ -1,15 +1,14 @@
 //! The step that writes a sealed entry to the cache device.
 ghost use Rattle.std.specs.Prelude.{◌≡◌, ◌+◌, ◌*◌, ◌<◌, ◌≤◌, ◌==◌, ℕ, List, false, None, Some, length, OnOk, IfErr, IfSome};
 ghost use Rattle.bc_disk.specs.declared.disk.Device.{Device};
-ghost use Rattle.bc_entry.specs.Entry.{AreValuesOf, HasJournalAndCache, IsReadyEntry, IsWrittenEntry};
-ghost use Rattle.bc_entry.specs.Failed.{HasFailedToWrite};
+ghost use Rattle.bc_entry.specs.Entry.{HasJournalAndCache, IsReadyEntry, IsWrittenEntry};
+ghost use Rattle.bc_entry.specs.Failed.{HasFailedToWrite, HasWritten};
 ghost use Rattle.bc_events.specs.Columns.{outlasts_halt};
 ghost use Rattle.bc_events.specs.declared.event.Deed.{Deed};
-ghost use Rattle.bc_events.specs.declared.event.Written.{Written};
 ghost use Rattle.bc_hand.specs.Seats.{core, by, IsCoreSeat, MayDo, Works, Did, world};
-ghost use Rattle.bc_journal.specs.Sealed.{AreBytesOf, sector_at};
+ghost use Rattle.bc_journal.specs.Sealed.{AreBytesOf};
 ghost use Rattle.bc_machine.specs.World.{FromEach, IsCache, are_plain, cache_among, changes};
-ghost use Rattle.bc_model.specs.Sector.{Value, values_of};
+ghost use Rattle.bc_model.specs.Sector.{values_of};
 ghost use Rattle.bc_parts.specs.Seat.{Holds};
 ghost use Rattle.bc_seats.specs.Seats.{Kept};
 
@@ -48,10 +47,9 @@ pub fn write_entry<C: Disk + Drop, B: Disk + Drop, R: Wait>(
     ensures works { Works C.facts B.facts parts.now seat.new hand.new }
     ensures hand { HasJournalAndCache hand.new }
     ensures rest { hand.new ≡ record hand.old { cache = hand.new.cache } }
-    ensures ok { OnOk result ((values : List Value) × AreValuesOf entry.now values × Did C.facts B.facts
-        (Some (Deed.CacheWrite (sector_at entry.now.geometry entry.now.place) Written.Entry values))
-        seat.old seat.new) }
-    ensures knows { OnOk result (FromEach (world C.facts B.facts seat.new) (IsWrittenEntry entry.now)) }
+    ensures ok { OnOk result (HasWritten C.facts B.facts entry.now seat.old seat.new) }
+    ensures knows { OnOk result (FromEach (world C.facts B.facts seat.new)
+        (IsWrittenEntry entry.now)) }
     ensures err { IfErr result (λ error. HasFailedToWrite C.facts B.facts error entry.now
         seat.old seat.new) }
 {
@@ -96,7 +94,7 @@ fn write_in<C: Disk, B: Disk, R: Wait>(
     requires cached { are_plain C.facts B.facts parts.now.run.start ≡ false }
     requires promise { 0 < seat.old.promises }
     requires holds { Holds seat.old.parts 3 × Holds seat.old.parts 4 }
-    requires cache { IsCache {C = C} {B = B} C.facts B.facts cache.old (world C.facts B.facts seat.old) }
+    requires cache { IsCache C.facts B.facts cache.old (world C.facts B.facts seat.old) }
     requires disk { entry.now.geometry.bucket * entry.now.geometry.nbuckets
         ≤ (cache_among C.facts B.facts parts.now.run.start).sectors }
     requires bytes { AreBytesOf entry.now.geometry entry.now.entry bytes.now }
@@ -104,10 +102,8 @@ fn write_in<C: Disk, B: Disk, R: Wait>(
     requires ready { FromEach (world C.facts B.facts seat.old) (IsReadyEntry entry.now) }
     ensures seat { IsCoreSeat C.facts B.facts seat.new }
     ensures kept { Kept (core C.facts B.facts) seat.old seat.new (λ k. k == 4) }
-    ensures cache { IsCache {C = C} {B = B} C.facts B.facts cache.new (world C.facts B.facts seat.new) }
-    ensures ok { OnOk result ((values : List Value) × AreValuesOf entry.now values × Did C.facts B.facts
-        (Some (Deed.CacheWrite (sector_at entry.now.geometry entry.now.place) Written.Entry values))
-        seat.old seat.new) }
+    ensures cache { IsCache C.facts B.facts cache.new (world C.facts B.facts seat.new) }
+    ensures ok { OnOk result (HasWritten C.facts B.facts entry.now seat.old seat.new) }
     ensures err { IfErr result (λ error. HasFailedToWrite C.facts B.facts error entry.now
         seat.old seat.new) }
 {

@@ -1,0 +1,193 @@
+-- An entry as steps one behind the other.
+use Rattle.std.proofs.Common.{◌≡◌, true, List, [], ◌∷◌, Some, None, refl, sym, ap, ◌∙◌, subst}
+use Rattle.std.specs.Prelude.{Result, Ok, Err, IfErr, OnErr, OnOk, is_some}
+use Rattle.bc_disk.specs.Disk.{DiskFacts}
+use Rattle.bc_disk.specs.declared.disk.Device.TheVariants.{Cache}
+use Rattle.bc_events.specs.declared.event.Deed.{Deed}
+use Rattle.bc_events.specs.declared.event.Deed.TheVariants as deed
+use Rattle.bc_events.specs.declared.event.Event.{Event}
+use Rattle.bc_events.specs.declared.event.Failure.TheVariants as failure
+use Rattle.bc_events.specs.declared.event.Written.TheVariants as written
+use Rattle.bc_hand.specs.Seats.{Did, Kinds, kinds}
+use Rattle.bc_hand.specs.declared.hand.Hand.{Hand}
+use Rattle.bc_hand.specs.declared.error.StepError.{StepError}
+use Rattle.bc_hand.specs.declared.error.StepError.TheVariants as error
+use Rattle.bc_hand.proofs.Knowing.{View}
+use Rattle.bc_deed.specs.Asked.{IsHalted}
+use Rattle.bc_deed.specs.Flushed.{HasDone}
+use Rattle.bc_deed.proofs.Sequence.{done_one, done_then}
+use Rattle.bc_journal.specs.Journal.{IsSealed, Journal}
+use Rattle.bc_journal.specs.Sealed.{Sealed, numbers_of, sector_at}
+use Rattle.bc_journal.specs.declared.heads.Heads.{Heads}
+use Rattle.bc_entry.specs.Entry.{HasJournalAndCache}
+use Rattle.bc_entry.specs.Failed.{HasFailedAtCache, HasFailedToWrite, HasWritten}
+use Rattle.bc_entry.specs.Put.{IsCause, IsCut, IsPut}
+use Rattle.bc_entry.specs.Seal.{HasSealed, begun_by}
+use Rattle.bc_entry.proofs.Ending.{with_durable}
+
+-- ---- what is in hand
+
+pub sealed_hand : {C B : Type 0} (h new : Hand C B) (k : Journal) → new ≡ record h { journal = Some k }
+    → HasJournalAndCache h → HasJournalAndCache new
+sealed_hand h new k is both = subst (λ (x : Hand _ _). HasJournalAndCache x) (sym is)
+    (record { journal = refl; cache = both.cache })
+
+pub has_cache : {C B : Type 0} (h new : Hand C B) → kinds new ≡ kinds h → is_some h.cache ≡ true
+    → is_some new.cache ≡ true
+has_cache h new same is = ap (λ (k : Kinds). k.cache) same ∙ is
+
+-- the same journal, whatever the device did
+still_journal : {C B : Type 0} (h new : Hand C B) → new ≡ record h { cache = new.cache }
+    → new.journal ≡ h.journal
+still_journal h new is = ap (λ (x : Hand _ _). x.journal) is
+
+pub kept_journal : {C B : Type 0} (h a b c d : Hand C B) (k : Journal)
+    → a ≡ record h { journal = Some k } → b ≡ record a { cache = b.cache }
+    → c ≡ record b { cache = c.cache } → d ≡ record c { cache = d.cache } → d.journal ≡ Some k
+kept_journal h a b c d k sealed first second third = still_journal c d third
+    ∙ still_journal b c second ∙ still_journal a b first ∙ ap (λ (x : Hand _ _). x.journal) sealed
+
+pub sealed_numbers_are : (j : Journal) (heads : Heads) (s : Sealed) (k : Journal)
+    → IsSealed j heads s k → k.sealed ≡ Some (numbers_of s.entry)
+sealed_numbers_are j heads s k is = ap (λ (x : Journal). x.sealed) is.journal
+
+pub ended_hand : {C B E : Type 0} (r : Result (Unit {0}) E) (h new : Hand C B) (s : Sealed)
+    (j : Journal) → h.journal ≡ Some j → is_some h.cache ≡ true
+    → OnOk r ((j : Journal) → h.journal ≡ Some j
+    → new ≡ record h { journal = Some (with_durable s j) }) → OnErr r (new ≡ h)
+    → HasJournalAndCache new
+ended_hand (Ok u) h new s j is cache good bad = sealed_hand h new (with_durable s j) (good j is)
+    (record { journal = ap is_some is; cache = cache })
+ended_hand (Err e) h new s j is cache good bad = subst (λ (x : Hand _ _). HasJournalAndCache x)
+    (sym bad) (record { journal = ap is_some is; cache = cache })
+
+module _ {C B : Type 0} (cache_facts : C → DiskFacts) (backing_facts : B → DiskFacts) where
+  abbrev Way : (List Deed → Type 0) → View cache_facts backing_facts
+      → View cache_facts backing_facts → Type 0
+  Way P v w = (deeds : List Deed) × P deeds × HasDone cache_facts backing_facts deeds v w
+
+  abbrev failed_barrier : Deed
+  failed_barrier = deed.DeviceFault (failure.Barrier Cache)
+
+  -- ---- why it came no further
+
+  pub cause_barrier : (e : StepError) (v w : View cache_facts backing_facts)
+      → HasFailedAtCache cache_facts backing_facts e failed_barrier v w → IsCause e w.seen
+  cause_barrier (error.Fault device) v w h = h.0
+  cause_barrier (error.Halted device) v w h = h.0
+  cause_barrier error.Memory v w h = absurd h
+
+  pub cause_write : (e : StepError) (s : Sealed) (v w : View cache_facts backing_facts)
+      → HasFailedToWrite cache_facts backing_facts e s v w → IsCause e w.seen
+  cause_write (error.Fault device) s v w h = h.0
+  cause_write (error.Halted device) s v w h = h.0
+  cause_write error.Memory s v w h = tt
+
+  cause_halt : (e : StepError) (es : List Event) → IsHalted e es → IsCause e es
+  cause_halt (error.Fault device) es h = absurd h
+  cause_halt (error.Halted device) es h = h
+  cause_halt error.Memory es h = absurd h
+
+  pub cause_end : (r : Result (Unit {0}) StepError) (es : List Event) → IfErr r (λ e. IsHalted e es)
+      → IfErr r (λ e. IsCause e es)
+  cause_end (Ok u) es h = tt
+  cause_end (Err e) es h = cause_halt e es h
+
+  -- ---- how far it came
+
+  pub cut_seal : (t u : View cache_facts backing_facts) → Did cache_facts backing_facts None t u
+      → Way IsCut t u
+  cut_seal t u h = ([], tt, done_one cache_facts backing_facts None t u h)
+
+  module _ (j : Journal) (s : Sealed) (t u : View cache_facts backing_facts)
+      (a : HasSealed cache_facts backing_facts j s t u) where
+    abbrev seal : Deed
+    seal = deed.Seal s.entry.last_seq (begun_by j) a.rest None None
+
+    one : HasDone cache_facts backing_facts (seal ∷ []) t u
+    one = done_one cache_facts backing_facts (Some seal) t u a.did
+
+    pub cut_barrier : (e : StepError) (v : View cache_facts backing_facts)
+        → HasFailedAtCache cache_facts backing_facts e failed_barrier u v → Way IsCut t v
+    cut_barrier (error.Fault device) v h = (
+      seal ∷ failed_barrier ∷ [],
+      tt,
+      done_then cache_facts backing_facts (seal ∷ []) (Some failed_barrier) t u v one h.1,
+    )
+    cut_barrier (error.Halted device) v h =
+        (seal ∷ [], tt, done_then cache_facts backing_facts (seal ∷ []) None t u v one h.1)
+    cut_barrier error.Memory v h = absurd h
+
+    module _ (v : View cache_facts backing_facts)
+        (b : Did cache_facts backing_facts (Some deed.CacheBarrier) u v) where
+      two : HasDone cache_facts backing_facts (seal ∷ deed.CacheBarrier ∷ []) t v
+      two = done_then cache_facts backing_facts (seal ∷ []) (Some deed.CacheBarrier) t u v one b
+
+      pub cut_write : (e : StepError) (w : View cache_facts backing_facts)
+          → HasFailedToWrite cache_facts backing_facts e s v w → Way IsCut t w
+      cut_write (error.Fault device) w h =
+          let fault = deed.DeviceFault
+          (failure.CacheWrite (sector_at s.geometry s.place) written.Entry h.1.0) in (
+            seal ∷ deed.CacheBarrier ∷ fault ∷ [],
+            tt,
+            done_then cache_facts backing_facts (seal ∷ deed.CacheBarrier ∷ []) (Some fault) t v w two
+                h.1.2,
+          )
+      cut_write (error.Halted device) w h = (
+        seal ∷ deed.CacheBarrier ∷ [],
+        tt,
+        done_then cache_facts backing_facts (seal ∷ deed.CacheBarrier ∷ []) None t v w two h.1,
+      )
+      cut_write error.Memory w h = (
+        seal ∷ deed.CacheBarrier ∷ [],
+        tt,
+        done_then cache_facts backing_facts (seal ∷ deed.CacheBarrier ∷ []) None t v w two h,
+      )
+
+      module _ (w : View cache_facts backing_facts)
+          (d : HasWritten cache_facts backing_facts s v w) where
+        abbrev write : Deed
+        write = deed.CacheWrite (sector_at s.geometry s.place) written.Entry d.0
+
+        three : HasDone cache_facts backing_facts (seal ∷ deed.CacheBarrier ∷ write ∷ []) t w
+        three = done_then cache_facts backing_facts (seal ∷ deed.CacheBarrier ∷ []) (Some write) t v w
+            two d.2
+
+        pub cut_again : (e : StepError) (x : View cache_facts backing_facts)
+            → HasFailedAtCache cache_facts backing_facts e failed_barrier w x → Way IsCut t x
+        cut_again (error.Fault device) x h = (
+          seal ∷ deed.CacheBarrier ∷ write ∷ failed_barrier ∷ [],
+          tt,
+          done_then cache_facts backing_facts (seal ∷ deed.CacheBarrier ∷ write ∷ [])
+              (Some failed_barrier) t w x three h.1,
+        )
+        cut_again (error.Halted device) x h = (
+          seal ∷ deed.CacheBarrier ∷ write ∷ [],
+          tt,
+          done_then cache_facts backing_facts (seal ∷ deed.CacheBarrier ∷ write ∷ []) None t w x three
+              h.1,
+        )
+        cut_again error.Memory x h = absurd h
+
+        module _ (x : View cache_facts backing_facts)
+            (f : Did cache_facts backing_facts (Some deed.CacheBarrier) w x)
+            (y : View cache_facts backing_facts) where
+          abbrev most : List Deed
+          most = seal ∷ deed.CacheBarrier ∷ write ∷ deed.CacheBarrier ∷ []
+
+          four : HasDone cache_facts backing_facts most t x
+          four = done_then cache_facts backing_facts (seal ∷ deed.CacheBarrier ∷ write ∷ [])
+              (Some deed.CacheBarrier) t w x three f
+
+          pub all_done : Did cache_facts backing_facts (Some deed.Sealed) x y → Way IsPut t y
+          all_done g = (
+            seal ∷ deed.CacheBarrier ∷ write ∷ deed.CacheBarrier ∷ deed.Sealed ∷ [],
+            tt,
+            done_then cache_facts backing_facts most (Some deed.Sealed) t x y four g,
+          )
+
+          pub cut_end : (r : Result (Unit {0}) StepError)
+              → OnErr r (Did cache_facts backing_facts None x y) → IfErr r (λ e. Way IsCut t y)
+          cut_end (Ok z) h = tt
+          cut_end (Err e) h =
+              (most, tt, done_then cache_facts backing_facts most None t x y four h)

@@ -1,0 +1,74 @@
+//! An entry of the journal, as the steps that it takes.
+ghost use Rattle.std.specs.Prelude.{◌≡◌, ◌*◌, ◌≤◌, List, false, Some, OnOk, IfErr};
+ghost use Rattle.bc_deed.specs.Flushed.{HasDone};
+ghost use Rattle.bc_entry.specs.Entry.{HasJournalAndCache};
+ghost use Rattle.bc_entry.specs.Put.{IsCause, IsCut, IsPut};
+ghost use Rattle.bc_entry.specs.Seal.{AreNamed, CanSeal, NeedsNone};
+ghost use Rattle.bc_events.specs.declared.event.Deed.{Deed};
+ghost use Rattle.bc_hand.specs.Seats.{Works, world};
+ghost use Rattle.bc_journal.specs.Journal.{Journal};
+ghost use Rattle.bc_jset.specs.EntryBytes.{IsLevel};
+ghost use Rattle.bc_machine.specs.World.{FromEach, are_plain, cache_among};
+
+use crate::barrier::cache_barrier;
+use crate::durable::make_durable;
+use crate::seal::seal;
+use crate::write::write_entry;
+use bc_disk::disk::Disk;
+use bc_hand::error::StepError;
+use bc_hand::hand::Hand;
+use bc_journal::Heads;
+use bc_machine::machine::{CoreParts, CoreSeat};
+use std::alloc::Global;
+use std::sync::Wait;
+
+/// Puts the keys that wait into the journal as its newest durable entry, which names what the one
+/// before does. The journal and the cache device are in hand, and stay so.
+///
+/// An error is a call of the device that failed, a device that had halted the run before, or want of
+/// memory; how far the entry came then is told by the seat's own deeds. Behind the first of them no
+/// further entry is sealed.
+pub fn put_entry<C: Disk + Drop, B: Disk + Drop, R: Wait>(
+    rt: &R,
+    alloc: Global,
+    parts: &CoreParts<C, B>,
+    seat: &mut CoreSeat<C, B>,
+    hand: &mut Hand<C, B>,
+    heads: &Heads,
+) -> Result<(), StepError>
+    requires works { Works C.facts B.facts parts.now seat.old hand.old }
+    requires cached { are_plain C.facts B.facts parts.now.run.start ≡ false }
+    requires promise { 5 ≤ seat.old.promises }
+    requires hand { HasJournalAndCache hand.old }
+    requires level { IsLevel heads.now.level }
+    requires journal { (j : Journal) × (hand.old.journal ≡ Some j) × CanSeal j
+        × (j.ring.geometry.bucket * j.ring.geometry.nbuckets
+        ≤ (cache_among C.facts B.facts parts.now.run.start).sectors)
+        × FromEach (world C.facts B.facts seat.old) (AreNamed j.ring.geometry heads.now)
+        × FromEach (world C.facts B.facts seat.old) (NeedsNone j.needed) }
+    ensures works { Works C.facts B.facts parts.now seat.new hand.new }
+    ensures hand { HasJournalAndCache hand.new }
+    ensures ok { OnOk result ((deeds : List Deed) × IsPut deeds
+        × HasDone C.facts B.facts deeds seat.old seat.new) }
+    ensures err { IfErr result (λ error. (deeds : List Deed) × IsCut deeds
+        × HasDone C.facts B.facts deeds seat.old seat.new) }
+    ensures cause { IfErr result (λ error. IsCause error seat.new.seen) }
+{
+    let entry = match seal(rt, alloc, parts, seat, hand, heads) {
+        Ok(entry) => entry,
+        Err(error) => return Err(error),
+    };
+    match cache_barrier(rt, parts, seat, hand) {
+        Ok(()) => {}
+        Err(error) => return Err(error),
+    }
+    match write_entry(rt, alloc, parts, seat, hand, &entry) {
+        Ok(()) => {}
+        Err(error) => return Err(error),
+    }
+    match cache_barrier(rt, parts, seat, hand) {
+        Ok(()) => {}
+        Err(error) => return Err(error),
+    }
+    make_durable(rt, parts, seat, hand, entry)
+}
