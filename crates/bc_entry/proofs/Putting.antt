@@ -1,8 +1,13 @@
 -- An entry as steps one behind the other.
-use Rattle.std.proofs.Common.{◌≡◌, true, List, [], ◌∷◌, Some, None, refl, sym, ap, ◌∙◌, subst}
+use Rattle.std.proofs.Common.{◌≡◌, true, List, [], ◌∷◌, Option, Some, None, refl, sym, ap, ◌∙◌, subst}
 use Rattle.std.specs.Prelude.{Result, Ok, Err, IfErr, OnErr, OnOk, is_some}
 use Rattle.bc_disk.specs.Disk.{DiskFacts}
 use Rattle.bc_disk.specs.declared.disk.Device.TheVariants.{Cache}
+use Rattle.bc_disk.specs.declared.geometry.Geometry.{Geometry}
+use Rattle.bc_facts.specs.Seen.{seen_entry}
+use Rattle.bc_jset.specs.declared.entry.JEntry.{JEntry}
+use Rattle.bc_machine.specs.World.{FromEach, World}
+use Rattle.bc_meta.specs.Entries.{Entry}
 use Rattle.bc_events.specs.declared.event.Deed.{Deed}
 use Rattle.bc_events.specs.declared.event.Deed.TheVariants as deed
 use Rattle.bc_events.specs.declared.event.Event.{Event}
@@ -19,10 +24,10 @@ use Rattle.bc_deed.proofs.Sequence.{done_one, done_then}
 use Rattle.bc_journal.specs.Journal.{IsSealed, Journal}
 use Rattle.bc_journal.specs.Sealed.{Sealed, numbers_of, sector_at}
 use Rattle.bc_journal.specs.declared.heads.Heads.{Heads}
-use Rattle.bc_entry.specs.Entry.{HasJournalAndCache}
+use Rattle.bc_entry.specs.Entry.{HasJournalAndCache, IsNewestEntry}
 use Rattle.bc_entry.specs.Failed.{HasFailedAtCache, HasFailedToWrite, HasWritten}
-use Rattle.bc_entry.specs.Put.{IsCause, IsCut, IsPut}
-use Rattle.bc_entry.specs.Seal.{HasSealed, begun_by}
+use Rattle.bc_entry.specs.Put.{GoesOn, IsCause, IsCut, IsPut}
+use Rattle.bc_entry.specs.Seal.{AreNamed, HasSealed, IsNamed, begun_by}
 use Rattle.bc_entry.proofs.Ending.{with_durable}
 
 -- ---- what is in hand
@@ -60,6 +65,44 @@ ended_hand (Ok u) h new s j is cache good bad = sealed_hand h new (with_durable 
     (record { journal = ap is_some is; cache = cache })
 ended_hand (Err e) h new s j is cache good bad = subst (λ (x : Hand _ _). HasJournalAndCache x)
     (sym bad) (record { journal = ap is_some is; cache = cache })
+
+-- ---- the journal behind it
+
+pub goes_on : (j : Journal) (heads : Heads) (s : Sealed) (k : Journal) → IsSealed j heads s k
+    → GoesOn j heads (with_durable s k)
+goes_on j heads s k is = record {
+  durable = ap numbers_of is.entry;
+  sealed = refl;
+  waiting = ap (λ (x : Journal). x.waiting) is.journal;
+  needed = ap (λ (x : Journal). x.needed) is.journal;
+  geometry = ap (λ (x : Journal). x.ring.geometry) is.journal;
+}
+
+named_again : (j : Journal) (heads : Heads) (s : Sealed) (k : Journal) → IsSealed j heads s k
+    → (e : Entry) → e ≡ seen_entry s.geometry s.entry → IsNamed k.ring.geometry heads e
+named_again j heads s k is e e_is = subst (IsNamed k.ring.geometry heads) (sym e_is)
+    (subst (λ (g : Geometry). IsNamed k.ring.geometry heads (seen_entry g s.entry))
+    (ap (λ (x : Journal). x.ring.geometry) is.journal ∙ sym is.geometry)
+    (subst (λ (x : JEntry). IsNamed k.ring.geometry heads (seen_entry k.ring.geometry x))
+    (sym is.entry) (record { root = refl; word = refl; level = refl; prio = refl })))
+
+pub journal_put : {C B E : Type 0} (r : Result (Unit {0}) E) (h new : Hand C B) (w : World)
+    (first : Option Journal) (j : Journal) (heads : Heads) (s : Sealed) (k : Journal)
+    → first ≡ Some j → IsSealed j heads s k → h.journal ≡ Some k
+    → OnOk r ((j : Journal) → h.journal ≡ Some j
+    → new ≡ record h { journal = Some (with_durable s j) })
+    → OnOk r (FromEach w (IsNewestEntry s.geometry s.entry))
+    → OnOk r ((j k : Journal) × (first ≡ Some j) × (new.journal ≡ Some k) × GoesOn j heads k
+    × FromEach w (AreNamed k.ring.geometry heads))
+journal_put (Ok u) h new w first j heads s k at is in_hand good knows = (
+  j,
+  with_durable s k,
+  at,
+  ap (λ (x : Hand _ _). x.journal) (good k in_hand),
+  goes_on j heads s k is,
+  λ o origin course. named_again j heads s k is _ (knows o origin course),
+)
+journal_put (Err e) h new w first j heads s k at is in_hand good knows = tt
 
 module _ {C B : Type 0} (cache_facts : C → DiskFacts) (backing_facts : B → DiskFacts) where
   abbrev Way : (List Deed → Type 0) → View cache_facts backing_facts

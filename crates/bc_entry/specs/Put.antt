@@ -1,5 +1,8 @@
 -- What a seat has done that puts an entry into the journal.
 use Rattle.std.specs.Prelude.{◌≡◌, List, [], ◌∷◌, None, Some}
+use Rattle.bc_journal.specs.Journal.{Journal, entry_now}
+use Rattle.bc_journal.specs.Sealed.{numbers_of}
+use Rattle.bc_journal.specs.declared.heads.Heads.{Heads}
 use Rattle.bc_disk.specs.declared.disk.Device.TheVariants.{Cache}
 use Rattle.bc_events.specs.Columns.{halt_of}
 use Rattle.bc_events.specs.declared.event.Deed.{Deed}
@@ -45,3 +48,11 @@ abbrev pub IsCause : StepError → List Event → Type 0
 IsCause (error.Fault device) es = device ≡ Cache
 IsCause (error.Halted device) es = halt_of es ≡ Some device
 IsCause error.Memory es = Unit {0}
+
+-- the journal behind it: the keys that waited are durable, and it goes on behind the entry
+pub record GoesOn (j : Journal) (heads : Heads) (k : Journal) : Type 0 where
+  pub durable : k.durable ≡ numbers_of (entry_now j heads)
+  pub sealed : k.sealed ≡ None
+  pub waiting : k.waiting ≡ []
+  pub needed : k.needed ≡ j.needed
+  pub geometry : k.ring.geometry ≡ j.ring.geometry

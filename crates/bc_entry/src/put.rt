@@ -2,7 +2,7 @@
 ghost use Rattle.std.specs.Prelude.{◌≡◌, ◌*◌, ◌≤◌, List, false, Some, OnOk, IfErr};
 ghost use Rattle.bc_deed.specs.Flushed.{HasDone};
 ghost use Rattle.bc_entry.specs.Entry.{HasJournalAndCache};
-ghost use Rattle.bc_entry.specs.Put.{IsCause, IsCut, IsPut};
+ghost use Rattle.bc_entry.specs.Put.{GoesOn, IsCause, IsCut, IsPut};
 ghost use Rattle.bc_entry.specs.Seal.{AreNamed, CanSeal, NeedsNone};
 ghost use Rattle.bc_events.specs.declared.event.Deed.{Deed};
 ghost use Rattle.bc_hand.specs.Seats.{Works, world};
@@ -23,7 +23,8 @@ use std::alloc::Global;
 use std::sync::Wait;
 
 /// Puts the keys that wait into the journal as its newest durable entry, which names what the one
-/// before does. The journal and the cache device are in hand, and stay so.
+/// before does. The journal and the cache device are in hand, and stay so; what the next entry asks
+/// of names is known again.
 ///
 /// An error is a call of the device that failed, a device that had halted the run before, or want of
 /// memory; how far the entry came then is told by the seat's own deeds. Behind the first of them no
@@ -48,6 +49,9 @@ pub fn put_entry<C: Disk + Drop, B: Disk + Drop, R: Wait>(
         × FromEach (world C.facts B.facts seat.old) (NeedsNone j.needed) }
     ensures works { Works C.facts B.facts parts.now seat.new hand.new }
     ensures hand { HasJournalAndCache hand.new }
+    ensures journal { OnOk result ((j k : Journal) × (hand.old.journal ≡ Some j)
+        × (hand.new.journal ≡ Some k) × GoesOn j heads.now k
+        × FromEach (world C.facts B.facts seat.new) (AreNamed k.ring.geometry heads.now)) }
     ensures ok { OnOk result ((deeds : List Deed) × IsPut deeds
         × HasDone C.facts B.facts deeds seat.old seat.new) }
     ensures err { IfErr result (λ error. (deeds : List Deed) × IsCut deeds

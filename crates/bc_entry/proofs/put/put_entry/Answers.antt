@@ -1,5 +1,6 @@
+use Rattle.bc_hand.specs.Seats.{world}
 use Rattle.bc_hand.proofs.Knowing.{map_ok}
-use Rattle.bc_entry.proofs.Putting.{all_done, cause_barrier, cause_end, cause_write, cut_again, cut_barrier, cut_end, cut_seal, cut_write, ended_hand, has_cache, sealed_hand, kept_journal, sealed_numbers_are}
+use Rattle.bc_entry.proofs.Putting.{all_done, cause_barrier, cause_end, cause_write, cut_again, cut_barrier, cut_end, cut_seal, cut_write, ended_hand, has_cache, journal_put, sealed_hand, kept_journal, sealed_numbers_are}
 use Rattle.bc_entry.proofs.put.put_entry.Goals as goal
 
 pub returns-in-Err-clause-err : goal.returns-in-Err-clause-err
@@ -81,3 +82,12 @@ returns-clause-err g c = let ok = c.in-Ok.ensures.ok in
 pub returns-clause-cause : goal.returns-clause-cause
 returns-clause-cause g c = cause_end g.C.Disk.facts g.B.Disk.facts c.make_durable.result
     c.make_durable.new.seat.seen c.make_durable.ensures.halted
+
+pub returns-clause-journal : goal.returns-clause-journal
+returns-clause-journal g c = let ok = c.in-Ok.ensures.ok in
+    journal_put c.make_durable.result c.cache_barrier-2.new.hand c.make_durable.new.hand
+    (world g.C.Disk.facts g.B.Disk.facts c.make_durable.new.seat) c.args.hand.now.journal ok.0
+    c.args.heads.now c.in-Ok.entry ok.1 ok.2 ok.4
+    (kept_journal c.args.hand.now c.seal.new.hand c.cache_barrier.new.hand c.write_entry.new.hand
+    c.cache_barrier-2.new.hand ok.1 ok.3 c.cache_barrier.ensures.rest c.write_entry.ensures.rest
+    c.cache_barrier-2.ensures.rest) c.make_durable.ensures.journal c.make_durable.ensures.knows
