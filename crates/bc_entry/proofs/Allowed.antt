@@ -144,7 +144,8 @@ module _ (o : Origin) (sound : IsSound o.opening.machine o.parts) (es : List Eve
           absurd (omega (arith, a, b))
 
   -- a sector of its place lies in that bucket
-  sector_is : (t : ℕ) (v : Value) → at_run (place_of w.layout st OfEntry) (values_of bytes) t ≡ Some v
+  sector_is : (t : ℕ) (v : Value) → at_run (place_of w.layout st OfEntry) (values_of bytes) t ≡
+      Some v
       → w.flow.books.fixed (w.flow.books.bucket t) ≡ true
   sector_is t v is =
       let range = at_range (place_of w.layout st OfEntry) (values_of bytes) t v is in
@@ -239,102 +240,105 @@ module _ {C B : Type 0} (cache_facts : C → DiskFacts) (backing_facts : B → D
         go x y o seen since = subst (λ (z : World). (data_of z).halted ≡ false
             → CanFollow z (by v.first deed.Sealed)) (sym seen.is) (λ running. record {
               enabled = ended o x.log seen.origin.sound seen.origin.cached seen.course
-                  (known_since cache_facts backing_facts v x (IsSafeEntry s) journal (safe_kept s) since
+                  (known_since cache_facts backing_facts v x (IsSafeEntry s) journal (safe_kept s)
+                  since
                   knows o seen.origin seen.course) running;
               names = tt;
             })
 
     -- ---- the write
 
-    module _ (within : IsWithin s) (bytes : List ℕ) (are : AreBytesOf s.geometry s.entry bytes) where
-      abbrev write : Deed
-      write = deed.CacheWrite (sector_at s.geometry s.place) written.Entry (values_of bytes)
+    module _ (within : IsWithin s) (bytes : List ℕ) (are : AreBytesOf s.geometry s.entry bytes)
+      where
+        abbrev write : Deed
+        write = deed.CacheWrite (sector_at s.geometry s.place) written.Entry (values_of bytes)
 
-      abbrev fault : Deed
-      fault = deed.DeviceFault
-          (failure.CacheWrite (sector_at s.geometry s.place) written.Entry (values_of bytes))
+        abbrev fault : Deed
+        fault = deed.DeviceFault
+            (failure.CacheWrite (sector_at s.geometry s.place) written.Entry (values_of bytes))
 
-      write_enabled : (o : Origin) (es : List Event) → IsSound o.opening.machine o.parts
-          → o.opening.machine.flow.plain ≡ false → IsCourseOf o es
-          → IsReadyEntry s o (replay o es)
-          → (replay o es).machine.whole.flow.late v.first ≡ false
-          → core.IsEnabled o.opening (replay o es) (by v.first write)
-      write_enabled o es sound not_plain on h late = record {
-        seat = lt-ltb v.first 320 (low cache_facts backing_facts v seat);
-        course = (writes o sound es on s within bytes are h v.first late, tt);
-        fit = at_is o sound es on s within bytes are h;
-        its_line = tt;
-        plain = λ plain. absurd (never o.opening.machine.flow.plain plain not_plain);
-      }
+        write_enabled : (o : Origin) (es : List Event) → IsSound o.opening.machine o.parts
+            → o.opening.machine.flow.plain ≡ false → IsCourseOf o es
+            → IsReadyEntry s o (replay o es)
+            → (replay o es).machine.whole.flow.late v.first ≡ false
+            → core.IsEnabled o.opening (replay o es) (by v.first write)
+        write_enabled o es sound not_plain on h late = record {
+          seat = lt-ltb v.first 320 (low cache_facts backing_facts v seat);
+          course = (writes o sound es on s within bytes are h v.first late, tt);
+          fit = at_is o sound es on s within bytes are h;
+          its_line = tt;
+          plain = λ plain. absurd (never o.opening.machine.flow.plain plain not_plain);
+        }
 
-      fault_enabled : (o : Origin) (es : List Event) → IsSound o.opening.machine o.parts
-          → o.opening.machine.flow.plain ≡ false → IsCourseOf o es
-          → IsReadyEntry s o (replay o es)
-          → (replay o es).machine.whole.flow.late v.first ≡ false
-          → core.IsEnabled o.opening (replay o es) (by v.first fault)
-      fault_enabled o es sound not_plain on h late = record {
-        seat = lt-ltb v.first 320 (low cache_facts backing_facts v seat);
-        course = (fails o sound es on s within bytes are h v.first late, tt);
-        fit = at_is o sound es on s within bytes are h;
-        its_line = tt;
-        plain = λ plain. absurd (never o.opening.machine.flow.plain plain not_plain);
-      }
+        fault_enabled : (o : Origin) (es : List Event) → IsSound o.opening.machine o.parts
+            → o.opening.machine.flow.plain ≡ false → IsCourseOf o es
+            → IsReadyEntry s o (replay o es)
+            → (replay o es).machine.whole.flow.late v.first ≡ false
+            → core.IsEnabled o.opening (replay o es) (by v.first fault)
+        fault_enabled o es sound not_plain on h late = record {
+          seat = lt-ltb v.first 320 (low cache_facts backing_facts v seat);
+          course = (fails o sound es on s within bytes are h v.first late, tt);
+          fit = at_is o sound es on s within bytes are h;
+          its_line = tt;
+          plain = λ plain. absurd (never o.opening.machine.flow.plain plain not_plain);
+        }
 
-      module _ (journal : Holds v.parts 3) (cache : Holds v.parts 4)
-          (knows : FromEach (world cache_facts backing_facts v) (IsReadyEntry s))
-          (untold : v.heard ≡ None) where
-        knows_at : (x : World) → Since (m cache_facts backing_facts) v x
-            → FromEach x (IsReadyEntry s)
-        knows_at x since = known_uncalled cache_facts backing_facts v x (IsReadyEntry s) journal
-            cache (ready_kept s) since knows
+        module _ (journal : Holds v.parts 3) (cache : Holds v.parts 4)
+            (knows : FromEach (world cache_facts backing_facts v) (IsReadyEntry s))
+            (untold : v.heard ≡ None) where
+          knows_at : (x : World) → Since (m cache_facts backing_facts) v x
+              → FromEach x (IsReadyEntry s)
+          knows_at x since = known_uncalled cache_facts backing_facts v x (IsReadyEntry s) journal
+              cache (ready_kept s) since knows
 
-        may_write : MayDo cache_facts backing_facts v write
-        may_write x y at told =
-            let seen = at.from (is_plain_at cache_facts backing_facts v x at.since ∙ cached) in
-            go x y seen.0 seen.1 at.since (at.late untold)
-          where
-            go : (x y : World) (o : Origin) → IsSeenFrom o x y
-                → Since (m cache_facts backing_facts) v x → (data_of y).late v.first ≡ false
-                → CanFollow y (by v.first write)
-            go x y o seen since = subst (λ (z : World). (data_of z).late v.first ≡ false
-                → CanFollow z (by v.first write)) (sym seen.is) (λ late. record {
-                  enabled = write_enabled o x.log seen.origin.sound seen.origin.cached seen.course
-                      (knows_at x since o seen.origin seen.course) late;
-                  names = tt;
-                })
+          may_write : MayDo cache_facts backing_facts v write
+          may_write x y at told =
+              let seen = at.from (is_plain_at cache_facts backing_facts v x at.since ∙ cached) in
+              go x y seen.0 seen.1 at.since (at.late untold)
+            where
+              go : (x y : World) (o : Origin) → IsSeenFrom o x y
+                  → Since (m cache_facts backing_facts) v x → (data_of y).late v.first ≡ false
+                  → CanFollow y (by v.first write)
+              go x y o seen since = subst (λ (z : World). (data_of z).late v.first ≡ false
+                  → CanFollow z (by v.first write)) (sym seen.is) (λ late. record {
+                    enabled = write_enabled o x.log seen.origin.sound seen.origin.cached seen.course
+                        (knows_at x since o seen.origin seen.course) late;
+                    names = tt;
+                  })
 
-        may_fail_write : MayDo cache_facts backing_facts v fault
-        may_fail_write x y at told =
-            let seen = at.from (is_plain_at cache_facts backing_facts v x at.since ∙ cached) in
-            go x y seen.0 seen.1 at.since (at.late untold)
-          where
-            go : (x y : World) (o : Origin) → IsSeenFrom o x y
-                → Since (m cache_facts backing_facts) v x → (data_of y).late v.first ≡ false
-                → CanFollow y (by v.first fault)
-            go x y o seen since = subst (λ (z : World). (data_of z).late v.first ≡ false
-                → CanFollow z (by v.first fault)) (sym seen.is) (λ late. record {
-                  enabled = fault_enabled o x.log seen.origin.sound seen.origin.cached seen.course
-                      (knows_at x since o seen.origin seen.course) late;
-                  names = tt;
-                })
+          may_fail_write : MayDo cache_facts backing_facts v fault
+          may_fail_write x y at told =
+              let seen = at.from (is_plain_at cache_facts backing_facts v x at.since ∙ cached) in
+              go x y seen.0 seen.1 at.since (at.late untold)
+            where
+              go : (x y : World) (o : Origin) → IsSeenFrom o x y
+                  → Since (m cache_facts backing_facts) v x → (data_of y).late v.first ≡ false
+                  → CanFollow y (by v.first fault)
+              go x y o seen since = subst (λ (z : World). (data_of z).late v.first ≡ false
+                  → CanFollow z (by v.first fault)) (sym seen.is) (λ late. record {
+                    enabled = fault_enabled o x.log seen.origin.sound seen.origin.cached seen.course
+                        (knows_at x since o seen.origin seen.course) late;
+                    names = tt;
+                  })
 
-        -- by whatever place and values these are
-        pub may_write_at : (at : ℕ) (values : List Value) → at ≡ sector_at s.geometry s.place
-            → values ≡ values_of bytes
-            → MayDo cache_facts backing_facts v (deed.CacheWrite at written.Entry values)
-        may_write_at at values here are_values = subst
-            (λ n. MayDo cache_facts backing_facts v (deed.CacheWrite n written.Entry values))
-            (sym here)
-            (subst (λ (vs : List Value). MayDo cache_facts backing_facts v
-            (deed.CacheWrite (sector_at s.geometry s.place) written.Entry vs)) (sym are_values)
-            may_write)
+          -- by whatever place and values these are
+          pub may_write_at : (at : ℕ) (values : List Value) → at ≡ sector_at s.geometry s.place
+              → values ≡ values_of bytes
+              → MayDo cache_facts backing_facts v (deed.CacheWrite at written.Entry values)
+          may_write_at at values here are_values = subst
+              (λ n. MayDo cache_facts backing_facts v (deed.CacheWrite n written.Entry values))
+              (sym here)
+              (subst (λ (vs : List Value). MayDo cache_facts backing_facts v
+              (deed.CacheWrite (sector_at s.geometry s.place) written.Entry vs)) (sym are_values)
+              may_write)
 
-        pub may_fail_write_at : (at : ℕ) (values : List Value) → at ≡ sector_at s.geometry s.place
-            → values ≡ values_of bytes → MayDo cache_facts backing_facts v
-            (deed.DeviceFault (failure.CacheWrite at written.Entry values))
-        may_fail_write_at at values here are_values = subst
-            (λ n. MayDo cache_facts backing_facts v
-            (deed.DeviceFault (failure.CacheWrite n written.Entry values))) (sym here)
-            (subst (λ (vs : List Value). MayDo cache_facts backing_facts v
-            (deed.DeviceFault (failure.CacheWrite (sector_at s.geometry s.place) written.Entry vs)))
-            (sym are_values) may_fail_write)
+          pub may_fail_write_at : (at : ℕ) (values : List Value) → at ≡ sector_at s.geometry s.place
+              → values ≡ values_of bytes → MayDo cache_facts backing_facts v
+              (deed.DeviceFault (failure.CacheWrite at written.Entry values))
+          may_fail_write_at at values here are_values = subst
+              (λ n. MayDo cache_facts backing_facts v
+              (deed.DeviceFault (failure.CacheWrite n written.Entry values))) (sym here)
+              (subst (λ (vs : List Value). MayDo cache_facts backing_facts v
+              (deed.DeviceFault
+              (failure.CacheWrite (sector_at s.geometry s.place) written.Entry vs)))
+              (sym are_values) may_fail_write)

@@ -60,7 +60,8 @@ ends_in : (o : Origin) (es : List Event) (i : ℕ) (s : Sealed) (j : Journal)
     → IsSound o.opening.machine o.parts → IsCourseOf o es → IsSafeEntry s o (replay o es)
     → IsJournalOf o.opening.machine (journal_share (replay o es).machine) j
     → IsJournalOf o.opening.machine
-    (journal_share (core.after o.opening (replay o es) (by i deed.Sealed)).machine) (with_durable s j)
+    (journal_share (core.after o.opening (replay o es) (by i deed.Sealed)).machine) (with_durable s
+    j)
 ends_in o es i s j sound on h is =
     let st = (replay o es).machine in
     let w = o.opening.machine in
@@ -132,5 +133,6 @@ module _ {C B : Type 0} (cache_facts : C → DiskFacts) (backing_facts : B → D
       let there = with_journal_in p v h j is works in
       works_anew p v w h j (with_durable s j) is works did.seat kept
       (journal_ended v w
-      (subst (λ ks. Holds ks 3) (sym works.parts) (holds_journal h (some_is h.journal j is))) s knows did
+      (subst (λ ks. Holds ks 3) (sym works.parts) (holds_journal h (some_is h.journal j is))) s
+      knows did
       j works.seat there.stand.journal)

@@ -32,8 +32,8 @@ use Rattle.bc_entry.proofs.Ending.{with_durable}
 
 -- ---- what is in hand
 
-pub sealed_hand : {C B : Type 0} (h new : Hand C B) (k : Journal) → new ≡ record h { journal = Some k }
-    → HasJournalAndCache h → HasJournalAndCache new
+pub sealed_hand : {C B : Type 0} (h new : Hand C B) (k : Journal)
+    → new ≡ record h { journal = Some k } → HasJournalAndCache h → HasJournalAndCache new
 sealed_hand h new k is both = subst (λ (x : Hand _ _). HasJournalAndCache x) (sym is)
     (record { journal = refl; cache = both.cache })
 
@@ -173,7 +173,8 @@ module _ {C B : Type 0} (cache_facts : C → DiskFacts) (backing_facts : B → D
           (failure.CacheWrite (sector_at s.geometry s.place) written.Entry h.1.0) in (
             seal ∷ deed.CacheBarrier ∷ fault ∷ [],
             tt,
-            done_then cache_facts backing_facts (seal ∷ deed.CacheBarrier ∷ []) (Some fault) t v w two
+            done_then cache_facts backing_facts (seal ∷ deed.CacheBarrier ∷ []) (Some fault) t v w
+                two
                 h.1.2,
           )
       cut_write (error.Halted device) w h = (
@@ -193,7 +194,8 @@ module _ {C B : Type 0} (cache_facts : C → DiskFacts) (backing_facts : B → D
         write = deed.CacheWrite (sector_at s.geometry s.place) written.Entry d.0
 
         three : HasDone cache_facts backing_facts (seal ∷ deed.CacheBarrier ∷ write ∷ []) t w
-        three = done_then cache_facts backing_facts (seal ∷ deed.CacheBarrier ∷ []) (Some write) t v w
+        three = done_then cache_facts backing_facts (seal ∷ deed.CacheBarrier ∷ []) (Some write) t
+            v w
             two d.2
 
         pub cut_again : (e : StepError) (x : View cache_facts backing_facts)
@@ -207,7 +209,8 @@ module _ {C B : Type 0} (cache_facts : C → DiskFacts) (backing_facts : B → D
         cut_again (error.Halted device) x h = (
           seal ∷ deed.CacheBarrier ∷ write ∷ [],
           tt,
-          done_then cache_facts backing_facts (seal ∷ deed.CacheBarrier ∷ write ∷ []) None t w x three
+          done_then cache_facts backing_facts (seal ∷ deed.CacheBarrier ∷ write ∷ []) None t w x
+              three
               h.1,
         )
         cut_again error.Memory x h = absurd h

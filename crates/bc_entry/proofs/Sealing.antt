@@ -235,31 +235,35 @@ module _ (o : Origin) (sound : IsSound o.opening.machine o.parts) (es : List Eve
           let same = ap (λ y. y.seq) is.entry in omega (arith, below, same);
     }
 
-    sealed_as : (i : ℕ) (before : State) → Seals (entry_of before.whole j.needed rest SameRoot SameChain)
+    sealed_as : (i : ℕ) (before : State) → Seals (entry_of before.whole j.needed rest SameRoot
+        SameChain)
         (journal_share before)
         (journal_share (after w before i (Seal j.needed rest SameRoot SameChain)))
     sealed_as i before = law_acts.seals w before i j.needed rest SameRoot SameChain
 
     -- of a share in which the ring has it at its place
-    module _ (y : JournalShare) (sealed : y.entries.sealed ≡ Some e) (waiting : y.entries.waiting ≡ [])
+    module _ (y : JournalShare) (sealed : y.entries.sealed ≡ Some e) (waiting : y.entries.waiting ≡
+        [])
         (newest : y.entries.newest ≡ r.newest)
-        (ring : IsRingOf w y (with_entry j.ring s.place (entry_sectors g s.entry) s.entry.seq)) where
-      journal_is : IsJournalOf w y new
-      journal_is = subst (IsJournalOf w y) (sym is.journal) (record {
-        waiting = ap (λ (ks : List Key). reverse ks) (sym waiting);
-        durable = h.durable ∙ ap numbers_in (sym newest);
-        sealed = ap sealed_numbers (sym sealed);
-        ring = ring;
-      })
+        (ring : IsRingOf w y (with_entry j.ring s.place (entry_sectors g s.entry) s.entry.seq))
+      where
+        journal_is : IsJournalOf w y new
+        journal_is = subst (IsJournalOf w y) (sym is.journal) (record {
+          waiting = ap (λ (ks : List Key). reverse ks) (sym waiting);
+          durable = h.durable ∙ ap numbers_in (sym newest);
+          sealed = ap sealed_numbers (sym sealed);
+          ring = ring;
+        })
 
-      sealed_is_as : IsSealedAs s w y
-      sealed_is_as = record {
-        layout = subst (λ (k : Geometry). IsLayoutOf k w.layout) (sym is.geometry) h.ring.layout;
-        entry = sealed ∙ ap (λ (k : Geometry). Some (seen_entry k s.entry)) (sym is.geometry);
-        bucket = sym ring.bucket;
-        next = law_places.place w y j.ring s.place e (entry_sectors g s.entry) ring sealed sectors_are
-            ∙ ap (λ (k : Geometry). sector_at k s.place) (sym is.geometry);
-      }
+        sealed_is_as : IsSealedAs s w y
+        sealed_is_as = record {
+          layout = subst (λ (k : Geometry). IsLayoutOf k w.layout) (sym is.geometry) h.ring.layout;
+          entry = sealed ∙ ap (λ (k : Geometry). Some (seen_entry k s.entry)) (sym is.geometry);
+          bucket = sym ring.bucket;
+          next = law_places.place w y j.ring s.place e (entry_sectors g s.entry) ring sealed
+              sectors_are
+              ∙ ap (λ (k : Geometry). sector_at k s.place) (sym is.geometry);
+        }
 
     -- behind the last entry, and in front of a bucket
     abbrev Leaves : State → Type 0
@@ -329,19 +333,22 @@ module _ (o : Origin) (sound : IsSound o.opening.machine o.parts)
       })
 
   module _ (heads : Heads) (named : AreNamed j.ring.geometry heads o (replay o es)) (s : Sealed)
-      (new : Journal) (is : IsSealed j heads s new) (rest_is : rest.items ≡ entry_rest s.entry) where
-    abbrev Left : Option ℕ → Type 0
-    Left begun =
-        let a = core.after o.opening (replay o es) (by i (sealing j begun rest)) in
-        IsJournalOf o.opening.machine (journal_share a.machine) new × IsFixedEntry s o a
+      (new : Journal) (is : IsSealed j heads s new) (rest_is : rest.items ≡ entry_rest s.entry)
+    where
+      abbrev Left : Option ℕ → Type 0
+      Left begun =
+          let a = core.after o.opening (replay o es) (by i (sealing j begun rest)) in
+          IsJournalOf o.opening.machine (journal_share a.machine) new × IsFixedEntry s o a
 
-    left : (begun : Option ℕ) → GoesTo j s.place begun → Left begun
-    left begun (inl (none, place)) = subst Left (sym none)
-        (let both = leaves_behind o sound es on j good can h heads named s new is rest.items rest_is i
-        place in (both.0, record { sealed = both.1; stage = tt }))
-    left begun (inr (b, some, place, in_, free)) = subst Left (sym some)
-        (let both = leaves_in_front o sound es on j good can h heads named s new is rest.items rest_is
-        i b in_ place in (both.0, record { sealed = both.1; stage = tt }))
+      left : (begun : Option ℕ) → GoesTo j s.place begun → Left begun
+      left begun (inl (none, place)) = subst Left (sym none)
+          (let both = leaves_behind o sound es on j good can h heads named s new is rest.items
+          rest_is i
+          place in (both.0, record { sealed = both.1; stage = tt }))
+      left begun (inr (b, some, place, in_, free)) = subst Left (sym some)
+          (let both = leaves_in_front o sound es on j good can h heads named s new is rest.items
+          rest_is
+          i b in_ place in (both.0, record { sealed = both.1; stage = tt }))
 
 -- ---- of a seat
 
@@ -354,7 +361,8 @@ module _ {C B : Type 0} (cache_facts : C → DiskFacts) (backing_facts : B → D
       (journal : Holds v.parts 3) (j : Journal) (good : IsGoodJournal j) (can : CanSeal j)
       (stands : IsJournal j (world cache_facts backing_facts v)) where
     pub journal_since : (x : World) → Since (m cache_facts backing_facts) v x → IsJournal j x
-    journal_since x since = (held (m cache_facts backing_facts) (framed cache_facts backing_facts) v x
+    journal_since x since = (held (m cache_facts backing_facts) (framed cache_facts backing_facts)
+        v x
         3 (part.Journal j) seat.seat since journal (refl, stands)).1
 
     pub may_seal : are_plain cache_facts backing_facts v.run.start ≡ false
@@ -372,7 +380,8 @@ module _ {C B : Type 0} (cache_facts : C → DiskFacts) (backing_facts : B → D
             → CanFollow z (by v.first (sealing j (begun_by j) rest))) (sym seen.is)
             (λ running. let place = has_place j can in record {
               enabled = enabled o seen.origin.sound seen.origin.cached x.log seen.course j good can
-                  (journal_since x since o seen.origin seen.course) v.first rest (begun_by j) place.0
+                  (journal_since x since o seen.origin seen.course) v.first rest (begun_by j)
+                  place.0
                   (goes_to j place.0 good place.1) (low cache_facts backing_facts v seat)
                   (known_since cache_facts backing_facts v x (NeedsNone j.needed) journal
                   (needs_kept j.needed) since needs o seen.origin seen.course) running;
@@ -408,7 +417,8 @@ module _ {C B : Type 0} (cache_facts : C → DiskFacts) (backing_facts : B → D
       has_sealed = record {
         rest = rest;
         rest_is = rest_is;
-        did = subst (λ n. Did cache_facts backing_facts (Some (deed.Seal n (begun_by j) rest None None))
+        did = subst (λ n. Did cache_facts backing_facts (Some (deed.Seal n (begun_by j) rest None
+            None))
             v w) (sym (ap (λ x. x.last_seq) is.entry)) did;
       }
 
@@ -429,7 +439,8 @@ module _ {C B : Type 0} (cache_facts : C → DiskFacts) (backing_facts : B → D
       → Did cache_facts backing_facts (Some (sealing j (begun_by j) rest)) v w
   did_sealing v w j n begun rest n_is begun_is did = subst (λ (b : Option ℕ).
       Did cache_facts backing_facts (Some (deed.Seal j.needed b rest None None)) v w) begun_is
-      (subst (λ k. Did cache_facts backing_facts (Some (deed.Seal k begun rest None None)) v w) n_is did)
+      (subst (λ k. Did cache_facts backing_facts (Some (deed.Seal k begun rest None None)) v w)
+      n_is did)
 
 pub rest_is_entry : (j : Journal) (heads : Heads) (s : Sealed) (new : Journal) (keys : List Key)
     (rest : List ℕ) → IsSealed j heads s new → rest ≡ rest_of heads keys → keys ≡ j.waiting

@@ -46,5 +46,6 @@ module _ {C B : Type 0} (cache_facts : C → DiskFacts) (backing_facts : B → D
       → Works cache_facts backing_facts p w (record h { cache = Some new })
   works_called p v w h old new is works seat kept on = works_cache cache_facts backing_facts p v w h
       old new (λ k. k == 4)
-      (subst (λ (o : Option C). Works cache_facts backing_facts p v (record h { cache = o })) is works)
+      (subst (λ (o : Option C). Works cache_facts backing_facts p v (record h { cache = o })) is
+      works)
       seat kept (other_number 4) on

@@ -26,9 +26,9 @@ use std::sync::Wait;
 /// before does. The journal and the cache device are in hand, and stay so; what the next entry asks
 /// of names is known again.
 ///
-/// An error is a call of the device that failed, a device that had halted the run before, or want of
-/// memory; how far the entry came then is told by the seat's own deeds. Behind the first of them no
-/// further entry is sealed.
+/// An error is a call of the device that failed, a device that had halted the run before, or want
+/// of memory; how far the entry came then is told by the seat's own deeds. Behind a seal that came
+/// no further no other entry is sealed.
 pub fn put_entry<C: Disk + Drop, B: Disk + Drop, R: Wait>(
     rt: &R,
     alloc: Global,

@@ -9,7 +9,8 @@ returns-in-Err-clause-err g c = cut_seal g.C.Disk.facts g.B.Disk.facts c.args.se
 
 pub returns-in-Err-cache_barrier-clause-err : goal.returns-in-Err-cache_barrier-clause-err
 returns-in-Err-cache_barrier-clause-err g c = let ok = c.in-Ok.ensures.ok in
-    cut_barrier g.C.Disk.facts g.B.Disk.facts ok.0 c.in-Ok.entry c.args.seat.now c.seal.new.seat ok.5
+    cut_barrier g.C.Disk.facts g.B.Disk.facts ok.0 c.in-Ok.entry c.args.seat.now c.seal.new.seat
+    ok.5
     c.in-Err-cache_barrier.error c.cache_barrier.new.seat c.in-Err-cache_barrier.ensures.err
 
 pub returns-in-Err-cache_barrier-clause-cause : goal.returns-in-Err-cache_barrier-clause-cause
@@ -56,7 +57,8 @@ make_durable-requires-clause-safe g c =
 
 pub returns-clause-hand : goal.returns-clause-hand
 returns-clause-hand g c = let ok = c.in-Ok.ensures.ok in
-    ended_hand c.make_durable.result c.cache_barrier-2.new.hand c.make_durable.new.hand c.in-Ok.entry
+    ended_hand c.make_durable.result c.cache_barrier-2.new.hand c.make_durable.new.hand
+    c.in-Ok.entry
     ok.1
     (kept_journal c.args.hand.now c.seal.new.hand c.cache_barrier.new.hand c.write_entry.new.hand
     c.cache_barrier-2.new.hand ok.1 ok.3 c.cache_barrier.ensures.rest c.write_entry.ensures.rest

@@ -14,7 +14,8 @@ returns-in-Some-clause-err g c = did_nothing g.C.Disk.facts g.B.Disk.facts c.arg
 
 pub seal_in-done-requires-clause-named : goal.seal_in-done-requires-clause-named
 seal_in-done-requires-clause-named g c = subst (λ (j : Journal). FromEach
-    (world g.C.Disk.facts g.B.Disk.facts c.args.seat.now) (AreNamed j.ring.geometry c.args.heads.now))
+    (world g.C.Disk.facts g.B.Disk.facts c.args.seat.now) (AreNamed j.ring.geometry
+    c.args.heads.now))
     (same_some c.args.hand.now.journal c.requires.journal.0 c.in-Some-take.journal
     c.requires.journal.1 (sym c.take.ensures.value ∙ c.in-Some-take.is)) c.requires.journal.3
 

@@ -10,18 +10,21 @@ returns-in_default-clause-err g c = did_nothing g.C.Disk.facts g.B.Disk.facts c.
     c.requires.seat
 
 pub returns-clause-kept : goal.returns-clause-kept
-returns-clause-kept g c = kept_as g.C.Disk.facts g.B.Disk.facts c.args.seat.now c.commit.new.seat _ _
+returns-clause-kept g c = kept_as g.C.Disk.facts g.B.Disk.facts c.args.seat.now c.commit.new.seat _
+    _
     journal_changed c.commit.ensures.kept
 
 pub returns-in-Err-clause-journal : goal.returns-in-Err-clause-journal
 returns-in-Err-clause-journal g c = journal_since g.C.Disk.facts g.B.Disk.facts c.args.seat.now
-    c.requires.seat c.requires.holds c.args.journal.now c.needed-last_seq.ensures.journal c.requires.can
+    c.requires.seat c.requires.holds c.args.journal.now c.needed-last_seq.ensures.journal
+    c.requires.can
     c.requires.journal (world g.C.Disk.facts g.B.Disk.facts c.commit.new.seat)
     c.in-Err.ensures.err.is.since
 
 pub commit-requires-clause-may : goal.commit-requires-clause-may
 commit-requires-clause-may g c = may_seal_at g.C.Disk.facts g.B.Disk.facts c.args.seat.now
-    c.requires.seat c.requires.holds c.args.journal.now c.needed-last_seq.ensures.journal c.requires.can
+    c.requires.seat c.requires.holds c.args.journal.now c.needed-last_seq.ensures.journal
+    c.requires.can
     c.requires.journal c.needed-last_seq.result c.bucket_begun-bucket.result
     c.needed-last_seq.ensures.value c.bucket_begun-bucket.ensures
     (cached_by g.C.Disk.facts g.B.Disk.facts c.args.parts.now c.args.seat.now
@@ -29,7 +32,8 @@ commit-requires-clause-may g c = may_seal_at g.C.Disk.facts g.B.Disk.facts c.arg
 
 pub returns-clause-journal : goal.returns-clause-journal
 returns-clause-journal g c = journal_sealed g.C.Disk.facts g.B.Disk.facts c.args.seat.now
-    c.requires.seat c.requires.holds c.args.journal.now c.needed-last_seq.ensures.journal c.requires.can
+    c.requires.seat c.requires.holds c.args.journal.now c.needed-last_seq.ensures.journal
+    c.requires.can
     c.requires.journal c.commit.new.seat c.args.heads.now c.requires.named c.in-Ok-seal.entry
     c.seal.new.self c.in-Ok-seal.ensures.sealed c.in-Ok.rest
     (rest_is_entry c.args.journal.now c.args.heads.now c.in-Ok-seal.entry c.seal.new.self
@@ -41,7 +45,8 @@ returns-clause-journal g c = journal_sealed g.C.Disk.facts g.B.Disk.facts c.args
 
 pub returns-clause-ok : goal.returns-clause-ok
 returns-clause-ok g c = has_sealed g.C.Disk.facts g.B.Disk.facts c.args.seat.now
-    c.requires.seat c.requires.holds c.args.journal.now c.needed-last_seq.ensures.journal c.requires.can
+    c.requires.seat c.requires.holds c.args.journal.now c.needed-last_seq.ensures.journal
+    c.requires.can
     c.requires.journal c.commit.new.seat c.args.heads.now c.requires.named c.in-Ok-seal.entry
     c.seal.new.self c.in-Ok-seal.ensures.sealed c.in-Ok.rest
     (rest_is_entry c.args.journal.now c.args.heads.now c.in-Ok-seal.entry c.seal.new.self
@@ -53,7 +58,8 @@ returns-clause-ok g c = has_sealed g.C.Disk.facts g.B.Disk.facts c.args.seat.now
 
 pub returns-clause-knows : goal.returns-clause-knows
 returns-clause-knows g c = knows_fixed g.C.Disk.facts g.B.Disk.facts c.args.seat.now
-    c.requires.seat c.requires.holds c.args.journal.now c.needed-last_seq.ensures.journal c.requires.can
+    c.requires.seat c.requires.holds c.args.journal.now c.needed-last_seq.ensures.journal
+    c.requires.can
     c.requires.journal c.commit.new.seat c.args.heads.now c.requires.named c.in-Ok-seal.entry
     c.seal.new.self c.in-Ok-seal.ensures.sealed c.in-Ok.rest
     (rest_is_entry c.args.journal.now c.args.heads.now c.in-Ok-seal.entry c.seal.new.self
