@@ -21,7 +21,7 @@ use Rattle.bc_whole.proofs.Kept.{Inv}
 
 -- ---- the machine's
 
-at_course : (o : Origin) → IsSound o.opening.machine o.parts → (es : List Event) → IsCourseOf o es
+pub at_course : (o : Origin) → IsSound o.opening.machine o.parts → (es : List Event) → IsCourseOf o es
     → At o.opening.machine o.parts (replay o es).machine
 at_course o sound es on = subst (λ (st : core.State). At o.opening.machine o.parts st.machine)
     (sym (replay_is o es))

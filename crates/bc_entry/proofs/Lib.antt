@@ -8,3 +8,4 @@ pub mod Needed
 pub mod Sealing
 pub mod Putting
 pub mod Begun
+pub mod Lasting

@@ -22,10 +22,10 @@ use Rattle.bc_entry.specs.Seal.{NeedsNone}
 use Rattle.bc_entry.proofs.Holding.{IsKept}
 
 -- of a node that is there, nothing is pending, or it was there before and that was
-abbrev IsFrom : Leaf → Leaf → Type 0
+abbrev pub IsFrom : Leaf → Leaf → Type 0
 IsFrom a b = b.role ≢ NoNode → (b.pending ≡ []) ⊎ ((a.role ≢ NoNode) × (b.pending ≡ a.pending))
 
-abbrev AreFrom : parts.State → parts.State → Type 0
+abbrev pub AreFrom : parts.State → parts.State → Type 0
 AreFrom a b = (k : ℕ) → IsFrom (a.leaves k) (b.leaves k)
 
 as_before : (a : parts.State) → AreFrom a a
@@ -96,7 +96,7 @@ not_new st low high gone come old new un can k = go (has gone k) (has come k) re
     go false true is at some = no_draft (st.leaves k).role (can.come_leaf k (in_has come k at)).0
     go false false is at some = some
 
-one_act : (w : Opening) (st : State) (i : ℕ) (act : Act) → journal_act act ≡ false
+pub one_act : (w : Opening) (st : State) (i : ℕ) (act : Act) → journal_act act ≡ false
     → IsEnabled w st i act → AreFrom st.whole.parts (after w st i act).whole.parts
 one_act w st i (Keyed act slot keys) off on = absurd (cc)
 one_act w st i (Seal last_seq rest root chain) off on = absurd (cc)
@@ -113,11 +113,11 @@ one_act w st i ForgetDrafts off on = λ k some.
     inr (not_forgotten (st.whole.parts.leaves k).role some, refl)
 one_act w st i act off on = as_before st.whole.parts
 
-abbrev Needs : ℕ → State → Type 0
+abbrev pub Needs : ℕ → State → Type 0
 Needs low st = (k : ℕ) → (st.whole.parts.leaves k).role ≢ NoNode
     → AllFrom low (st.whole.parts.leaves k).pending
 
-from_old : (low : ℕ) (a b : State) → AreFrom a.whole.parts b.whole.parts → Needs low a → Needs low b
+pub from_old : (low : ℕ) (a b : State) → AreFrom a.whole.parts b.whole.parts → Needs low a → Needs low b
 from_old low a b h needs k some = elim (h k some) [
   | inl none ↦ subst (λ xs. AllFrom low xs) (sym none) (λ x i. absurd i)
   | inr old ↦ subst (λ xs. AllFrom low xs) (sym old.1) (needs k old.0)

@@ -1,14 +1,16 @@
 -- What the first seat of a run knows as the run begins.
-use Rattle.std.specs.Prelude.{◌≡◌, ◌≤◌, List, [], Some}
+use Rattle.std.specs.Prelude.{◌≡◌, ℕ, suc, ◌≤◌, List, [], Some}
 use Rattle.bc_disk.specs.Disk.{DiskFacts}
 use Rattle.bc_hand.specs.Seats.{View, core, world}
 use Rattle.bc_journal.specs.Journal.{Journal}
 use Rattle.bc_journal.specs.declared.heads.Heads.{Heads}
 use Rattle.bc_jset.specs.Entries.{AreEntries, FoundEntry}
 use Rattle.bc_jset.specs.declared.entry.JEntry.{JEntry}
-use Rattle.bc_machine.specs.World.{FromEach, World}
+use Rattle.bc_events.specs.Run.{State}
+use Rattle.bc_events.specs.declared.event.Event.{Event}
+use Rattle.bc_machine.specs.World.{FromEach, Origin, World, after}
 use Rattle.bc_seats.specs.Seats.{Waited}
-use Rattle.bc_entry.specs.Seal.{AreNamed}
+use Rattle.bc_entry.specs.Seal.{AreNamed, NeedsNone}
 
 -- what an entry names
 abbrev pub heads_of : JEntry → Heads
@@ -32,3 +34,14 @@ abbrev pub LawAlone : {C B : Type 0} → (C → DiskFacts) → (B → DiskFacts)
 LawAlone {C} {B} cache_facts backing_facts = (v w : View {C = C} {B = B} cache_facts backing_facts)
     → v.first ≡ 0 → 320 ≤ v.end → Waited (core cache_facts backing_facts) v w
     → world cache_facts backing_facts w ≡ world cache_facts backing_facts v
+
+-- No leaf waits for a key of an entry below this one, and the next entry isn't below it.
+pub record NeedsFrom (low : ℕ) (o : Origin) (st : State) : Type 0 where
+  pub needs : NeedsNone low o st
+  pub next : low ≤ suc st.machine.whole.parts.records.newest.number
+
+-- It never will, whatever happens: a key that comes in is of an entry to come. So it is known for
+-- good once it is known, with the journal in hand or without.
+abbrev pub LawLasts : Type 0
+LawLasts = (x : World) (e : Event) (low : ℕ) → FromEach x (NeedsFrom low)
+    → FromEach (after x e) (NeedsFrom low)

@@ -1,5 +1,5 @@
 //! What the first seat of a run knows as the run begins: each law is the contract of a function.
-ghost use Rattle.bc_entry.specs.Laws.{LawAlone, LawNamed};
+ghost use Rattle.bc_entry.specs.Laws.{LawAlone, LawLasts, LawNamed};
 
 use bc_disk::disk::Disk;
 
@@ -11,4 +11,9 @@ pub fn law_named()
 /// Nothing happens while a seat waits that has all numbers of its run.
 pub fn law_alone<C: Disk, B: Disk>()
     ensures { LawAlone C.facts B.facts }
+{}
+
+/// What no leaf waits for, none ever will.
+pub fn law_lasts()
+    ensures { LawLasts }
 {}
