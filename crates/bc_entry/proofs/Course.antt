@@ -21,8 +21,8 @@ use Rattle.bc_whole.proofs.Kept.{Inv}
 
 -- ---- the machine's
 
-pub at_course : (o : Origin) → IsSound o.opening.machine o.parts → (es : List Event) → IsCourseOf o es
-    → At o.opening.machine o.parts (replay o es).machine
+pub at_course : (o : Origin) → IsSound o.opening.machine o.parts → (es : List Event)
+    → IsCourseOf o es → At o.opening.machine o.parts (replay o es).machine
 at_course o sound es on = subst (λ (st : core.State). At o.opening.machine o.parts st.machine)
     (sym (replay_is o es))
     (at_state o.opening o.parts o.next_seq (oldest_first es) sound (replay_runs o es on))

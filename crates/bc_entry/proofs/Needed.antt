@@ -117,7 +117,8 @@ abbrev pub Needs : ℕ → State → Type 0
 Needs low st = (k : ℕ) → (st.whole.parts.leaves k).role ≢ NoNode
     → AllFrom low (st.whole.parts.leaves k).pending
 
-pub from_old : (low : ℕ) (a b : State) → AreFrom a.whole.parts b.whole.parts → Needs low a → Needs low b
+pub from_old : (low : ℕ) (a b : State) → AreFrom a.whole.parts b.whole.parts → Needs low a
+    → Needs low b
 from_old low a b h needs k some = elim (h k some) [
   | inl none ↦ subst (λ xs. AllFrom low xs) (sym none) (λ x i. absurd i)
   | inr old ↦ subst (λ xs. AllFrom low xs) (sym old.1) (needs k old.0)

@@ -1,4 +1,4 @@
-//! The steps of a run's first entry, and what they are made of.
+//! The steps of an entry of the journal in a run with a cache.
 //!
 //! A cache device may keep what is written to it in any order until a barrier comes. So an entry of
 //! the journal stands between two: the first makes durable what it names, and the second makes the
