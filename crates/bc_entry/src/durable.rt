@@ -56,7 +56,7 @@ pub fn make_durable<C: Disk + Drop, B: Disk + Drop, R: Wait>(
     let Some(mut journal) = hand.journal.take() else {
         unreachable!()
     };
-    journal.written(entry);
+    journal.get_mut().written(entry);
     hand.journal = Some(journal);
     Ok(())
 }

@@ -60,7 +60,7 @@ pub fn seal<C: Disk + Drop, B: Disk + Drop, R: Wait>(
     let Some(mut journal) = hand.journal.take() else {
         unreachable!()
     };
-    let done = seal_in(rt, alloc, parts, seat, &mut journal, heads);
+    let done = seal_in(rt, alloc, parts, seat, journal.get_mut(), heads);
     hand.journal = Some(journal);
     done
 }

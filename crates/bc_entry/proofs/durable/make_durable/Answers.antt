@@ -1,4 +1,4 @@
-use Rattle.std.proofs.Common.{refl, sym, ◌∙◌, subst, Some}
+use Rattle.std.proofs.Common.{Some, refl, sym, ap, ◌∙◌, subst}
 use Rattle.bc_hand.specs.Seats.{Works}
 use Rattle.bc_hand.proofs.Lending.{works_waited}
 use Rattle.bc_deed.proofs.May.{did_nothing, holds_only, kept_as}
@@ -38,8 +38,8 @@ pub returns-clause-works : goal.returns-clause-works
 returns-clause-works g c = subst (λ j. Works g.C.Disk.facts g.B.Disk.facts c.args.parts.now
     c.commit.new.seat (record c.args.hand.now { journal = Some j })) (sym c.written.ensures)
     (works_ended g.C.Disk.facts g.B.Disk.facts c.args.parts.now c.args.seat.now c.commit.new.seat
-    c.args.hand.now c.in-Some-take.journal c.args.entry
-    (sym c.take.ensures.value ∙ c.in-Some-take.is) c.requires.works c.requires.safe
+    c.args.hand.now c.get_mut.result.now c.args.entry
+    (sym c.take.ensures.value ∙ c.in-Some-take.is ∙ ap Some (sym c.get_mut.ensures.part)) c.requires.works c.requires.safe
     c.in_default-commit.ensures.ok
     (kept_as g.C.Disk.facts g.B.Disk.facts c.args.seat.now c.commit.new.seat _ _ journal_changed
     c.commit.ensures.kept))

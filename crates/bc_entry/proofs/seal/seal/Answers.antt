@@ -1,4 +1,4 @@
-use Rattle.std.proofs.Common.{refl, sym, ◌∙◌, subst}
+use Rattle.std.proofs.Common.{Some, refl, sym, ap, ◌∙◌, subst}
 use Rattle.bc_hand.specs.Seats.{world}
 use Rattle.bc_deed.proofs.May.{did_nothing}
 use Rattle.bc_journal.specs.Journal.{Journal}
@@ -16,26 +16,26 @@ pub seal_in-done-requires-clause-named : goal.seal_in-done-requires-clause-named
 seal_in-done-requires-clause-named g c = subst (λ (j : Journal). FromEach
     (world g.C.Disk.facts g.B.Disk.facts c.args.seat.now) (AreNamed j.ring.geometry
     c.args.heads.now))
-    (same_some c.args.hand.now.journal c.requires.journal.0 c.in-Some-take.journal
-    c.requires.journal.1 (sym c.take.ensures.value ∙ c.in-Some-take.is)) c.requires.journal.3
+    (same_some c.args.hand.now.journal c.requires.journal.0 c.get_mut.result.now
+    c.requires.journal.1 (sym c.take.ensures.value ∙ c.in-Some-take.is ∙ ap Some (sym c.get_mut.ensures.part))) c.requires.journal.3
 
 pub seal_in-done-requires-clause-needs : goal.seal_in-done-requires-clause-needs
 seal_in-done-requires-clause-needs g c = subst (λ (j : Journal). FromEach
     (world g.C.Disk.facts g.B.Disk.facts c.args.seat.now) (NeedsNone j.needed))
-    (same_some c.args.hand.now.journal c.requires.journal.0 c.in-Some-take.journal
-    c.requires.journal.1 (sym c.take.ensures.value ∙ c.in-Some-take.is)) c.requires.journal.4
+    (same_some c.args.hand.now.journal c.requires.journal.0 c.get_mut.result.now
+    c.requires.journal.1 (sym c.take.ensures.value ∙ c.in-Some-take.is ∙ ap Some (sym c.get_mut.ensures.part))) c.requires.journal.4
 
 pub returns-clause-works : goal.returns-clause-works
 returns-clause-works g c = works_anew g.C.Disk.facts g.B.Disk.facts c.args.parts.now c.args.seat.now
-    c.seal_in-done.new.seat c.args.hand.now c.in-Some-take.journal c.seal_in-done.new.journal
-    (sym c.take.ensures.value ∙ c.in-Some-take.is) c.requires.works c.seal_in-done.ensures.seat
+    c.seal_in-done.new.seat c.args.hand.now c.get_mut.result.now c.seal_in-done.new.journal
+    (sym c.take.ensures.value ∙ c.in-Some-take.is ∙ ap Some (sym c.get_mut.ensures.part)) c.requires.works c.seal_in-done.ensures.seat
     c.seal_in-done.ensures.kept c.seal_in-done.ensures.journal
 
 pub returns-clause-ok : goal.returns-clause-ok
 returns-clause-ok g c = both_ok c.seal_in-done.result (λ entry is did. (
-  c.in-Some-take.journal,
+  c.get_mut.result.now,
   c.seal_in-done.new.journal,
-  sym c.take.ensures.value ∙ c.in-Some-take.is,
+  sym c.take.ensures.value ∙ c.in-Some-take.is ∙ ap Some (sym c.get_mut.ensures.part),
   refl,
   is,
   did,
