@@ -1,0 +1,4 @@
+pub mod Answering
+pub mod Running
+pub mod Series
+pub mod Uses

@@ -1,0 +1,4 @@
+pub mod Deeds
+pub mod Known
+pub mod Noted
+pub mod Runs
