@@ -121,6 +121,7 @@ module _ {C B : Type 0} (cache_facts : C → DiskFacts) (backing_facts : B → D
           ∙ sym (ap (λ (i : Option Image). image_of i (k.backing.offset + s)) on.backing);
       sound = is;
       slots = in_slots p v layout x w st h;
+      calm = h.opening.parts.change;
       begun = begun;
     }
 

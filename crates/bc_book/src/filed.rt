@@ -1,9 +1,9 @@
 //! An event taken apart: its record, and what goes into the other lists of a pass.
-ghost use Rattle.std.specs.Prelude.{◌≡◌, Option, Some, None, IfSome};
+ghost use Rattle.std.specs.Prelude.{◌≡◌, Option, Some, None};
 ghost use Rattle.bc_events.specs.Columns.{entry_by};
 ghost use Rattle.bc_events.specs.declared.event.Deed.TheVariants as deed;
 ghost use Rattle.bc_book.specs.Pass.{event_by, deed_of_entry, read_of};
-ghost use Rattle.bc_book.specs.Filed.{IsFiled, alone, failed_write};
+ghost use Rattle.bc_book.specs.Filed.{IsFiled, failed_write};
 ghost use Rattle.bc_book.specs.declared.filed.Places.{Places};
 
 use crate::pass::{Insertion, Reading, Record};

@@ -105,6 +105,7 @@ origin_before x e o h = record {
   backing = h.backing;
   sound = h.sound;
   slots = h.slots;
+  calm = h.calm;
   begun = h.begun;
 }
 

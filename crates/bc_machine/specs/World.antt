@@ -216,6 +216,8 @@ pub record IsOrigin (x : World) (o : Origin) : Type 0 where
   pub backing : (s : ℕ) → o.opening.machine.flow.backing s ≡ x.opening.machine.flow.backing s
   pub sound : IsSound o.opening.machine o.parts
   pub slots : AreInSlots o.opening o.parts
+  -- no change of the tree is under way as a run begins
+  pub calm : o.parts.change ≡ parts.NoChange
   pub begun : HasBegun x.begun o
 
 -- The state of a run is seen as its events alone make it, and as it is from each such opening from

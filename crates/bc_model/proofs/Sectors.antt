@@ -102,3 +102,30 @@ length_raw bytes = length_values_of bytes
 pub first_chunks-sectors : (n : ℕ) (bytes : List ℕ) → first_chunks 512 n bytes ≡ sectors n bytes
 first_chunks-sectors zero bytes = refl
 first_chunks-sectors (suc n) bytes = ap (λ vs. take 512 bytes ∷ vs) (first_chunks-sectors n (drop 512 bytes))
+
+-- sectors of two stretches of bytes
+sectors_both : (n m : ℕ) (xs ys : List ℕ) → length xs ≡ 512 * n → sectors (n + m) (xs ++ ys) ≡ sectors n xs ++ sectors m ys
+sectors_both zero m [] ys h = let a : 0 + m ≡ m = omega arith in ap (λ k. sectors k ys) a
+sectors_both zero m (x ∷ xs) ys h = absurd (omega arith)
+sectors_both (suc n) m xs ys h =
+    let a : suc n + m ≡ suc (n + m) = omega arith in
+    let low : 512 ≤ length xs = omega arith in
+    let rest : length (drop 512 xs) ≡ 512 * n = omega (arith, length-drop 512 xs) in
+    ap (λ k. sectors k (xs ++ ys)) a
+    ∙ ap (λ (v : Value). v ∷ sectors (n + m) (drop 512 (xs ++ ys))) (take-append-le 512 xs ys low)
+    ∙ ap (λ (zs : List ℕ). take 512 xs ∷ sectors (n + m) zs) (drop-append-le 512 xs ys low)
+    ∙ ap (λ (vs : List Value). take 512 xs ∷ vs) (sectors_both n m (drop 512 xs) ys rest)
+
+-- so many sectors were put behind the first n
+pub sectors_next : (n m : ℕ) (old mid new : List ℕ) → 512 * n ≤ length old → length mid ≡ 512 * m → take (512 * (n + m)) new ≡ take (512 * n) old ++ mid
+    → sectors (n + m) new ≡ sectors n old ++ values_of mid
+sectors_next n m old mid new low long is =
+    let front = length-take-le (512 * n) old low in
+    let high : 512 * (n + m) ≤ length new = omega (arith, front, ap (λ (bs : List ℕ). length bs) is, length-take (512 * (n + m)) new, length-append (take (512 * n) old) mid) in
+    let whole = length-take-le (512 * (n + m)) new high in
+    ap (λ (bs : List ℕ). sectors (n + m) bs) (sym (take-append-drop (512 * (n + m)) new))
+    ∙ sectors_front (n + m) (take (512 * (n + m)) new) (drop (512 * (n + m)) new) (omega arith)
+    ∙ ap (λ (bs : List ℕ). sectors (n + m) bs) is
+    ∙ sectors_both n m (take (512 * n) old) mid front
+    ∙ ap (λ (vs : List Value). vs ++ sectors m mid) (sym (sectors_front n (take (512 * n) old) (drop (512 * n) old) (omega arith)) ∙ ap (λ (bs : List ℕ). sectors n bs) (take-append-drop (512 * n) old))
+    ∙ ap (λ (vs : List Value). sectors n old ++ vs) (sym (values_whole m mid long))

@@ -1,7 +1,7 @@
 -- Runs that are read one behind the other.
 use Rattle.std.specs.Prelude.{drop, take}
 use Rattle.std.proofs.Common.{◌≡◌, ℕ, zero, suc, get_or, ◌+◌, ◌*◌, ◌<◌, ◌≤◌, List, [], ◌∷◌, ◌++◌, length, None, refl, sym, ap, ◌∙◌, subst, arith}
-use Rattle.std.proofs.lemmas.List.{append-nil, append_assoc, drop-append-le, length-append, length-drop, length-take, length-take-le, take-append-drop, take-append-le, take_more}
+use Rattle.std.proofs.lemmas.List.{append-nil, append_assoc, length-append, take_more}
 use Rattle.bc_bucket.specs.Buckets.{Buckets}
 use Rattle.bc_deed.proofs.Sequence.{done_both}
 use Rattle.bc_deed.specs.Asked.{IsWithin}
@@ -12,8 +12,7 @@ use Rattle.bc_hand.proofs.Knowing.{View}
 use Rattle.bc_hand.specs.declared.error.StepError.{StepError}
 use Rattle.bc_hand.specs.declared.hand.Hand.{Hand}
 use Rattle.bc_machine.specs.Frame.{Range}
-use Rattle.bc_model.proofs.Sectors.{sectors_front, values_whole}
-use Rattle.bc_model.specs.Sector.{Value, sectors, values_of}
+use Rattle.bc_model.specs.Sector.{Value, sectors}
 use Rattle.bc_node.specs.Leaf.{Leaf}
 use Rattle.bc_reads.proofs.Said.{one_more}
 use Rattle.bc_reads.specs.Reads.{AreRuns, IsRun}
@@ -21,35 +20,6 @@ use Rattle.bc_reads.specs.declared.runs.ReadRun.{ReadRun}
 use Rattle.bc_reader.specs.Deeds.{AreRunDeeds, AreRunsDeeds, HasStoppedBy, RunStop, RunsStop}
 use Rattle.bc_reader.specs.Known.{IsSameButDevices}
 use Rattle.bc_reader.specs.Runs.{HasReadAll, HasReadAt}
-
--- ---- bytes
-
--- sectors of two stretches of bytes
-sectors_both : (n m : ℕ) (xs ys : List ℕ) → length xs ≡ 512 * n → sectors (n + m) (xs ++ ys) ≡ sectors n xs ++ sectors m ys
-sectors_both zero m [] ys h = let a : 0 + m ≡ m = omega arith in ap (λ k. sectors k ys) a
-sectors_both zero m (x ∷ xs) ys h = absurd (omega arith)
-sectors_both (suc n) m xs ys h =
-    let a : suc n + m ≡ suc (n + m) = omega arith in
-    let low : 512 ≤ length xs = omega arith in
-    let rest : length (drop 512 xs) ≡ 512 * n = omega (arith, length-drop 512 xs) in
-    ap (λ k. sectors k (xs ++ ys)) a
-    ∙ ap (λ (v : Value). v ∷ sectors (n + m) (drop 512 (xs ++ ys))) (take-append-le 512 xs ys low)
-    ∙ ap (λ (zs : List ℕ). take 512 xs ∷ sectors (n + m) zs) (drop-append-le 512 xs ys low)
-    ∙ ap (λ (vs : List Value). take 512 xs ∷ vs) (sectors_both n m (drop 512 xs) ys rest)
-
--- so many sectors were put behind the first n
-pub sectors_next : (n m : ℕ) (old mid new : List ℕ) → 512 * n ≤ length old → length mid ≡ 512 * m → take (512 * (n + m)) new ≡ take (512 * n) old ++ mid
-    → sectors (n + m) new ≡ sectors n old ++ values_of mid
-sectors_next n m old mid new low long is =
-    let front = length-take-le (512 * n) old low in
-    let high : 512 * (n + m) ≤ length new = omega (arith, front, ap (λ (bs : List ℕ). length bs) is, length-take (512 * (n + m)) new, length-append (take (512 * n) old) mid) in
-    let whole = length-take-le (512 * (n + m)) new high in
-    ap (λ (bs : List ℕ). sectors (n + m) bs) (sym (take-append-drop (512 * (n + m)) new))
-    ∙ sectors_front (n + m) (take (512 * (n + m)) new) (drop (512 * (n + m)) new) (omega arith)
-    ∙ ap (λ (bs : List ℕ). sectors (n + m) bs) is
-    ∙ sectors_both n m (take (512 * n) old) mid front
-    ∙ ap (λ (vs : List Value). vs ++ sectors m mid) (sym (sectors_front n (take (512 * n) old) (drop (512 * n) old) (omega arith)) ∙ ap (λ (bs : List ℕ). sectors n bs) (take-append-drop (512 * n) old))
-    ∙ ap (λ (vs : List Value). sectors n old ++ vs) (sym (values_whole m mid long))
 
 -- ---- the range
 

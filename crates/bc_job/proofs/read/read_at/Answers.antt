@@ -1,8 +1,7 @@
 use Rattle.std.proofs.Common.{◌≡◌, ℕ, ◌+◌, ◌*◌, ◌-◌, ◌/◌, length, ◌∙◌, arith}
 use Rattle.std.proofs.lemmas.Slice.{take-put_mid}
 use Rattle.bc_model.specs.Sector.{values_of}
-use Rattle.bc_model.proofs.Sectors.{length_values_of}
-use Rattle.bc_job.proofs.Looping.{sectors_next}
+use Rattle.bc_model.proofs.Sectors.{length_values_of, sectors_next}
 use Rattle.bc_job.proofs.read.read_at.Goals as goal
 
 pub returns-in-Ok-clause-ok : goal.returns-in-Ok-clause-ok

@@ -1,9 +1,8 @@
 use Rattle.std.proofs.Common.{◌≡◌, ◌+◌, ◌*◌, ◌-◌, length, ◌∙◌, arith}
 use Rattle.std.proofs.lemmas.Slice.{take-put_mid}
 use Rattle.bc_model.specs.Sector.{values_of}
-use Rattle.bc_model.proofs.Sectors.{length_values_of}
+use Rattle.bc_model.proofs.Sectors.{length_values_of, sectors_next}
 use Rattle.bc_reader.proofs.Running.{long_of}
-use Rattle.bc_reader.proofs.Series.{sectors_next}
 use Rattle.bc_reader.proofs.runs.read_at.Goals as goal
 
 pub returns-in-Ok-clause-ok : goal.returns-in-Ok-clause-ok
