@@ -12,7 +12,7 @@ use Rattle.bc_events.specs.declared.event.LineNumber.{LineNumber}
 use Rattle.bc_events.specs.declared.event.Deed.{Deed}
 use Rattle.bc_events.specs.declared.event.Deed.TheVariants as deed
 use Rattle.bc_events.specs.declared.event.Failure.TheVariants as failure
-use Rattle.bc_parts.specs.Seat.{PartsView}
+use Rattle.bc_parts.specs.Seat.{PartsView, Run}
 use Rattle.bc_events.specs.Acts.{is_exclusive}
 use Rattle.bc_flight.specs.declared.claim.Claim.{Claim}
 use Rattle.bc_machine.specs.Frame.{Range}
@@ -34,7 +34,7 @@ use Rattle.bc_job.specs.Requests.{HasStoppedBy, HasNotFlushed}
 use Rattle.bc_job.specs.declared.error.RequestError.{RequestError}
 use Rattle.bc_job.specs.declared.error.RequestError.TheVariants as request
 use Rattle.bc_job.proofs.Holding.{halted_still, works_empty}
-use Rattle.bc_job.proofs.Under.{fresh_claim}
+use Rattle.bc_job.proofs.Under.{claim_range, fresh_claim}
 use Rattle.bc_job.specs.Asked.{IsIdle}
 
 module _ {C B : Type 0} (cache_facts : C → DiskFacts) (backing_facts : B → DiskFacts) where
@@ -77,22 +77,24 @@ module _ {C B : Type 0} (cache_facts : C → DiskFacts) (backing_facts : B → D
 
   pub made_claim : (c : Claim) (u v w : View cache_facts backing_facts) (first count : ℕ) (share : Share)
       → c ≡ record { seat = w.first; first = first; count = count; share = share } → 1 ≤ count
-      → IsCoreSeat cache_facts backing_facts v → are_plain cache_facts backing_facts v.run.start ≡ true
+      → IsCoreSeat cache_facts backing_facts v
       → HasDone cache_facts backing_facts [] u v → v.promises ≡ u.promises → Did cache_facts backing_facts (Some (deed.Claim first count share)) v w
       → HasMadeClaim cache_facts backing_facts c first count share u w
-  made_claim c u v w first count share is some seat plain before room did =
-      let fresh = fresh_claim cache_facts backing_facts v w first count share seat plain did in
+  made_claim c u v w first count share is some seat before room did =
+      let range = claim_range cache_facts backing_facts v w first count share seat did in
       let used = did.is.promises in record {
         its = record {
           its_seat = ap (λ (x : Claim). x.seat) is;
           some = subst (λ (x : Claim). 1 ≤ x.count) (sym is) some;
-          range = fresh.range ∙ ap (λ (x : Claim). record {
+          range = range ∙ ap (λ (x : Claim). record {
             first = x.first;
             count = x.count;
             exclusive = is_exclusive x.share;
           }) (sym is);
         };
-        fresh = fresh;
+        range = range;
+        fresh = λ plain. fresh_claim cache_facts backing_facts v w first count share seat
+            (ap (λ (r : Run (CorePart C B)). are_plain cache_facts backing_facts r.start) before.same.run ∙ plain) did;
         promises = used ∙ room;
         done = done_then cache_facts backing_facts [] (Some (deed.Claim first count share)) u v w before did;
       }

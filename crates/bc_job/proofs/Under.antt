@@ -6,6 +6,7 @@ use Rattle.bc_disk.specs.Disk.{DiskFacts}
 use Rattle.bc_disk.specs.declared.disk.Device.TheVariants.{Backing}
 use Rattle.bc_flight.specs.declared.claim.Share.{Share}
 use Rattle.bc_flight.specs.declared.claim.Share.TheVariants.{Exclusive}
+use Rattle.bc_events.specs.Acts.{is_exclusive}
 use Rattle.bc_events.specs.declared.event.LineNumber.{LineNumber}
 use Rattle.bc_events.specs.declared.event.Deed.{Deed}
 use Rattle.bc_events.specs.declared.event.Deed.TheVariants as deed
@@ -47,6 +48,14 @@ pub last_of : (x : Rattle.bc_machine.specs.Note.LastWrite) (line first n m : ℕ
 last_of x line first n m is h = subst (λ k. IsLast x line first k) (sym is) h
 
 module _ {C B : Type 0} (cache_facts : C → DiskFacts) (backing_facts : B → DiskFacts) where
+  pub claim_range : (v w : View cache_facts backing_facts) (first count : ℕ) (share : Share)
+      → IsCoreSeat cache_facts backing_facts v
+      → Did cache_facts backing_facts (Some (deed.Claim first count share)) v w
+      → (note cache_facts backing_facts w).range
+      ≡ record { first = first; count = count; exclusive = is_exclusive share }
+  claim_range v w first count share seat did =
+      (note_committed cache_facts backing_facts v w (deed.Claim first count share) seat did.is).range
+
   pub fresh_claim : (v w : View cache_facts backing_facts) (first count : ℕ) (share : Share)
       → IsCoreSeat cache_facts backing_facts v
       → are_plain cache_facts backing_facts v.run.start ≡ true

@@ -11,6 +11,7 @@ use Rattle.bc_events.specs.declared.event.LineNumber.{LineNumber}
 use Rattle.bc_events.specs.declared.event.Failure.TheVariants as failure
 use Rattle.bc_events.specs.declared.event.Deed.TheVariants as deed
 use Rattle.bc_machine.specs.Note.{Note}
+use Rattle.bc_machine.specs.World.{are_plain}
 use Rattle.bc_hand.specs.Seats.{View, note}
 use Rattle.bc_hand.specs.declared.error.StepError.{StepError}
 use Rattle.bc_hand.specs.declared.error.StepError.TheVariants as error
@@ -28,7 +29,11 @@ module _ {C B : Type 0} (cache_facts : C → DiskFacts) (backing_facts : B → D
   pub record HasMadeClaim (claim : Claim) (first count : ℕ) (share : Share)
       (v w : View cache_facts backing_facts) : Type 0 where
     pub its : IsClaim claim w.first (note cache_facts backing_facts w).range
-    pub fresh : IsFresh first count share (note cache_facts backing_facts w)
+    pub range : (note cache_facts backing_facts w).range
+        ≡ record { first = first; count = count; exclusive = is_exclusive share }
+    -- over the backing device alone a claim is a look as well
+    pub fresh : are_plain cache_facts backing_facts v.run.start ≡ true
+        → IsFresh first count share (note cache_facts backing_facts w)
     pub promises : w.promises + 1 ≡ v.promises
     pub done : HasDone cache_facts backing_facts (deed.Claim first count share ∷ []) v w
 

@@ -15,6 +15,7 @@
 //! it.
 #![tactic(auto)]
 
+pub mod claims;
 pub mod error;
 pub mod flush;
 pub mod job;

@@ -1,77 +1,34 @@
 //! One piece of a request, under one claim.
-ghost use Rattle.std.specs.Prelude.{◌≡◌, ◌+◌, ◌*◌, ◌/◌, ◌<◌, ◌≤◌, ◌^◌, true, [], ◌∷◌, length, if◌then◌else◌, OnOk, IfOk, IfErr};
+ghost use Rattle.std.specs.Prelude.{◌≡◌, ◌+◌, ◌*◌, ◌/◌, ◌<◌, ◌≤◌, ◌^◌, true, [], ◌∷◌, length, if◌then◌else◌, OnOk, IfErr};
 ghost use Rattle.bc_model.specs.Sector.{values_of};
 ghost use Rattle.bc_events.specs.declared.event.Deed.{Deed};
 ghost use Rattle.bc_flight.specs.declared.claim.Share.{Share};
 ghost use Rattle.bc_machine.specs.Plain.{worker_of};
 ghost use Rattle.bc_machine.specs.World.{are_plain};
 ghost use Rattle.bc_hand.specs.Seats.{Works, empty, note};
-ghost use Rattle.bc_deed.specs.Asked.{AreSectors, IsHalted, IsWithin, size_of};
+ghost use Rattle.bc_deed.specs.Asked.{AreSectors, IsWithin, size_of};
 ghost use Rattle.bc_deed.specs.Flushed.{HasDone};
 ghost use Rattle.bc_job.specs.Asked.{IsIdle};
 ghost use Rattle.bc_job.specs.Deeds.{ReadStop, WriteStop, read_deeds, write_deeds, written};
-ghost use Rattle.bc_job.specs.Pieces.{HasMadeClaim, IsFresh, ReadUnder, WriteUnder};
+ghost use Rattle.bc_job.specs.Pieces.{IsFresh, ReadUnder, WriteUnder};
 ghost use Rattle.bc_job.specs.Requests.{HasStoppedBy};
 
+use crate::claims::claim_range;
 use crate::error::{RequestError, refusal};
 use bc_deed::backing::{backing_barrier, backing_read, backing_write};
-use bc_deed::claims::{claim, release};
+use bc_deed::claims::release;
 use bc_deed::promise::promise;
 use bc_deed::said::{answer, durable};
 use bc_disk::disk::Disk;
 use bc_events::event::LineNumber;
-use bc_flight::claim::{Claim, Share};
+use bc_flight::claim::Share;
 use bc_hand::error::StepError;
 use bc_hand::hand::Hand;
 use bc_machine::machine::{CoreParts, CoreSeat};
 use bc_model::values::Values;
 use bc_worker::gate::Gate;
-use crossbeam_utils::Backoff;
 use std::alloc::Global;
 use std::sync::Wait;
-
-// Waits until no claim that conflicts stands, and claims the sectors.
-fn claim_range<C: Disk + Drop, B: Disk + Drop, R: Wait>(
-    rt: &R,
-    parts: &CoreParts<C, B>,
-    seat: &mut CoreSeat<C, B>,
-    hand: &mut Hand<C, B>,
-    first: u64,
-    count: u32,
-    share: Share,
-) -> Result<Claim, StepError>
-    requires works { Works C.facts B.facts parts.now seat.old hand.old }
-    requires plain { are_plain C.facts B.facts parts.now.run.start ≡ true }
-    requires empty { hand.old ≡ empty }
-    requires promise { 0 < seat.old.promises }
-    requires none { (note C.facts B.facts seat.old).range.count ≡ 0 }
-    requires range { (1 ≤ count) × (first + count < 2 ^ 64) }
-    requires inside { first + count ≤ size_of C.facts B.facts seat.old.run.start }
-    ensures works { Works C.facts B.facts parts.now seat.new hand.new }
-    ensures empty { hand.new ≡ empty }
-    ensures ok { IfOk result (λ claim. HasMadeClaim C.facts B.facts claim first count share
-        seat.old seat.new) }
-    ensures err { IfErr result (λ error. IsHalted error seat.new.seen
-        × HasDone C.facts B.facts [] seat.old seat.new
-        × ((note C.facts B.facts seat.new).range.count ≡ 0)) }
-{
-    let backoff = Backoff::new();
-    for _ in rt.forever() {
-        match claim(rt, parts, seat, hand, first, count, share) {
-            Ok(true) => {
-                return Ok(Claim {
-                    seat: seat.number(),
-                    first,
-                    count,
-                    share,
-                });
-            }
-            Ok(false) => backoff.snooze(),
-            Err(error) => return Err(error),
-        }
-    }
-    unreachable!()
-}
 
 // Reads the claimed sectors and answers the line with them.
 fn read_under<C: Disk + Drop, B: Disk + Drop, R: Wait, G: Gate>(

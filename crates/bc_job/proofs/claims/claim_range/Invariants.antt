@@ -1,7 +1,7 @@
 use Rattle.std.proofs.Common.{◌≡◌, []}
 use Rattle.bc_hand.specs.Seats.{Works, empty, note}
 use Rattle.bc_deed.specs.Flushed.{HasDone}
-use Rattle.bc_job.proofs.piece.claim_range.Given as goal
+use Rattle.bc_job.proofs.claims.claim_range.Given as goal
 
 -- nothing is in hand and nothing was done, and the room is what it was
 abbrev pub invariant-loop : goal.invariant-loop

@@ -1,9 +1,8 @@
 use Rattle.std.proofs.Common.{refl, ap, ◌∙◌}
 use Rattle.bc_hand.proofs.Knowing.{note_waited}
-use Rattle.bc_deed.proofs.May.{plain_by}
 use Rattle.bc_job.proofs.Holding.{still_empty}
 use Rattle.bc_job.proofs.Sequence.{none_yet, still_waiting, made_claim, has_claimed, has_waited}
-use Rattle.bc_job.proofs.piece.claim_range.Goals as goal
+use Rattle.bc_job.proofs.claims.claim_range.Goals as goal
 
 pub loop-init : goal.loop-init
 loop-init g c = (
@@ -19,7 +18,6 @@ returns-in-Ok-true-clause-ok g c = made_claim g.C.Disk.facts g.B.Disk.facts _ c.
     c.claim.new.seat c.args.first c.args.count c.args.share
     (ap (λ n. record { seat = n; first = c.args.first; count = c.args.count; share = c.args.share }) c.number.ensures.first)
     c.requires.range.0 c.loop.invariant.0.seat
-    (plain_by g.C.Disk.facts g.B.Disk.facts c.args.parts.now c.loop.seat c.loop.invariant.0.run c.requires.plain)
     c.loop.invariant.2 c.loop.invariant.3
     (has_claimed g.C.Disk.facts g.B.Disk.facts c.in-Ok-true.field-0 c.loop.seat c.claim.new.seat c.args.first
     c.args.count c.args.share c.in-Ok-true.field-0-test c.in-Ok-true.ensures.ok)
