@@ -1,4 +1,5 @@
 pub mod Deeds
 pub mod Known
+pub mod Look
 pub mod Noted
 pub mod Runs

@@ -1,5 +1,5 @@
 -- Runs that are read one behind the other.
-use Rattle.std.specs.Prelude.{◌≡◌, ℕ, ◌+◌, ◌≤◌, List, ◌++◌, length, None}
+use Rattle.std.specs.Prelude.{◌≡◌, ℕ, ◌+◌, ◌≤◌, All, Bool, List, ◌++◌, length, None}
 use Rattle.bc_bucket.specs.Buckets.{Buckets}
 use Rattle.bc_disk.specs.Disk.{DiskFacts}
 use Rattle.bc_hand.specs.Seats.{View}
@@ -7,14 +7,17 @@ use Rattle.bc_model.specs.Sector.{Value, sectors}
 use Rattle.bc_node.specs.Leaf.{Leaf}
 use Rattle.bc_reads.specs.Reads.{AreRuns, IsRun}
 use Rattle.bc_reads.specs.declared.runs.ReadRun.{ReadRun}
+use Rattle.bc_reads.specs.declared.source.ReadFrom.TheVariants.{Cache}
 use Rattle.bc_sight.specs.Sight.{Knows, OfClaim}
 use Rattle.bc_reader.specs.Deeds.{AreRunDeeds, AreRunsDeeds, HasDoneSome}
 use Rattle.bc_reader.specs.Known.{HasValues}
-use Rattle.bc_reader.specs.Noted.{OfCached}
 
--- each run that is read from the cache device ends by this sector
+-- the run ends by this sector, if it is read from the cache device
+abbrev pub EndsBy : ℕ → ReadRun → Type 0
+EndsBy end r = (at : ℕ) (dirty : Bool) → r.from ≡ Cache at dirty → at + r.count ≤ end
+
 abbrev pub LieWithin : List ReadRun → ℕ → Type 0
-LieWithin runs end = OfCached runs (λ at count. at + count ≤ end)
+LieWithin runs end = All (EndsBy end) runs
 
 module _ {C B : Type 0} (cache_facts : C → DiskFacts) (backing_facts : B → DiskFacts) where
   -- the values of a run came behind those of the sectors before it, and the seat knows them

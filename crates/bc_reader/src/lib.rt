@@ -5,6 +5,8 @@
 //! came from there may be answered as long as the counts of uses are what they were at the look.
 #![tactic(auto)]
 
+pub mod error;
+pub mod look;
 pub mod noted;
 pub mod run;
 pub mod runs;
