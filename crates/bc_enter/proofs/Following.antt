@@ -23,7 +23,10 @@ use Rattle.bc_journal.proofs.Sizes.{most_fit}
 use Rattle.bc_resume.specs.Resume.{IsResumed}
 use Rattle.bc_resume.proofs.Held.{newest_of}
 use Rattle.bc_enter.specs.Entry.{GoesTo, IsOpeningEntry, NeedsOldest}
+use Rattle.bc_enter.specs.Begun.{IsBegun, IsUnsealed}
 use Rattle.bc_enter.specs.Next.{IsNext, IsOdd}
+use Rattle.bc_enter.specs.declared.next.Next.{Next}
+use Rattle.bc_enter.specs.declared.next.Unsealed.{Unsealed}
 use Rattle.bc_enter.proofs.Low.{IsNeeded, IsReached}
 use Rattle.bc_enter.proofs.Rooms.{after_is, behind_last, free_greatest, greatest_free, in_front, one_block, one_next}
 
@@ -193,3 +196,23 @@ module _ (g : Geometry) (read : Read) (fit : IsFit g read.all read.entries) (j :
       let last = ap number_of (is ∙ ap (λ (k : Journal). record k { needed = low }) r.is) in
       let number = subst (λ (e : FoundEntry). e.item.seq < last_numbers) newest_is fit.number in
       omega (arith, last, number, end)
+
+  pub numbered : (low : ℕ) (old : Journal) → old ≡ record j { needed = low } → number_of old < 2 ^ 63
+  numbered low old is =
+      let last = ap number_of (is ∙ ap (λ (k : Journal). record k { needed = low }) r.is) in
+      let number = subst (λ (e : FoundEntry). e.item.seq < last_numbers) newest_is fit.number in
+      omega (arith, last, number)
+
+-- the entry that such a journal seals is the one that comes next
+pub sealed_next : (g : Geometry) (read : Read) → IsFit g read.all read.entries → (u : Unsealed) (n : Next)
+    → IsUnsealed g read u → IsSealed u.journal u.heads n.sealed n.journal → IsBegun g read n
+sealed_next g read fit u n h sealed =
+    let low : n.sealed.entry.last_seq ≡ h.low = ap (λ (e : JEntry). e.last_seq) sealed.entry ∙ ap (λ (j : Journal). j.needed) h.is in
+    record {
+      entry = is_next g read fit h.from h.resumed h.low u.journal n.journal u.heads n.sealed h.is sealed h.needs.reached h.needs.most h.needs.needed h.heads;
+      from = h.from;
+      resumed = h.resumed;
+      heads = u.heads;
+      sealed = subst (λ (j : Journal). IsSealed j u.heads n.sealed n.journal)
+          (h.is ∙ ap (λ k. record h.from { needed = k }) (sym low)) sealed;
+    }

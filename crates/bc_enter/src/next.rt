@@ -5,7 +5,7 @@ ghost use Rattle.bc_entries.specs.Reading.{StandsWithin};
 ghost use Rattle.bc_jset.specs.Entries.{FoundEntry};
 ghost use Rattle.bc_jset.specs.EntryBytes.{IsLevel};
 ghost use Rattle.bc_enter.specs.Next.{IsOdd};
-ghost use Rattle.bc_enter.specs.Begun.{IsBegun};
+ghost use Rattle.bc_enter.specs.Begun.{IsBegun, IsUnsealed, names_of};
 
 use crate::needed::oldest_needed;
 use bc_disk::geometry::Geometry;
@@ -34,12 +34,7 @@ fn has_level(e: &JEntry) -> bool
 
 /// What an entry names.
 fn heads_of(e: &JEntry) -> Heads
-    ensures { result ≡ record {
-      uuid_bucket = e.now.uuid_bucket;
-      root = e.now.root;
-      level = e.now.level;
-      prio = e.now.prio;
-    } }
+    ensures { result ≡ names_of e.now }
 {
     Heads {
         uuid_bucket: e.uuid_bucket,
@@ -49,6 +44,13 @@ fn heads_of(e: &JEntry) -> Heads
     }
 }
 
+/// The journal that goes on behind what was read, and what its next entry names.
+#[derive(Drop)]
+pub struct Unsealed {
+    pub journal: Journal,
+    pub heads: Heads,
+}
+
 /// The entry that comes next, which is to be written, and the journal that waits for it.
 #[derive(Drop)]
 pub struct Next {
@@ -56,14 +58,18 @@ pub struct Next {
     pub sealed: Sealed,
 }
 
-/// The entry that an opening writes behind those that were read of a device, sealed, with its place
-/// in the journal's ring. `None` comes only where the newest of these tells no level of a root, or
-/// still needs an entry of number 0. Takes the memory of two entries and of a number for each
-/// journal bucket. The time is linear in the number of entries.
-pub fn next_entry(alloc: Global, g: &Geometry, read: &Entries) -> Result<Option<Next>, AllocError>
+/// A journal that goes on behind the entries that were read of a device, before the entry that an
+/// opening writes is sealed, and what that names. `None` comes only where the newest of these tells
+/// no level of a root, or still needs an entry of number 0. Takes the memory of two entries and of a
+/// number for each journal bucket. The time is linear in the number of entries.
+pub fn next_journal(
+    alloc: Global,
+    g: &Geometry,
+    read: &Entries,
+) -> Result<Option<Unsealed>, AllocError>
     requires fit { IsFit g.now read.now.all read.now.entries }
     requires places { All (StandsWithin g.now) read.now.all }
-    ensures some { IfOk result (λ o. IfSome o (IsBegun g.now read.now)) }
+    ensures some { IfOk result (λ o. IfSome o (IsUnsealed g.now read.now)) }
     ensures none { IfOk result (λ o. IfNone o (IsOdd read.now)) }
 {
     let newest = last_entry(read);
@@ -72,7 +78,23 @@ pub fn next_entry(alloc: Global, g: &Geometry, read: &Entries) -> Result<Option<
         return Ok(None);
     }
     journal.reclaim_to(oldest_needed(read, journal.number()));
-    let Ok(sealed) = journal.seal(&heads_of(&newest.item)) else {
+    let heads = heads_of(&newest.item);
+    Ok(Some(Unsealed { journal, heads }))
+}
+
+/// The entry that an opening writes behind those that were read of a device, sealed, with its place
+/// in the journal's ring. `None`, memory and time are as of `next_journal`.
+pub fn next_entry(alloc: Global, g: &Geometry, read: &Entries) -> Result<Option<Next>, AllocError>
+    requires fit { IsFit g.now read.now.all read.now.entries }
+    requires places { All (StandsWithin g.now) read.now.all }
+    ensures some { IfOk result (λ o. IfSome o (IsBegun g.now read.now)) }
+    ensures none { IfOk result (λ o. IfNone o (IsOdd read.now)) }
+{
+    let Some(unsealed) = next_journal(alloc, g, read)? else {
+        return Ok(None);
+    };
+    let Unsealed { mut journal, heads } = unsealed;
+    let Ok(sealed) = journal.seal(&heads) else {
         unreachable!()
     };
     Ok(Some(Next { journal, sealed }))
