@@ -9,3 +9,4 @@ pub mod Sealing
 pub mod Putting
 pub mod Begun
 pub mod Lasting
+pub mod Waiting

@@ -1,5 +1,7 @@
 -- What the first seat of a run knows as the run begins.
-use Rattle.std.specs.Prelude.{◌≡◌, ℕ, suc, ◌≤◌, List, [], Some}
+use Rattle.std.specs.Prelude.{◌≡◌, ℕ, suc, ◌+◌, ◌<◌, ◌≤◌, List, [], Some, IfSome, length, slice_get}
+use Rattle.bc_cache.specs.Slots.{NodeCache}
+use Rattle.bc_cache.specs.declared.slots.Cached.{Cached}
 use Rattle.bc_disk.specs.Disk.{DiskFacts}
 use Rattle.bc_hand.specs.Seats.{View, core, world}
 use Rattle.bc_journal.specs.Journal.{Journal}
@@ -8,7 +10,7 @@ use Rattle.bc_jset.specs.Entries.{AreEntries, FoundEntry}
 use Rattle.bc_jset.specs.declared.entry.JEntry.{JEntry}
 use Rattle.bc_events.specs.Run.{State}
 use Rattle.bc_events.specs.declared.event.Event.{Event}
-use Rattle.bc_machine.specs.World.{FromEach, Origin, World, after}
+use Rattle.bc_machine.specs.World.{Begun, FromEach, Origin, World, after}
 use Rattle.bc_seats.specs.Seats.{Waited}
 use Rattle.bc_entry.specs.Seal.{AreNamed, NeedsNone}
 
@@ -35,6 +37,17 @@ LawAlone {C} {B} cache_facts backing_facts = (v w : View {C = C} {B = B} cache_f
     → v.first ≡ 0 → 320 ≤ v.end → Waited (core cache_facts backing_facts) v w
     → world cache_facts backing_facts w ≡ world cache_facts backing_facts v
 
+-- the leaves of a part wait for keys of no entry below this one
+abbrev pub WaitFrom : ℕ → NodeCache → Type 0
+WaitFrom low cache = (i : ℕ) (c : Cached) → slice_get cache.slots i ≡ Some (Some c)
+    → IfSome c.leaf.entries (λ e. low ≤ e.first)
+
+-- so it is of each part of leaves with which a run begins, of which there is one at least
+pub record AllWaitFrom (low : ℕ) (b : Begun) : Type 0 where
+  pub some : 0 < length b.leaves
+  pub each : b.leaf_parts ≡ length b.leaves
+  pub from : (i : ℕ) (cache : NodeCache) → slice_get b.leaves i ≡ Some cache → WaitFrom low cache
+
 -- No leaf waits for a key of an entry below this one, and the next entry isn't below it.
 pub record NeedsFrom (low : ℕ) (o : Origin) (st : State) : Type 0 where
   pub needs : NeedsNone low o st
@@ -45,3 +58,14 @@ pub record NeedsFrom (low : ℕ) (o : Origin) (st : State) : Type 0 where
 abbrev pub LawLasts : Type 0
 LawLasts = (x : World) (e : Event) (low : ℕ) → FromEach x (NeedsFrom low)
     → FromEach (after x e) (NeedsFrom low)
+
+-- Before a run's first event no leaf of the machine waits for a key of an older entry than those in
+-- memory do: what isn't in memory waits for none, and no change of the tree is under way.
+abbrev pub LawNeeds : Type 0
+LawNeeds = (x : World) (low : ℕ) → x.log ≡ [] → AllWaitFrom low x.begun
+    → FromEach x (NeedsNone low)
+
+-- And it goes on to wait for none, if the journal's next entry isn't below that either.
+abbrev pub LawNeedsFrom : Type 0
+LawNeedsFrom = (x : World) (low : ℕ) (j : Journal) → x.log ≡ [] → AllWaitFrom low x.begun
+    → x.begun.journal ≡ Some j → low ≤ j.durable.seq + 1 → FromEach x (NeedsFrom low)
