@@ -1,8 +1,7 @@
 -- An entry as steps one behind the other.
-use Rattle.std.proofs.Common.{◌≡◌, true, List, [], ◌∷◌, Option, Some, None, refl, sym, ap, ◌∙◌, subst}
+use Rattle.std.proofs.Common.{◌≡◌, inl, inr, true, List, [], ◌∷◌, Option, Some, None, refl, sym, ap, ◌∙◌, subst}
 use Rattle.std.specs.Prelude.{Result, Ok, Err, IfErr, OnErr, OnOk, is_some}
 use Rattle.bc_disk.specs.Disk.{DiskFacts}
-use Rattle.bc_disk.specs.declared.disk.Device.TheVariants.{Cache}
 use Rattle.bc_disk.specs.declared.geometry.Geometry.{Geometry}
 use Rattle.bc_facts.specs.Seen.{seen_entry}
 use Rattle.bc_jset.specs.declared.entry.JEntry.{JEntry}
@@ -11,24 +10,27 @@ use Rattle.bc_meta.specs.Entries.{Entry}
 use Rattle.bc_events.specs.declared.event.Deed.{Deed}
 use Rattle.bc_events.specs.declared.event.Deed.TheVariants as deed
 use Rattle.bc_events.specs.declared.event.Event.{Event}
-use Rattle.bc_events.specs.declared.event.Failure.TheVariants as failure
-use Rattle.bc_events.specs.declared.event.Written.TheVariants as written
-use Rattle.bc_hand.specs.Seats.{Did, Kinds, kinds}
+use Rattle.bc_hand.specs.Seats.{Did, Kinds, kinds, world}
 use Rattle.bc_hand.specs.declared.hand.Hand.{Hand}
 use Rattle.bc_hand.specs.declared.error.StepError.{StepError}
 use Rattle.bc_hand.specs.declared.error.StepError.TheVariants as error
 use Rattle.bc_hand.proofs.Knowing.{View}
-use Rattle.bc_deed.specs.Asked.{IsHalted}
+use Rattle.bc_deed.specs.Asked.{IsHalted, IsHaltedOr}
 use Rattle.bc_deed.specs.Flushed.{HasDone}
 use Rattle.bc_deed.proofs.Sequence.{done_one, done_then}
 use Rattle.bc_journal.specs.Journal.{IsSealed, Journal}
-use Rattle.bc_journal.specs.Sealed.{Sealed, numbers_of, sector_at}
+use Rattle.bc_journal.specs.Sealed.{Sealed, numbers_of}
 use Rattle.bc_journal.specs.declared.heads.Heads.{Heads}
 use Rattle.bc_entry.specs.Entry.{HasJournalAndCache, IsNewestEntry}
 use Rattle.bc_entry.specs.Failed.{HasFailedAtCache, HasFailedToWrite, HasWritten}
-use Rattle.bc_entry.specs.Put.{GoesOn, IsCause, IsCut, IsPut}
-use Rattle.bc_entry.specs.Seal.{AreNamed, HasSealed, IsNamed, begun_by}
+use Rattle.bc_entry.specs.Put.{GoesOn, HasCut, HasPut, IsCause, IsCutBehind, IsNoFault, failed_barrier, lost_by, seal_by, write_by}
+use Rattle.bc_entry.specs.Seal.{AreNamed, HasSealed, IsNamed}
 use Rattle.bc_entry.proofs.Ending.{with_durable}
+
+pub if_err : {A E : Type 0} {P Q : E → Type 0} (r : Result A E) → ((e : E) → P e → Q e)
+    → IfErr r P → IfErr r Q
+if_err (Ok a) f h = tt
+if_err (Err e) f h = f e h
 
 -- ---- what is in hand
 
@@ -65,6 +67,27 @@ ended_hand (Ok u) h new s j is cache good bad = sealed_hand h new (with_durable 
     (record { journal = ap is_some is; cache = cache })
 ended_hand (Err e) h new s j is cache good bad = subst (λ (x : Hand _ _). HasJournalAndCache x)
     (sym bad) (record { journal = ap is_some is; cache = cache })
+
+-- ---- which kinds are in hand
+
+pub sealed_kinds : {C B : Type 0} (h new : Hand C B) (k : Journal)
+    → new ≡ record h { journal = Some k } → is_some h.journal ≡ true → kinds new ≡ kinds h
+sealed_kinds h new k is some = ap kinds is
+    ∙ ap (λ b. record (kinds h) { journal = b }) (sym some)
+
+pub cache_kinds : {C B : Type 0} (h new : Hand C B) → new ≡ record h { cache = new.cache }
+    → is_some h.cache ≡ true → is_some new.cache ≡ true → kinds new ≡ kinds h
+cache_kinds h new is was some = ap kinds is
+    ∙ ap (λ b. record (kinds h) { cache = b }) (some ∙ sym was)
+
+pub ended_kinds : {C B E : Type 0} (r : Result (Unit {0}) E) (h new : Hand C B) (s : Sealed)
+    (j : Journal) → h.journal ≡ Some j
+    → OnOk r ((j : Journal) → h.journal ≡ Some j
+    → new ≡ record h { journal = Some (with_durable s j) }) → OnErr r (new ≡ h)
+    → kinds new ≡ kinds h
+ended_kinds (Ok u) h new s j is good bad =
+    sealed_kinds h new (with_durable s j) (good j is) (ap is_some is)
+ended_kinds (Err e) h new s j is good bad = ap kinds bad
 
 -- ---- the journal behind it
 
@@ -105,13 +128,6 @@ journal_put (Ok u) h new w first j heads s k at is in_hand good knows = (
 journal_put (Err e) h new w first j heads s k at is in_hand good knows = tt
 
 module _ {C B : Type 0} (cache_facts : C → DiskFacts) (backing_facts : B → DiskFacts) where
-  abbrev Way : (List Deed → Type 0) → View cache_facts backing_facts
-      → View cache_facts backing_facts → Type 0
-  Way P v w = (deeds : List Deed) × P deeds × HasDone cache_facts backing_facts deeds v w
-
-  abbrev failed_barrier : Deed
-  failed_barrier = deed.DeviceFault (failure.Barrier Cache)
-
   -- ---- why it came no further
 
   pub cause_barrier : (e : StepError) (v w : View cache_facts backing_facts)
@@ -138,27 +154,55 @@ module _ {C B : Type 0} (cache_facts : C → DiskFacts) (backing_facts : B → D
 
   -- ---- how far it came
 
-  pub cut_seal : (t u : View cache_facts backing_facts) → Did cache_facts backing_facts None t u
-      → Way IsCut t u
-  cut_seal t u h = ([], tt, done_one cache_facts backing_facts None t u h)
+  no_fault : (e : StepError) (es : List Event) → IsHaltedOr e es → IsNoFault e
+  no_fault (error.Fault device) es h = absurd h
+  no_fault (error.Halted device) es h = tt
+  no_fault error.Memory es h = tt
 
-  module _ (j : Journal) (s : Sealed) (t u : View cache_facts backing_facts)
-      (a : HasSealed cache_facts backing_facts j s t u) where
+  pub cut_seal : (e : StepError) (j : Journal) (heads : Heads)
+      (t u : View cache_facts backing_facts) → IsHaltedOr e u.seen
+      → Did cache_facts backing_facts None t u → HasCut cache_facts backing_facts e j heads t u
+  cut_seal e j heads t u halted h = record {
+    deeds = [];
+    cut = inl (no_fault e u.seen halted, refl);
+    done = done_one cache_facts backing_facts None t u h;
+  }
+
+  module _ (j : Journal) (heads : Heads) (s : Sealed) (k : Journal) (is : IsSealed j heads s k)
+      (t u : View cache_facts backing_facts) (a : HasSealed cache_facts backing_facts j s t u) where
     abbrev seal : Deed
-    seal = deed.Seal s.entry.last_seq (begun_by j) a.rest None None
+    seal = seal_by j s a.rest
+
+    abbrev Cut : StepError → View cache_facts backing_facts → Type 0
+    Cut e x = HasCut cache_facts backing_facts e j heads t x
+
+    cut_at : (e : StepError) (more : List Deed) (x : View cache_facts backing_facts)
+        → IsCutBehind e s more → HasDone cache_facts backing_facts (seal ∷ more) t x → Cut e x
+    cut_at e more x cut done = record {
+      deeds = seal ∷ more;
+      cut = inr (record {
+        sealed = s;
+        behind = k;
+        entry = is;
+        rest = a.rest;
+        rest_is = a.rest_is;
+        more = more;
+        cut = cut;
+        is = refl;
+      });
+      done = done;
+    }
 
     one : HasDone cache_facts backing_facts (seal ∷ []) t u
     one = done_one cache_facts backing_facts (Some seal) t u a.did
 
     pub cut_barrier : (e : StepError) (v : View cache_facts backing_facts)
-        → HasFailedAtCache cache_facts backing_facts e failed_barrier u v → Way IsCut t v
-    cut_barrier (error.Fault device) v h = (
-      seal ∷ failed_barrier ∷ [],
-      tt,
-      done_then cache_facts backing_facts (seal ∷ []) (Some failed_barrier) t u v one h.1,
-    )
-    cut_barrier (error.Halted device) v h =
-        (seal ∷ [], tt, done_then cache_facts backing_facts (seal ∷ []) None t u v one h.1)
+        → HasFailedAtCache cache_facts backing_facts e failed_barrier u v → Cut e v
+    cut_barrier (error.Fault device) v h =
+        cut_at (error.Fault device) (failed_barrier ∷ []) v (h.0, inl refl)
+        (done_then cache_facts backing_facts (seal ∷ []) (Some failed_barrier) t u v one h.1)
+    cut_barrier (error.Halted device) v h = cut_at (error.Halted device) [] v (inl refl)
+        (done_then cache_facts backing_facts (seal ∷ []) None t u v one h.1)
     cut_barrier error.Memory v h = absurd h
 
     module _ (v : View cache_facts backing_facts)
@@ -166,32 +210,28 @@ module _ {C B : Type 0} (cache_facts : C → DiskFacts) (backing_facts : B → D
       two : HasDone cache_facts backing_facts (seal ∷ deed.CacheBarrier ∷ []) t v
       two = done_then cache_facts backing_facts (seal ∷ []) (Some deed.CacheBarrier) t u v one b
 
+      none_more : (w : View cache_facts backing_facts) → Did cache_facts backing_facts None v w
+          → HasDone cache_facts backing_facts (seal ∷ deed.CacheBarrier ∷ []) t w
+      none_more w h = done_then cache_facts backing_facts (seal ∷ deed.CacheBarrier ∷ []) None t v
+          w two h
+
       pub cut_write : (e : StepError) (w : View cache_facts backing_facts)
-          → HasFailedToWrite cache_facts backing_facts e s v w → Way IsCut t w
+          → HasFailedToWrite cache_facts backing_facts e s v w → Cut e w
       cut_write (error.Fault device) w h =
-          let fault = deed.DeviceFault
-          (failure.CacheWrite (sector_at s.geometry s.place) written.Entry h.1.0) in (
-            seal ∷ deed.CacheBarrier ∷ fault ∷ [],
-            tt,
-            done_then cache_facts backing_facts (seal ∷ deed.CacheBarrier ∷ []) (Some fault) t v w
-                two
-                h.1.2,
-          )
-      cut_write (error.Halted device) w h = (
-        seal ∷ deed.CacheBarrier ∷ [],
-        tt,
-        done_then cache_facts backing_facts (seal ∷ deed.CacheBarrier ∷ []) None t v w two h.1,
-      )
-      cut_write error.Memory w h = (
-        seal ∷ deed.CacheBarrier ∷ [],
-        tt,
-        done_then cache_facts backing_facts (seal ∷ deed.CacheBarrier ∷ []) None t v w two h,
-      )
+          let lost = lost_by s h.1.0 in
+          cut_at (error.Fault device) (deed.CacheBarrier ∷ lost ∷ []) w
+          (h.0, inr (h.1.0, h.1.1, inl refl))
+          (done_then cache_facts backing_facts (seal ∷ deed.CacheBarrier ∷ []) (Some lost) t v w two
+          h.1.2)
+      cut_write (error.Halted device) w h = cut_at (error.Halted device) (deed.CacheBarrier ∷ []) w
+          (inr (inl refl)) (none_more w h.1)
+      cut_write error.Memory w h = cut_at error.Memory (deed.CacheBarrier ∷ []) w refl
+          (none_more w h)
 
       module _ (w : View cache_facts backing_facts)
           (d : HasWritten cache_facts backing_facts s v w) where
         abbrev write : Deed
-        write = deed.CacheWrite (sector_at s.geometry s.place) written.Entry d.0
+        write = write_by s d.0
 
         three : HasDone cache_facts backing_facts (seal ∷ deed.CacheBarrier ∷ write ∷ []) t w
         three = done_then cache_facts backing_facts (seal ∷ deed.CacheBarrier ∷ []) (Some write) t
@@ -199,20 +239,16 @@ module _ {C B : Type 0} (cache_facts : C → DiskFacts) (backing_facts : B → D
             two d.2
 
         pub cut_again : (e : StepError) (x : View cache_facts backing_facts)
-            → HasFailedAtCache cache_facts backing_facts e failed_barrier w x → Way IsCut t x
-        cut_again (error.Fault device) x h = (
-          seal ∷ deed.CacheBarrier ∷ write ∷ failed_barrier ∷ [],
-          tt,
-          done_then cache_facts backing_facts (seal ∷ deed.CacheBarrier ∷ write ∷ [])
-              (Some failed_barrier) t w x three h.1,
-        )
-        cut_again (error.Halted device) x h = (
-          seal ∷ deed.CacheBarrier ∷ write ∷ [],
-          tt,
-          done_then cache_facts backing_facts (seal ∷ deed.CacheBarrier ∷ write ∷ []) None t w x
-              three
-              h.1,
-        )
+            → HasFailedAtCache cache_facts backing_facts e failed_barrier w x → Cut e x
+        cut_again (error.Fault device) x h = cut_at (error.Fault device)
+            (deed.CacheBarrier ∷ write ∷ failed_barrier ∷ []) x
+            (h.0, inr (d.0, d.1, inr refl))
+            (done_then cache_facts backing_facts (seal ∷ deed.CacheBarrier ∷ write ∷ [])
+            (Some failed_barrier) t w x three h.1)
+        cut_again (error.Halted device) x h = cut_at (error.Halted device)
+            (deed.CacheBarrier ∷ write ∷ []) x (inr (inr (d.0, d.1, inl refl)))
+            (done_then cache_facts backing_facts (seal ∷ deed.CacheBarrier ∷ write ∷ []) None t w x
+            three h.1)
         cut_again error.Memory x h = absurd h
 
         module _ (x : View cache_facts backing_facts)
@@ -225,15 +261,38 @@ module _ {C B : Type 0} (cache_facts : C → DiskFacts) (backing_facts : B → D
           four = done_then cache_facts backing_facts (seal ∷ deed.CacheBarrier ∷ write ∷ [])
               (Some deed.CacheBarrier) t w x three f
 
-          pub all_done : Did cache_facts backing_facts (Some deed.Sealed) x y → Way IsPut t y
-          all_done g = (
-            seal ∷ deed.CacheBarrier ∷ write ∷ deed.CacheBarrier ∷ deed.Sealed ∷ [],
-            tt,
-            done_then cache_facts backing_facts most (Some deed.Sealed) t x y four g,
-          )
+          pub all_done : (r : Result (Unit {0}) StepError)
+              → OnOk r (Did cache_facts backing_facts (Some deed.Sealed) x y)
+              → OnOk r (FromEach (world cache_facts backing_facts y)
+              (IsNewestEntry s.geometry s.entry))
+              → OnOk r (HasPut cache_facts backing_facts j heads t y)
+          all_done (Ok z) g knows = record {
+            sealed = s;
+            behind = k;
+            entry = is;
+            deeds = seal ∷ deed.CacheBarrier ∷ write ∷ deed.CacheBarrier ∷ deed.Sealed ∷ [];
+            put = record {
+              rest = a.rest;
+              rest_is = a.rest_is;
+              values = d.0;
+              values_are = d.1;
+              is = refl;
+            };
+            done = done_then cache_facts backing_facts most (Some deed.Sealed) t x y four g;
+            newest = knows;
+          }
+          all_done (Err e) g knows = tt
 
-          pub cut_end : (r : Result (Unit {0}) StepError)
-              → OnErr r (Did cache_facts backing_facts None x y) → IfErr r (λ e. Way IsCut t y)
-          cut_end (Ok z) h = tt
-          cut_end (Err e) h =
-              (most, tt, done_then cache_facts backing_facts most None t x y four h)
+          none_left : (e : StepError) → IsHalted e y.seen
+              → Did cache_facts backing_facts None x y → Cut e y
+          none_left (error.Fault device) halted h = absurd halted
+          none_left (error.Halted device) halted h = cut_at (error.Halted device)
+              (deed.CacheBarrier ∷ write ∷ deed.CacheBarrier ∷ []) y
+              (inr (inr (d.0, d.1, inr refl)))
+              (done_then cache_facts backing_facts most None t x y four h)
+          none_left error.Memory halted h = absurd halted
+
+          pub cut_end : (r : Result (Unit {0}) StepError) → IfErr r (λ e. IsHalted e y.seen)
+              → OnErr r (Did cache_facts backing_facts None x y) → IfErr r (λ e. Cut e y)
+          cut_end (Ok z) halted h = tt
+          cut_end (Err e) halted h = none_left e halted h

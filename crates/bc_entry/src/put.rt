@@ -1,11 +1,9 @@
 //! An entry of the journal, as the steps that it takes.
-ghost use Rattle.std.specs.Prelude.{◌≡◌, ◌*◌, ◌≤◌, List, false, Some, OnOk, IfErr};
-ghost use Rattle.bc_deed.specs.Flushed.{HasDone};
+ghost use Rattle.std.specs.Prelude.{◌≡◌, ◌*◌, ◌≤◌, false, Some, OnOk, IfErr};
 ghost use Rattle.bc_entry.specs.Entry.{HasJournalAndCache};
-ghost use Rattle.bc_entry.specs.Put.{GoesOn, IsCause, IsCut, IsPut};
+ghost use Rattle.bc_entry.specs.Put.{GoesOn, HasCut, HasPut, IsCause};
 ghost use Rattle.bc_entry.specs.Seal.{AreNamed, CanSeal, NeedsNone};
-ghost use Rattle.bc_events.specs.declared.event.Deed.{Deed};
-ghost use Rattle.bc_hand.specs.Seats.{Works, world};
+ghost use Rattle.bc_hand.specs.Seats.{Works, kinds, world};
 ghost use Rattle.bc_journal.specs.Journal.{Journal};
 ghost use Rattle.bc_jset.specs.EntryBytes.{IsLevel};
 ghost use Rattle.bc_machine.specs.World.{FromEach, are_plain, cache_among};
@@ -26,9 +24,10 @@ use std::sync::Wait;
 /// before does. The journal and the cache device are in hand, and stay so; what the next entry asks
 /// of names is known again.
 ///
-/// An error is a call of the device that failed, a device that had halted the run before, or want
-/// of memory; how far the entry came then is told by the seat's own deeds. Behind a seal that came
-/// no further no other entry is sealed.
+/// An error is a call of the device that failed, which is the last deed then; a device that had
+/// halted the run before; or want of memory, before the seal or before the write. How far the entry
+/// came is told by the seat's own deeds. Behind a seal that came no further no other entry is
+/// sealed.
 pub fn put_entry<C: Disk + Drop, B: Disk + Drop, R: Wait>(
     rt: &R,
     alloc: Global,
@@ -49,13 +48,14 @@ pub fn put_entry<C: Disk + Drop, B: Disk + Drop, R: Wait>(
         × FromEach (world C.facts B.facts seat.old) (NeedsNone j.needed) }
     ensures works { Works C.facts B.facts parts.now seat.new hand.new }
     ensures hand { HasJournalAndCache hand.new }
+    ensures kinds { kinds hand.new ≡ kinds hand.old }
     ensures journal { OnOk result ((j k : Journal) × (hand.old.journal ≡ Some j)
         × (hand.new.journal ≡ Some k) × GoesOn j heads.now k
         × FromEach (world C.facts B.facts seat.new) (AreNamed k.ring.geometry heads.now)) }
-    ensures ok { OnOk result ((deeds : List Deed) × IsPut deeds
-        × HasDone C.facts B.facts deeds seat.old seat.new) }
-    ensures err { IfErr result (λ error. (deeds : List Deed) × IsCut deeds
-        × HasDone C.facts B.facts deeds seat.old seat.new) }
+    ensures ok { OnOk result ((j : Journal) × (hand.old.journal ≡ Some j)
+        × HasPut C.facts B.facts j heads.now seat.old seat.new) }
+    ensures err { IfErr result (λ error. (j : Journal) × (hand.old.journal ≡ Some j)
+        × HasCut C.facts B.facts error j heads.now seat.old seat.new) }
     ensures cause { IfErr result (λ error. IsCause error seat.new.seen) }
 {
     let entry = match seal(rt, alloc, parts, seat, hand, heads) {

@@ -1,17 +1,30 @@
+use Rattle.std.proofs.Common.{◌∙◌}
 use Rattle.bc_hand.specs.Seats.{world}
 use Rattle.bc_hand.proofs.Knowing.{map_ok}
-use Rattle.bc_entry.proofs.Putting.{all_done, cause_barrier, cause_end, cause_write, cut_again, cut_barrier, cut_end, cut_seal, cut_write, ended_hand, has_cache, journal_put, sealed_hand, kept_journal, sealed_numbers_are}
+use Rattle.bc_entry.proofs.Putting.{all_done, cache_kinds, cause_barrier, cause_end, cause_write, cut_again, cut_barrier, cut_end, cut_seal, cut_write, ended_hand, ended_kinds, has_cache, if_err, journal_put, sealed_hand, sealed_kinds, kept_journal, sealed_numbers_are}
 use Rattle.bc_entry.proofs.put.put_entry.Goals as goal
 
 pub returns-in-Err-clause-err : goal.returns-in-Err-clause-err
-returns-in-Err-clause-err g c = cut_seal g.C.Disk.facts g.B.Disk.facts c.args.seat.now
-    c.seal.new.seat c.in-Err.ensures.err
+returns-in-Err-clause-err g c = (
+  c.requires.journal.0,
+  c.requires.journal.1,
+  cut_seal g.C.Disk.facts g.B.Disk.facts c.in-Err.error c.requires.journal.0 c.args.heads.now
+      c.args.seat.now c.seal.new.seat c.in-Err.ensures.cause c.in-Err.ensures.err,
+)
+
+pub returns-in-Err-cache_barrier-clause-kinds : goal.returns-in-Err-cache_barrier-clause-kinds
+returns-in-Err-cache_barrier-clause-kinds g c = let ok = c.in-Ok.ensures.ok in
+    c.cache_barrier.ensures.hand ∙ sealed_kinds c.args.hand.now c.seal.new.hand ok.1 ok.3
+    c.requires.hand.journal
 
 pub returns-in-Err-cache_barrier-clause-err : goal.returns-in-Err-cache_barrier-clause-err
-returns-in-Err-cache_barrier-clause-err g c = let ok = c.in-Ok.ensures.ok in
-    cut_barrier g.C.Disk.facts g.B.Disk.facts ok.0 c.in-Ok.entry c.args.seat.now c.seal.new.seat
-    ok.5
-    c.in-Err-cache_barrier.error c.cache_barrier.new.seat c.in-Err-cache_barrier.ensures.err
+returns-in-Err-cache_barrier-clause-err g c = let ok = c.in-Ok.ensures.ok in (
+  ok.0,
+  ok.2,
+  cut_barrier g.C.Disk.facts g.B.Disk.facts ok.0 c.args.heads.now c.in-Ok.entry ok.1 ok.4
+      c.args.seat.now c.seal.new.seat ok.5 c.in-Err-cache_barrier.error c.cache_barrier.new.seat
+      c.in-Err-cache_barrier.ensures.err,
+)
 
 pub returns-in-Err-cache_barrier-clause-cause : goal.returns-in-Err-cache_barrier-clause-cause
 returns-in-Err-cache_barrier-clause-cause g c = cause_barrier g.C.Disk.facts g.B.Disk.facts
@@ -23,23 +36,50 @@ write_entry-requires-clause-ready g c = let ok = c.in-Ok.ensures.ok in
     (c.in-Ok-cache_barrier.ensures.firm (sealed_hand c.args.hand.now c.seal.new.hand ok.1 ok.3
     c.requires.hand)).ready c.in-Ok.entry c.in-Ok.ensures.knows
 
+pub returns-in-Err-write_entry-clause-kinds : goal.returns-in-Err-write_entry-clause-kinds
+returns-in-Err-write_entry-clause-kinds g c = let ok = c.in-Ok.ensures.ok in
+    cache_kinds c.cache_barrier.new.hand c.write_entry.new.hand c.write_entry.ensures.rest
+    (has_cache c.seal.new.hand c.cache_barrier.new.hand c.cache_barrier.ensures.hand
+    (sealed_hand c.args.hand.now c.seal.new.hand ok.1 ok.3 c.requires.hand).cache)
+    c.write_entry.ensures.hand.cache
+    ∙ c.cache_barrier.ensures.hand ∙ sealed_kinds c.args.hand.now c.seal.new.hand ok.1 ok.3
+    c.requires.hand.journal
+
 pub returns-in-Err-write_entry-clause-err : goal.returns-in-Err-write_entry-clause-err
-returns-in-Err-write_entry-clause-err g c = let ok = c.in-Ok.ensures.ok in
-    cut_write g.C.Disk.facts g.B.Disk.facts ok.0 c.in-Ok.entry c.args.seat.now c.seal.new.seat ok.5
-    c.cache_barrier.new.seat c.in-Ok-cache_barrier.ensures.ok c.in-Err-write_entry.error
-    c.write_entry.new.seat c.in-Err-write_entry.ensures.err
+returns-in-Err-write_entry-clause-err g c = let ok = c.in-Ok.ensures.ok in (
+  ok.0,
+  ok.2,
+  cut_write g.C.Disk.facts g.B.Disk.facts ok.0 c.args.heads.now c.in-Ok.entry ok.1 ok.4
+      c.args.seat.now c.seal.new.seat ok.5 c.cache_barrier.new.seat
+      c.in-Ok-cache_barrier.ensures.ok c.in-Err-write_entry.error c.write_entry.new.seat
+      c.in-Err-write_entry.ensures.err,
+)
 
 pub returns-in-Err-write_entry-clause-cause : goal.returns-in-Err-write_entry-clause-cause
 returns-in-Err-write_entry-clause-cause g c = cause_write g.C.Disk.facts g.B.Disk.facts
     c.in-Err-write_entry.error c.in-Ok.entry c.cache_barrier.new.seat c.write_entry.new.seat
     c.in-Err-write_entry.ensures.err
 
+pub returns-in-Err-cache_barrier-2-clause-kinds : goal.returns-in-Err-cache_barrier-2-clause-kinds
+returns-in-Err-cache_barrier-2-clause-kinds g c = let ok = c.in-Ok.ensures.ok in
+    c.cache_barrier-2.ensures.hand
+    ∙ cache_kinds c.cache_barrier.new.hand c.write_entry.new.hand c.write_entry.ensures.rest
+    (has_cache c.seal.new.hand c.cache_barrier.new.hand c.cache_barrier.ensures.hand
+    (sealed_hand c.args.hand.now c.seal.new.hand ok.1 ok.3 c.requires.hand).cache)
+    c.write_entry.ensures.hand.cache
+    ∙ c.cache_barrier.ensures.hand ∙ sealed_kinds c.args.hand.now c.seal.new.hand ok.1 ok.3
+    c.requires.hand.journal
+
 pub returns-in-Err-cache_barrier-2-clause-err : goal.returns-in-Err-cache_barrier-2-clause-err
-returns-in-Err-cache_barrier-2-clause-err g c = let ok = c.in-Ok.ensures.ok in
-    cut_again g.C.Disk.facts g.B.Disk.facts ok.0 c.in-Ok.entry c.args.seat.now c.seal.new.seat ok.5
-    c.cache_barrier.new.seat c.in-Ok-cache_barrier.ensures.ok c.write_entry.new.seat
-    c.in-Ok-write_entry.ensures.ok c.in-Err-cache_barrier-2.error c.cache_barrier-2.new.seat
-    c.in-Err-cache_barrier-2.ensures.err
+returns-in-Err-cache_barrier-2-clause-err g c = let ok = c.in-Ok.ensures.ok in (
+  ok.0,
+  ok.2,
+  cut_again g.C.Disk.facts g.B.Disk.facts ok.0 c.args.heads.now c.in-Ok.entry ok.1 ok.4
+      c.args.seat.now c.seal.new.seat ok.5 c.cache_barrier.new.seat
+      c.in-Ok-cache_barrier.ensures.ok c.write_entry.new.seat c.in-Ok-write_entry.ensures.ok
+      c.in-Err-cache_barrier-2.error c.cache_barrier-2.new.seat
+      c.in-Err-cache_barrier-2.ensures.err,
+)
 
 pub make_durable-requires-clause-journal : goal.make_durable-requires-clause-journal
 make_durable-requires-clause-journal g c = let ok = c.in-Ok.ensures.ok in (
@@ -66,20 +106,39 @@ returns-clause-hand g c = let ok = c.in-Ok.ensures.ok in
     (has_cache c.write_entry.new.hand c.cache_barrier-2.new.hand c.cache_barrier-2.ensures.hand
     c.write_entry.ensures.hand.cache) c.make_durable.ensures.journal c.make_durable.ensures.same
 
+pub returns-clause-kinds : goal.returns-clause-kinds
+returns-clause-kinds g c = let ok = c.in-Ok.ensures.ok in
+    ended_kinds c.make_durable.result c.cache_barrier-2.new.hand c.make_durable.new.hand
+    c.in-Ok.entry
+    ok.1
+    (kept_journal c.args.hand.now c.seal.new.hand c.cache_barrier.new.hand c.write_entry.new.hand
+    c.cache_barrier-2.new.hand ok.1 ok.3 c.cache_barrier.ensures.rest c.write_entry.ensures.rest
+    c.cache_barrier-2.ensures.rest) c.make_durable.ensures.journal c.make_durable.ensures.same
+    ∙ c.cache_barrier-2.ensures.hand
+    ∙ cache_kinds c.cache_barrier.new.hand c.write_entry.new.hand c.write_entry.ensures.rest
+    (has_cache c.seal.new.hand c.cache_barrier.new.hand c.cache_barrier.ensures.hand
+    (sealed_hand c.args.hand.now c.seal.new.hand ok.1 ok.3 c.requires.hand).cache)
+    c.write_entry.ensures.hand.cache
+    ∙ c.cache_barrier.ensures.hand ∙ sealed_kinds c.args.hand.now c.seal.new.hand ok.1 ok.3
+    c.requires.hand.journal
+
 pub returns-clause-ok : goal.returns-clause-ok
 returns-clause-ok g c = let ok = c.in-Ok.ensures.ok in
-    map_ok c.make_durable.result (λ did.
-    all_done g.C.Disk.facts g.B.Disk.facts ok.0 c.in-Ok.entry c.args.seat.now c.seal.new.seat ok.5
-    c.cache_barrier.new.seat c.in-Ok-cache_barrier.ensures.ok c.write_entry.new.seat
-    c.in-Ok-write_entry.ensures.ok c.cache_barrier-2.new.seat c.in-Ok-cache_barrier-2.ensures.ok
-    c.make_durable.new.seat did) c.make_durable.ensures.ok
+    map_ok c.make_durable.result (λ put. (ok.0, ok.2, put))
+    (all_done g.C.Disk.facts g.B.Disk.facts ok.0 c.args.heads.now c.in-Ok.entry ok.1 ok.4
+    c.args.seat.now c.seal.new.seat ok.5 c.cache_barrier.new.seat c.in-Ok-cache_barrier.ensures.ok
+    c.write_entry.new.seat c.in-Ok-write_entry.ensures.ok c.cache_barrier-2.new.seat
+    c.in-Ok-cache_barrier-2.ensures.ok c.make_durable.new.seat c.make_durable.result
+    c.make_durable.ensures.ok c.make_durable.ensures.knows)
 
 pub returns-clause-err : goal.returns-clause-err
 returns-clause-err g c = let ok = c.in-Ok.ensures.ok in
-    cut_end g.C.Disk.facts g.B.Disk.facts ok.0 c.in-Ok.entry c.args.seat.now c.seal.new.seat ok.5
-    c.cache_barrier.new.seat c.in-Ok-cache_barrier.ensures.ok c.write_entry.new.seat
-    c.in-Ok-write_entry.ensures.ok c.cache_barrier-2.new.seat c.in-Ok-cache_barrier-2.ensures.ok
-    c.make_durable.new.seat c.make_durable.result c.make_durable.ensures.err
+    if_err c.make_durable.result (λ e cut. (ok.0, ok.2, cut))
+    (cut_end g.C.Disk.facts g.B.Disk.facts ok.0 c.args.heads.now c.in-Ok.entry ok.1 ok.4
+    c.args.seat.now c.seal.new.seat ok.5 c.cache_barrier.new.seat c.in-Ok-cache_barrier.ensures.ok
+    c.write_entry.new.seat c.in-Ok-write_entry.ensures.ok c.cache_barrier-2.new.seat
+    c.in-Ok-cache_barrier-2.ensures.ok c.make_durable.new.seat c.make_durable.result
+    c.make_durable.ensures.halted c.make_durable.ensures.err)
 
 pub returns-clause-cause : goal.returns-clause-cause
 returns-clause-cause g c = cause_end g.C.Disk.facts g.B.Disk.facts c.make_durable.result
