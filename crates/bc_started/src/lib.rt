@@ -11,7 +11,7 @@
 //! no deed is a write of its superblock. So the state that says that the cache may have what the
 //! backing device lacks is written before `start`, or once the run has ended.
 //!
-//! Read `specs/` in this order: Start, Stop, Laws.
+//! Read `specs/` in this order: Start, Stop, First, Stored, Laws.
 #![tactic(auto)]
 
 mod first;
