@@ -1,5 +1,5 @@
 -- What the parts of a running cache that are in memory stand for, in the core's state.
-use Rattle.std.specs.Prelude.{◌≡◌, ℕ, suc, true, ◌+◌, ◌%◌, ◌<◌, ◌≤◌, List, [], ◌∷◌, ◌++◌, length, reverse, Contains, Option, Some, None, IfSome, slice_get, slice_index}
+use Rattle.std.specs.Prelude.{◌≡◌, ℕ, zero, suc, Bool, true, false, ◌+◌, ◌*◌, ◌%◌, ◌<◌, ◌≤◌, List, [], ◌∷◌, ◌++◌, length, reverse, Contains, Option, Some, None, IfSome, slice_get, slice_index}
 use Rattle.bc_key.specs.Words.{ptr_word}
 use Rattle.bc_key.specs.declared.ptr.Ptr.{Ptr}
 use Rattle.bc_meta.specs.Entries.{Entry}
@@ -12,6 +12,7 @@ use Rattle.bc_leaves.specs.Parts.{Role, NoNode, Draft, Free, Leaving, Coming, Pe
 use Rattle.bc_leaves.specs.Parts as parts
 use Rattle.bc_books.specs.Books.{Books}
 use Rattle.bc_books.specs.Marks as books
+use Rattle.bc_books.specs.Shelves.{Shelf, Loose, Listed, Raised, Open, Held, Owner}
 use Rattle.bc_whole.specs.State.{Opening}
 use Rattle.bc_inner.specs.Inner.{Inner}
 use Rattle.bc_spine.specs.Numbers.{HasNumber}
@@ -29,7 +30,7 @@ use Rattle.bc_journal.specs.declared.place.Numbers.{Numbers}
 use Rattle.bc_journal.specs.Journal.{Journal}
 use Rattle.bc_journal.specs.Ring.{Ring}
 use Rattle.bc_places.specs.Stands.{IsCutInto, StandFor}
-use Rattle.bc_shares.specs.Shares.{Shape, shape_of, JournalShare, BucketsShare, buckets_in, LeafShare, leaf_share}
+use Rattle.bc_shares.specs.Shares.{Shape, shape_of, JournalShare, BucketsShare, buckets_in, Use, Unused, Pinned, Used, use_of, LeafShare, leaf_share}
 use Rattle.bc_machine.specs.declared.part.BucketsPart.{BucketsPart}
 
 -- ---- the spine
@@ -87,8 +88,15 @@ pub record IsLeafFor (w : Opening) (x : LeafShare) (leaf : Leaf) : Type 0 where
   pub pending : (s : ℕ) → last_said leaf.pending s ≡ last_said (keys_of x.leaf.pending) s
   pub entries : AreEntriesOf leaf.entries x.leaf.pending
 
+-- a slot has the leaf of this number, and it is held there
+abbrev pub IsHeldIn : List (Option Cached) → ℕ → Type 0
+IsHeldIn slots k = (i : ℕ) × (c : Cached) × (slice_get slots i ≡ Some (Some c))
+    × (c.number ≡ k) × (c.held ≡ true)
+
 -- Of so many parts, the one of this number has the leaves whose numbers leave it as a rest, and reads
--- them as they lie. A leaf of its that is in no slot of the cache has nothing pending.
+-- them as they lie. A leaf of its that is in no slot of the cache has nothing pending, and one that a
+-- change of the tree replaces is held in its slot until that is over: into each other one keys may
+-- come.
 pub record AreLeavesOf (w : Opening) (st : parts.State) (count part : ℕ) (cache : NodeCache) :
     Type 0 where
   pub layout : IsLayoutOf cache.geometry w.layout
@@ -97,6 +105,8 @@ pub record AreLeavesOf (w : Opening) (st : parts.State) (count part : ℕ) (cach
       → IsLeafFor w (leaf_share st c.number) c.leaf
   pub others : (k : ℕ) → k % count ≡ part → IsInTree (st.leaves k).role → Misses cache.slots k
       → (st.leaves k).pending ≡ []
+  pub leaving : (k : ℕ) → k % count ≡ part → (st.leaves k).role ≡ Leaving
+      → IsHeldIn cache.slots k
 
 -- ---- the journal
 
@@ -139,13 +149,35 @@ mark_of marks.Reclaimable = books.Reclaimable
 mark_of marks.Dirty = books.Dirtied
 mark_of marks.Metadata = books.Metadata
 
+-- it is open for data, or a seat holds it
+abbrev pub is_held : Shelf → Bool
+is_held Loose = false
+is_held (Listed p) = false
+is_held Raised = false
+is_held Open = true
+is_held (Held i p) = true
+
+abbrev pub pins_of : Use → ℕ
+pins_of Unused = 0
+pins_of Pinned = 1
+pins_of Used = 0
+
+-- how many of so many places from this one on are pinned, by whomever
+abbrev pub pins_in : (ℕ → Owner) → (place count : ℕ) → ℕ
+pins_in owner place zero = 0
+pins_in owner place (suc n) = pins_of (use_of (owner (place + n))) + pins_in owner place n
+
 -- A bucket's generation is its version, of which the device has a byte; it was used anew as often as
--- that has risen since the opening.
-pub record IsBucketFor (opened : ℕ) (q : ℕ) (x : BucketsShare) (b : Bucket) : Type 0 where
+-- that has risen since the opening. So many of its places are pinned, and it is held while it is open
+-- for data or a seat's.
+pub record IsBucketFor (opened : ℕ) (q : ℕ) (x : BucketsShare) (pinned : ℕ) (b : Bucket) :
+    Type 0 where
   pub generation : b.generation ≡ x.version q % 256
   pub uses : x.version q ≡ opened + b.uses
   pub last_gc : b.last_gc ≡ x.last_gc q % 256
   pub mark : mark_of b.mark ≡ x.mark q
+  pub pins : b.pins ≡ pinned
+  pub held : b.held ≡ is_held (x.shelf q)
 
 -- the records of all buckets, which the device is cut into, the lists, and the places in open buckets
 pub record AreBucketsOf (w : Opening) (k : Books) (p : BucketsPart) : Type 0 where
@@ -153,5 +185,7 @@ pub record AreBucketsOf (w : Opening) (k : Books) (p : BucketsPart) : Type 0 whe
   -- the first bucket for data
   pub data_from : p.buckets.data_from ≡ w.before + w.layout.journal
   pub records : (q : ℕ) → w.before + q < length p.buckets.records
-      → IsBucketFor (w.flow.books.version q) q (buckets_in k) (bucket_of p.buckets (w.before + q))
+      → IsBucketFor (w.flow.books.version q) q (buckets_in k)
+      (pins_in k.owner ((w.before + q) * p.buckets.size) p.buckets.size)
+      (bucket_of p.buckets (w.before + q))
   pub places : StandFor w.before p.buckets.size p.fill p.reserves k

@@ -7,12 +7,12 @@ use Rattle.bc_model.specs.Sector.{Value}
 use Rattle.bc_disk.specs.Device.{Content}
 use Rattle.bc_books.specs.Books.{Books, Step}
 use Rattle.bc_books.specs.Books as book
-use Rattle.bc_data.specs.Seats.{Claim, Seat, put_seat}
+use Rattle.bc_data.specs.Seats.{Candidate, Claim, Seat, put_seat}
 use Rattle.bc_data.specs.Data as flow
 use Rattle.bc_books.specs.Index as index
 use Rattle.bc_data.specs.Data.{Note, Look, CacheRead, BackingRead, Form, DropKeys, CleanKeys, MoveKeys, StaleKeys, Route, Around, Copy, Fault, CacheFault, BackingFault, BarrierFault, ReadFault, Act, MakeClaim, Release, Learn, CacheWrite, CacheBarrier, BackingWrite, BackingBarrier, InsertWrite, Insert, NoteCandidate, Settle, PinPlaces, UnpinPlaces, UnpinDead, Shelve, Say, Fail}
 use Rattle.bc_data.specs.After as flow_step
-use Rattle.bc_data.specs.After.{learnt, routed, with_keys, claim_at_fault, seat_after, seats_after, cache_after, backing_after}
+use Rattle.bc_data.specs.After.{learnt, routed, with_keys, claim_at_fault, seat_after, seats_after, candidates_after, cache_after, backing_after}
 use Rattle.bc_whole.specs.State as whole
 use Rattle.bc_whole.specs.Run.{by as by_data}
 use Rattle.bc_known.specs.Acts as known
@@ -46,18 +46,21 @@ use Rattle.bc_events.specs.declared.event.Deed.{Deed}
 use Rattle.bc_events.specs.declared.event.Deed.TheVariants as deed
 use Rattle.bc_events.specs.declared.event.Event.{Event}
 use Rattle.bc_whole.specs.Together.{shelved}
-use Rattle.bc_machine.specs.World.{World, after, data_of, is_call_of, touches_flight}
+use Rattle.bc_machine.specs.World.{World, after, data_of, is_call_of, kept_of, touches_flight}
 
 -- ---- what acts of the data touch
 
--- what a frame speaks of: the ranges of claims, the contents of the two devices, what the acting
--- seat notes, and a halt
+-- what a frame speaks of: the ranges of claims and the candidates, the contents of the two devices,
+-- what the acting seat notes, and a halt
 pub data Column : Type 0 where
   Claims OnCache OnBacking Notes Halts : Column
 
 abbrev pub touches : Act → Column → Bool
 touches (MakeClaim first count exclusive) Claims = true
 touches Release Claims = true
+touches (NoteCandidate number first count place) Claims = true
+touches (Settle number leaf keys) Claims = true
+touches (UnpinDead number) Claims = true
 touches (CacheWrite payload place values) OnCache = true
 touches CacheBarrier OnCache = true
 touches (BackingWrite route first values) OnBacking = true
@@ -132,6 +135,16 @@ seats_range w k seats i BackingBarrier n off = refl
 seats_range w k seats i act n off =
     put_range seats i (seat_after w k (seats i) act) n (seat_range w k (seats i) act off)
 
+-- of the candidates a barrier of the backing device changes only whether they are firm
+candidates_kept : (xs : ℕ → Candidate) (act : Act) (c : ℕ) → touches act Claims ≡ false
+    → kept_of (candidates_after xs act c) ≡ kept_of (xs c)
+candidates_kept xs (MakeClaim first count exclusive) c off = absurd (cc)
+candidates_kept xs BackingBarrier c off = refl
+candidates_kept xs (NoteCandidate number first count place) c off = absurd (cc)
+candidates_kept xs (Settle number leaf keys) c off = absurd (cc)
+candidates_kept xs (UnpinDead number) c off = absurd (cc)
+candidates_kept xs act c off = refl
+
 fault_cache : (d : Content) (x : Fault) → touches (Fail x) OnCache ≡ false
     → flow_step.cache_at_fault d x ≡ d
 fault_cache d (CacheFault payload place values) off = absurd (cc)
@@ -166,23 +179,31 @@ act_halted : (old : Bool) (act : Act) → touches act Halts ≡ false
 act_halted old (Fail x) off = fault_halted old x off
 act_halted old act off = refl
 
+-- the same ranges of claims, and the same candidates but for whether they are firm
+pub record SameFlight (a b : flow.State) : Type 0 where
+  pub ranges : (n : ℕ) → range_at b.seats n ≡ range_at a.seats n
+  pub candidates : (c : ℕ) → kept_of (b.candidates c) ≡ kept_of (a.candidates c)
+
 -- what a column has
 abbrev pub Stays : Column → flow.State → flow.State → Type 0
-Stays Claims a b = (n : ℕ) → range_at b.seats n ≡ range_at a.seats n
+Stays Claims a b = SameFlight a b
 Stays OnCache a b = b.cache ≡ a.cache
 Stays OnBacking a b = b.backing ≡ a.backing
 Stays Notes a b = Unit {0}
 Stays Halts a b = b.halted ≡ a.halted
 
 stays_same : (c : Column) (a : flow.State) → Stays c a a
-stays_same Claims a = λ n. refl
+stays_same Claims a = record { ranges = λ n. refl; candidates = λ c. refl }
 stays_same OnCache a = refl
 stays_same OnBacking a = refl
 stays_same Notes a = tt
 stays_same Halts a = refl
 
 stays_both : (c : Column) (a b d : flow.State) → Stays c a b → Stays c b d → Stays c a d
-stays_both Claims a b d x y = λ n. y n ∙ x n
+stays_both Claims a b d x y = record {
+  ranges = λ n. y.ranges n ∙ x.ranges n;
+  candidates = λ c. y.candidates c ∙ x.candidates c;
+}
 stays_both OnCache a b d x y = y ∙ x
 stays_both OnBacking a b d x y = y ∙ x
 stays_both Notes a b d x y = tt
@@ -190,7 +211,10 @@ stays_both Halts a b d x y = y ∙ x
 
 stays_act : (c : Column) (w : flow.Opening) (st : flow.State) (i : ℕ) (act : Act)
     → touches act c ≡ false → Stays c st (flow_step.after w st i act)
-stays_act Claims w st i act off = λ n. seats_range w st.books st.seats i act n off
+stays_act Claims w st i act off = record {
+  ranges = λ n. seats_range w st.books st.seats i act n off;
+  candidates = λ c. candidates_kept st.candidates act c off;
+}
 stays_act OnCache w st i act off = act_cache st.cache act off
 stays_act OnBacking w st i act off = act_backing st.backing act off
 stays_act Notes w st i act off = tt
@@ -325,11 +349,6 @@ module _ (c : Column) (i : ℕ) where
   all_pinned w at count false = one (PinPlaces at count) refl
   all_pinned w at count true = ((λ w st. (refl, tt)), ((λ w st. (refl, tt)), tt))
 
-  all_let_go : (kind : UnpinKind) → AllOf Off i (let_go kind)
-  all_let_go (unpin.Place at count) = one (UnpinPlaces at count) refl
-  all_let_go (unpin.Dead candidate) = one (UnpinDead candidate) refl
-  all_let_go (unpin.Hold bucket back) = ((λ w st. (refl, tt)), tt)
-
   all_taken : (p : Purpose) (b : ℕ) → AllOf Off i (taken i p b)
   all_taken list.Plain b = ((λ w st. (refl, tt)), tt)
   all_taken list.Priorities b = ((λ w st. (refl, tt)), tt)
@@ -395,6 +414,32 @@ fail_off Notes i x at what values off = absurd (cc)
 fail_off Halts i x at what values off = absurd (cc)
 
 -- rows whose acts some columns name
+candidate_off : (c : Column) (number first count at : ℕ)
+    → changed (deed.Candidate number first count at) c ≡ false
+    → touches (NoteCandidate number first count at) c ≡ false
+candidate_off Claims number first count at off = absurd (cc)
+candidate_off OnCache number first count at off = refl
+candidate_off OnBacking number first count at off = refl
+candidate_off Notes number first count at off = refl
+candidate_off Halts number first count at off = refl
+
+settle_off : (c : Column) (leaf number : ℕ) (keys : List Key) (ks : List index.Key)
+    → changed (deed.Settle leaf number keys) c ≡ false
+    → touches (Settle number leaf ks) c ≡ false
+settle_off Claims leaf number keys ks off = absurd (cc)
+settle_off OnCache leaf number keys ks off = refl
+settle_off OnBacking leaf number keys ks off = refl
+settle_off Notes leaf number keys ks off = refl
+settle_off Halts leaf number keys ks off = refl
+
+dead_off : (c : Column) (number : ℕ) → changed (deed.Unpin (unpin.Dead number)) c ≡ false
+    → touches (UnpinDead number) c ≡ false
+dead_off Claims number off = absurd (cc)
+dead_off OnCache number off = refl
+dead_off OnBacking number off = refl
+dead_off Notes number off = refl
+dead_off Halts number off = refl
+
 learn_off : (c : Column) (d : Deed) (note : Note) → is_noted d ≡ true → changed d c ≡ false
     → touches (Learn note) c ≡ false
 learn_off Claims d note on off = refl
@@ -475,7 +520,10 @@ rows Halts i w st deed.Release off = one Halts i Release refl
 rows c i w st (deed.Look leaf) off =
     one c i (Learn (Look leaf)) (learn_off c (deed.Look leaf) (Look leaf) refl off)
 rows c i w st (deed.Pin at count full) off = all_pinned c i w at count full
-rows c i w st (deed.Unpin kind) off = all_let_go c i kind
+rows c i w st (deed.Unpin (unpin.Place at count)) off = one c i (UnpinPlaces at count) refl
+rows c i w st (deed.Unpin (unpin.Dead candidate)) off =
+    one c i (UnpinDead candidate) (dead_off c candidate off)
+rows c i w st (deed.Unpin (unpin.Hold bucket back)) off = ((λ w st. (refl, tt)), tt)
 rows c i w st (deed.Take purpose bucket) off = all_taken c i purpose bucket
 rows c i w st (deed.Raise bucket) off = shelves c i (book.Raise bucket)
 rows c i w st (deed.Ready back named) off = ((λ w st. (refl, tt)), all_listed c i named.items)
@@ -509,8 +557,9 @@ rows c i w st (deed.InsertWrite leaf keys of first values) off = all_put c i w s
     (λ ks. insert_off c leaf ks of first values (deed.InsertWrite leaf keys of first values) refl off)
 rows c i w st (deed.Insert leaf keys form) off = ((λ w st. (refl, tt)), tt)
 rows c i w st (deed.Candidate candidate first count at) off =
-    one c i (NoteCandidate candidate first count at) refl
-rows c i w st (deed.Settle leaf candidate keys) off = ((λ w st. (refl, tt)), tt)
+    one c i (NoteCandidate candidate first count at) (candidate_off c candidate first count at off)
+rows c i w st (deed.Settle leaf candidate keys) off = all_put c i w st keys
+    (λ ks. flow.Settle candidate leaf ks) leaf (λ ks. settle_off c leaf candidate keys ks off)
 rows c i w st (deed.Seal last_seq bucket rest new_root chain) off =
     all_sealed c i st bucket new_root _ (λ w st. (refl, tt))
 rows c i w st deed.Sealed off = ((λ w st. (refl, tt)), tt)

@@ -1,11 +1,13 @@
 -- A part goes on to stand for its share of the state whatever events happen that don't change it.
-use Rattle.std.specs.Prelude.{◌≡◌, ◌≢◌, ℕ, ◌+◌, ◌-◌, ◌%◌, ◌<◌, ◌≤◌, Bool, true, false, ◌==◌, ◌&&◌, ◌||◌, List, [], ◌∷◌, ◌++◌, length, fold, Option, Some, None, if◌then◌else◌, refl}
+use Rattle.std.specs.Prelude.{◌≡◌, ◌≢◌, ℕ, zero, suc, ◌+◌, ◌-◌, ◌*◌, ◌%◌, ◌<◌, ◌≤◌, Bool, true, false, ◌==◌, ◌&&◌, ◌||◌, List, [], ◌∷◌, ◌++◌, length, fold, Option, Some, None, if◌then◌else◌, refl}
 use Rattle.std.proofs.Common.{inl, inr, sym, ap, ◌∙◌, subst, arith}
 use Rattle.bc_disk.specs.Device.{Content}
 use Rattle.bc_disk.specs.Disk.{DiskFacts, StandsFor}
 use Rattle.bc_disk.specs.declared.disk.Device.{Device}
 use Rattle.bc_disk.specs.declared.disk.Device.TheVariants.{Cache, Backing}
 use Rattle.bc_flight.specs.Flight.{InFlight, claim_at}
+use Rattle.bc_flight.specs.declared.candidate.Candidate.{Candidate}
+use Rattle.bc_books.specs.Shelves.{Owner}
 use Rattle.bc_data.specs.Seats.{Claim}
 use Rattle.bc_leaves.specs.Parts.{Role, NoNode, Draft, Free, Leaving, Coming}
 use Rattle.bc_leaves.specs.Parts as parts
@@ -28,7 +30,7 @@ use Rattle.bc_events.specs.declared.event.Failure.TheVariants as failure
 use Rattle.bc_events.specs.declared.event.Deed.{Deed}
 use Rattle.bc_events.specs.declared.event.Deed.TheVariants as deed
 use Rattle.bc_events.specs.declared.event.Event.{Event}
-use Rattle.bc_shares.specs.Shares.{Shape, JournalShare, journal_share, BucketsShare, books_of, LeafShare, leaf_share, SameSpine}
+use Rattle.bc_shares.specs.Shares.{Shape, JournalShare, journal_share, BucketsShare, buckets_in, use_of, books_of, LeafShare, leaf_share, SameSpine}
 use Rattle.bc_shares.specs.Touched.{touches_journal, touches_buckets, among_leaves, write_touches_leaf, root_touches_leaf, fault_touches_leaf, touches_leaf, NamesItsChange, touches_spine}
 use Rattle.bc_shares.specs.Laws.{Happens}
 use Rattle.bc_shares.proofs.Law.{law_journal, law_buckets, law_spine, law_slot, law_leaf}
@@ -37,8 +39,8 @@ use Rattle.bc_machine.specs.declared.part.BackingPart.{BackingPart}
 use Rattle.bc_machine.specs.declared.part.BucketsPart.{BucketsPart}
 use Rattle.bc_machine.specs.declared.part.CorePart.{CorePart}
 use Rattle.bc_machine.specs.declared.part.CorePart.TheVariants as part
-use Rattle.bc_machine.specs.Containers.{IsInTree, IsTreeLeaf, IsTreeInner, IsSpineOf, IsLeafFor, AreLeavesOf, IsJournalOf, IsBucketFor, AreBucketsOf}
-use Rattle.bc_machine.specs.World.{Side, model, behind, same_device, called, counted, held_after, held_after_failure, Begun, World, is_told, after, data_of, Origin, replay, IsCourseOf, IsOrigin, CanFollow, IsEnabled, is_call_of, touches_flight, lies_in, any_in, change_in, write_in, root_in, fault_in, touches_leaves, changes, claim_in, share_of, seen_from, IsView, InEach, IsFlightOf, FromEach, IsSpine, AreBuckets, IsJournal, AreLeaves, IsCache, IsBackingOf, StandsAs, opening}
+use Rattle.bc_machine.specs.Containers.{IsInTree, IsTreeLeaf, IsTreeInner, IsSpineOf, IsLeafFor, AreLeavesOf, IsJournalOf, IsBucketFor, pins_of, pins_in, AreBucketsOf}
+use Rattle.bc_machine.specs.World.{Side, model, behind, same_device, called, counted, held_after, held_after_failure, Begun, World, is_told, after, data_of, Origin, replay, IsCourseOf, IsOrigin, CanFollow, IsEnabled, is_call_of, touches_flight, lies_in, any_in, change_in, write_in, root_in, fault_in, touches_leaves, changes, claim_in, share_of, Kept, kept_of, notes_candidate, candidates_noted, IsCandidateOf, EachIsOf, AreCandidatesOf, seen_from, IsView, InEach, IsFlightOf, FromEach, IsSpine, AreBuckets, IsJournal, AreLeaves, IsCache, IsBackingOf, StandsAs, opening}
 use Rattle.bc_machine.specs.Frame.{Range, range_of, by_test, Claims, OnBacking, stays_event}
 
 -- ---- claims and devices
@@ -54,12 +56,36 @@ by_claims : (n : ℕ) (a b : Claim) → range_of a ≡ range_of b → claim_in n
 by_claims n a b is = ap (λ (r : Range). if r.count == 0 then None
     else Some (claim_at n r.first r.count (share_of r.exclusive))) is
 
+each_stays : (cs : List Candidate) (a b : ℕ → Kept) → ((n : ℕ) → b n ≡ a n)
+    → EachIsOf a cs → EachIsOf b cs
+each_stays [] a b same h = tt
+each_stays (c ∷ cs) a b same h = (
+  subst (λ k. IsCandidateOf k c) (sym (same c.number)) h.0,
+  each_stays cs a b same h.1,
+)
+
+pub candidates_stay : (cs : List Candidate) (a b : ℕ → Kept) → ((n : ℕ) → b n ≡ a n)
+    → AreCandidatesOf cs a → AreCandidatesOf cs b
+candidates_stay cs a b same h = record {
+  each = each_stays cs a b same h.each;
+  all = λ n stands. h.all n (sym (ap (λ (k : Kept). k.stands) (same n)) ∙ stands);
+}
+
+noted_off : (d : Deed) → touches_flight d ≡ false → notes_candidate d ≡ false
+noted_off (deed.Candidate candidate first count at) off = absurd (cc)
+noted_off d off = refl
+
 flight_stays : (f : InFlight) (x : World) (e : Event) → touches_flight e.deed ≡ false
     → IsFlightOf f x → IsFlightOf f (after x e)
 flight_stays f x e off h = record {
   seats = h.seats;
   claims = λ n. h.claims n ∙ by_claims n ((data_of x).seats n).claim ((data_of (after x e)).seats n).claim
-      (sym (stays_event Claims x e off n));
+      (sym ((stays_event Claims x e off).ranges n));
+  candidates = candidates_stay f.candidates (λ n. kept_of ((data_of x).candidates n))
+      (λ n. kept_of ((data_of (after x e)).candidates n)) (stays_event Claims x e off).candidates
+      h.candidates;
+  next = h.next ∙ ap (λ b. if b then suc (candidates_noted x.log) else candidates_noted x.log)
+      (sym (noted_off e.deed off));
 }
 
 called_none : (device : Device) (o : Option Call) (x : Side) → is_call_of device o ≡ false
@@ -219,6 +245,12 @@ journal_stays j x e off = from_each x e
     (λ o is course follows h. subst (λ (s : JournalShare). IsJournalOf o.opening.machine s j)
     (sym (law_journal o.opening (replay o x.log) e follows.enabled off)) h)
 
+pins_stay : (a b : ℕ → Owner) → ((t : ℕ) → use_of (b t) ≡ use_of (a t)) → (place n : ℕ)
+    → pins_in b place n ≡ pins_in a place n
+pins_stay a b same place zero = refl
+pins_stay a b same place (suc n) = ap (λ u. pins_of u + pins_in b place n) (same (place + n))
+    ∙ ap (λ m. pins_of (use_of (a (place + n))) + m) (pins_stay a b same place n)
+
 buckets_stay : (p : BucketsPart) (x : World) (e : Event)
     → touches_buckets e.deed ≡ false → AreBuckets p x → AreBuckets p (after x e)
 buckets_stay p x e off = from_each x e
@@ -226,9 +258,19 @@ buckets_stay p x e off = from_each x e
     (λ o is course follows h. record {
       cut = h.cut;
       data_from = h.data_from;
-      records = λ q low. subst (λ (s : BucketsShare). IsBucketFor
-          (o.opening.machine.flow.books.version q) q s (bucket_of p.buckets (o.opening.machine.before + q)))
-          (sym (law_buckets o.opening (replay o x.log) e follows.enabled off).share) (h.records q low);
+      records = λ q low.
+          let same = law_buckets o.opening (replay o x.log) e follows.enabled off in
+          let version = o.opening.machine.flow.books.version q in
+          let b = bucket_of p.buckets (o.opening.machine.before + q) in
+          let first = (o.opening.machine.before + q) * p.buckets.size in
+          subst (λ n. IsBucketFor version q
+          (buckets_in (books_of (core.after o.opening (replay o x.log) e).machine)) n b)
+          (sym (pins_stay (books_of (replay o x.log).machine).owner
+          (books_of (core.after o.opening (replay o x.log) e).machine).owner same.uses first
+          p.buckets.size))
+          (subst (λ (s : BucketsShare). IsBucketFor version q s
+          (pins_in (books_of (replay o x.log).machine).owner first p.buckets.size) b)
+          (sym same.share) (h.records q low));
       places = law_kept o.opening (replay o x.log) e p.buckets.size p.fill p.reserves
           follows.enabled off h.places;
     })
@@ -322,6 +364,10 @@ leaves_stay part c x e off = from_each x e
           (leaf_off x.begun.leaf_parts part k e.deed its off) follows.names in
           ap (λ (l : parts.Leaf). l.pending) same
           ∙ h.others k its (subst (λ (l : parts.Leaf). IsInTree l.role) same live) misses;
+      leaving = λ k its leaves.
+          let same = law_slot o.opening (replay o x.log) e follows.enabled k
+          (leaf_off x.begun.leaf_parts part k e.deed its off) follows.names in
+          h.leaving k its (sym (ap (λ (l : parts.Leaf). l.role) same) ∙ leaves);
     })
 
 -- ---- all parts

@@ -5,7 +5,7 @@
 -- alone whether they are sound. So the state here says only what the events make: claims, notes,
 -- what devices hold. What the parts in memory stand for is said of each opening of the core that
 -- they stand for as the run begins (`Origin`): where the pair was sound there is one.
-use Rattle.std.specs.Prelude.{◌≡◌, ◌≢◌, ◌⊎◌, ℕ, suc, ◌+◌, ◌-◌, ◌%◌, ◌≤◌, Bool, true, false, ◌==◌, ◌&&◌, ◌||◌, nat_lt, List, [], ◌∷◌, length, Option, Some, None, IfSome, if◌then◌else◌}
+use Rattle.std.specs.Prelude.{◌≡◌, ◌≢◌, ◌⊎◌, ℕ, suc, ◌+◌, ◌-◌, ◌%◌, ◌<◌, ◌≤◌, Bool, true, false, ◌==◌, ◌&&◌, ◌||◌, not, nat_lt, List, [], ◌∷◌, length, Option, Some, None, IfSome, if◌then◌else◌}
 use Rattle.bc_model.specs.Sector.{Image}
 use Rattle.bc_model.specs.Pattern.{zeros}
 use Rattle.bc_disk.specs.Device.{Content, DeviceModel, next_count, quiet, written, failed, settled}
@@ -16,9 +16,12 @@ use Rattle.bc_disk.specs.declared.geometry.Geometry.{Geometry}
 use Rattle.bc_facts.specs.Layout.{IsLayoutOf}
 use Rattle.bc_facts.specs.Torn.{NoTornRecord}
 use Rattle.bc_flight.specs.Flight.{InFlight, claim_of, claim_at}
+use Rattle.bc_flight.specs.declared.candidate.Candidate.{Candidate}
 use Rattle.bc_flight.specs.declared.claim.Claim.{Claim}
 use Rattle.bc_flight.specs.declared.claim.Share.{Share}
 use Rattle.bc_flight.specs.declared.claim.Share.TheVariants.{Shared, Exclusive}
+use Rattle.bc_key.specs.Key.{start_of, pointer_of}
+use Rattle.bc_key.specs.declared.ptr.Ptr.{Ptr}
 use Rattle.bc_books.specs.Books as book
 use Rattle.bc_data.specs.Seats as seats
 use Rattle.bc_data.specs.Data as flow
@@ -163,11 +166,27 @@ abbrev pub replay : Origin → List Event → State
 replay o [] = start o.opening o.parts o.next_seq
 replay o (e ∷ es) = core.after o.opening (replay o es) e
 
--- An event follows in the core; and one that ends a change of the tree names the leaves that leave
--- and come.
-pub record Follows (w : Opening) (st : State) (e : Event) : Type 0 where
+-- how many candidates these events noted
+abbrev pub notes_candidate : Deed → Bool
+notes_candidate (deed.Candidate candidate first count at) = true
+notes_candidate d = false
+
+abbrev pub candidates_noted : List Event → ℕ
+candidates_noted [] = 0
+candidates_noted (e ∷ es) =
+    if notes_candidate e.deed then suc (candidates_noted es) else candidates_noted es
+
+-- Candidates have the numbers from 0 on, in their order, so that none has the number of one before.
+abbrev pub IsNumbered : List Event → Deed → Type 0
+IsNumbered es (deed.Candidate candidate first count at) = candidate ≡ candidates_noted es
+IsNumbered es d = Unit {0}
+
+-- An event follows behind these in the core; one that ends a change of the tree names the leaves
+-- that leave and come, and one that notes a candidate gives it the next number.
+pub record Follows (w : Opening) (st : State) (es : List Event) (e : Event) : Type 0 where
   pub enabled : core.IsEnabled w st e
   pub names : NamesItsChange st.machine.whole.parts e.deed
+  pub number : IsNumbered es e.deed
 
 -- The premise on torn records, of one state: whatever the cache device may leave, no record that is
 -- read there as a whole one is so by chance.
@@ -179,7 +198,7 @@ IsUntorn o st = (g : Geometry) → IsLayoutOf g o.opening.machine.layout
 abbrev pub IsCourseOf : Origin → List Event → Type 0
 IsCourseOf o [] = IsUntorn o (replay o [])
 IsCourseOf o (e ∷ es) =
-    Follows o.opening (replay o es) e × IsUntorn o (replay o (e ∷ es)) × IsCourseOf o es
+    Follows o.opening (replay o es) es e × IsUntorn o (replay o (e ∷ es)) × IsCourseOf o es
 
 -- the state of a run as it is from that opening
 abbrev pub seen_from : Origin → World → World
@@ -234,7 +253,7 @@ abbrev pub InEach : World → (World → Type 0) → Type 0
 InEach x P = (y : World) → IsView x y → P y
 
 abbrev pub CanFollow : World → Event → Type 0
-CanFollow x e = Follows x.opening x.now e
+CanFollow x e = Follows x.opening x.now x.log e
 
 -- The event may happen: in a run over the backing device alone as its state is, and else from each
 -- opening of the core from which the run so far is one. Of what a device that tells nothing holds,
@@ -361,13 +380,58 @@ abbrev pub share_of : Bool → Share
 share_of true = Exclusive
 share_of false = Shared
 
+-- a candidate of the core, but for whether it is firm
+pub record Kept : Type 0 where
+  pub first : ℕ
+  pub count : ℕ
+  pub place : ℕ
+  pub stands : Bool
+  pub alive : Bool
+
+abbrev pub kept_of : seats.Candidate → Kept
+kept_of x = record {
+  first = x.first;
+  count = x.count;
+  place = x.place;
+  stands = x.stands;
+  alive = x.alive;
+}
+
 -- the claim of a seat as the part has it
 abbrev pub claim_in : ℕ → seats.Claim → Option Claim
 claim_in n c = if c.count == 0 then None else Some (claim_at n c.first c.count (share_of c.exclusive))
 
+-- A candidate is one of the core's that stands, of the key's range and place. It was killed where it
+-- isn't alive any more.
+pub record IsCandidateOf (x : Kept) (c : Candidate) : Type 0 where
+  pub stands : x.stands ≡ true
+  pub alive : x.alive ≡ not c.killed
+  pub first : x.first ≡ start_of c.key
+  pub count : x.count ≡ c.key.size
+  pub some : 0 < c.key.size
+  pub inside : c.key.size ≤ c.key.end
+  pub place : (ptr : Ptr) × (pointer_of c.key ≡ Some ptr) × (ptr.offset ≡ x.place)
+
+abbrev pub EachIsOf : (ℕ → Kept) → List Candidate → Type 0
+EachIsOf kept [] = Unit {0}
+EachIsOf kept (c ∷ cs) = IsCandidateOf (kept c.number) c × EachIsOf kept cs
+
+-- one of these has this number
+abbrev pub IsAmong : ℕ → List Candidate → Type 0
+IsAmong n [] = ⊥
+IsAmong n (c ∷ cs) = (c.number ≡ n) ⊎ IsAmong n cs
+
+pub record AreCandidatesOf (cs : List Candidate) (kept : ℕ → Kept) : Type 0 where
+  pub each : EachIsOf kept cs
+  pub all : (n : ℕ) → (kept n).stands ≡ true → IsAmong n cs
+
+-- The claims and the candidates are the core's. Which candidates a barrier of the backing device
+-- made firm the part doesn't say: it isn't asked for at a barrier.
 pub record IsFlightOf (f : InFlight) (x : World) : Type 0 where
   pub seats : f.seats ≡ seat_count
   pub claims : (n : ℕ) → claim_of n f.claims ≡ claim_in n ((data_of x).seats n).claim
+  pub candidates : AreCandidatesOf f.candidates (λ n. kept_of ((data_of x).candidates n))
+  pub next : f.next ≡ candidates_noted x.log
 
 abbrev pub IsFlight : InFlight → World → Type 0
 IsFlight f x = InEach x (IsFlightOf f)
