@@ -1,5 +1,5 @@
 -- The records of buckets and the lists, as the books have them.
-use Rattle.std.proofs.Common.{◌≡◌, ℕ, ◌+◌, ◌*◌, ◌%◌, ◌<◌, ◌≤◌, Bool, true, false, List, [], ◌∷◌, length, Option, Some, None, refl, sym, ap, ◌∙◌, subst, arith}
+use Rattle.std.proofs.Common.{◌≡◌, ℕ, zero, suc, ◌+◌, ◌*◌, ◌%◌, ◌<◌, ◌≤◌, Bool, true, false, List, [], ◌∷◌, length, Option, Some, None, refl, sym, ap, ◌∙◌, subst, arith}
 use Rattle.std.specs.Prelude.{if◌then◌else◌, slice_index_or, sum_by}
 use Rattle.std.proofs.Math.Nat.{add-mod_right, mul_comm}
 use Rattle.bc_alloc.specs.Reserve.{Reserve, no_reserve, times}
@@ -7,7 +7,7 @@ use Rattle.bc_alloc.specs.Reserves.{IsInOrder, Reserves, list_of}
 use Rattle.bc_alloc.specs.declared.purpose.Purpose as lists
 use Rattle.bc_alloc.specs.declared.purpose.Purpose.TheVariants as purposes
 use Rattle.bc_alloc.proofs.Times.{times-cons, times_other, times_same}
-use Rattle.bc_books.specs.Shelves.{Moving, Plain, Priorities, Purpose, Tree}
+use Rattle.bc_books.specs.Shelves.{Fresh, Moving, Plain, Priorities, Purpose, Spent, Tree, by_room}
 use Rattle.bc_bucket.specs.Buckets.{Buckets, bucket_of}
 use Rattle.bc_bucket.specs.declared.bucket.Mark.{Mark}
 use Rattle.bc_bucket.specs.declared.bucket.Mark.TheVariants as marks
@@ -19,12 +19,12 @@ use Rattle.bc_disk.specs.declared.geometry.Geometry.{Geometry}
 use Rattle.bc_facts.specs.Reads.{back}
 use Rattle.bc_facts.proofs.Place.{by_lt}
 use Rattle.bc_books.specs.Marks as books
-use Rattle.bc_books.specs.Books.{opened}
+use Rattle.bc_books.specs.Books.{Setup, opened, unused}
 use Rattle.bc_image.specs.Pair.{Pair}
 use Rattle.bc_image.specs.Reading.{Reading, View}
 use Rattle.bc_image.specs.Shown.{generation_of}
 use Rattle.bc_leaves.specs.Parts as parts
-use Rattle.bc_machine.specs.Containers.{IsBucketFor, mark_of}
+use Rattle.bc_machine.specs.Containers.{IsBucketFor, is_held, mark_of, pins_in, pins_of}
 use Rattle.bc_leaves.specs.After.{has}
 use Rattle.bc_meta.specs.Layout.{Layout}
 use Rattle.bc_model.proofs.Cases.{by_test}
@@ -33,7 +33,7 @@ use Rattle.bc_opening.proofs.Pointers.{byte_of, version_is}
 use Rattle.bc_events.specs.Acts.{purpose_of}
 use Rattle.bc_places.specs.Stands.{AreJust, IsCutInto, StandFor}
 use Rattle.bc_places.proofs.Others.{law_begins}
-use Rattle.bc_shares.specs.Shares.{buckets_in}
+use Rattle.bc_shares.specs.Shares.{buckets_in, use_of}
 use Rattle.bc_whole.specs.State.{Opening}
 use Rattle.bc_begun.specs.Laws.{LawBuckets}
 use Rattle.bc_begun.specs.Opened.{AreBytes, IsOpenedWith}
@@ -158,6 +158,22 @@ same_mark marks.Reclaimable = refl
 same_mark marks.Dirty = refl
 same_mark marks.Metadata = refl
 
+none_both : (a b : ℕ) → a ≡ 0 → b ≡ 0 → a + b ≡ 0
+none_both a b x y = omega (arith, x, y)
+
+-- nothing is pinned or held at an opening
+no_pins : (w : Setup) (place n : ℕ) → pins_in (opened w).owner place n ≡ 0
+no_pins w place zero = refl
+no_pins w place (suc n) = none_both _ _ (free (unused w (w.bucket (place + n)))) (no_pins w place n)
+  where
+    free : (b : Bool) → pins_of (use_of (if b then Fresh else Spent)) ≡ 0
+    free true = refl
+    free false = refl
+
+not_held : (o : Option Purpose) → is_held (by_room o) ≡ false
+not_held None = refl
+not_held (Some p) = refl
+
 module _ (p : Pair) (v : View) (layout : Layout) (x : Parts) (w : Opening) (st : parts.State)
     (h : IsOpenedWith p v layout x w st) where
   abbrev g : Geometry
@@ -169,9 +185,10 @@ module _ (p : Pair) (v : View) (layout : Layout) (x : Parts) (w : Opening) (st :
   long : length r.gens.records ≡ g.nbuckets
   long = h.view.reading.gens.records
 
-  record_of : AreBytes x.buckets → (q : ℕ) → back g q < g.nbuckets → IsBucketFor (w.flow.books.version q) q
-      (buckets_in (opened w.flow.books)) (bucket_of x.buckets (back g q))
-  record_of bytes q inside =
+  record_of : AreBytes x.buckets → (q place n : ℕ) → back g q < g.nbuckets
+      → IsBucketFor (w.flow.books.version q) q (buckets_in (opened w.flow.books))
+      (pins_in (opened w.flow.books).owner place n) (bucket_of x.buckets (back g q))
+  record_of bytes q place n inside =
       let known = h.read.buckets.known (back g q) inside in
       let is = version_is g r.gens q (omega (arith, inside, long)) in
       let version = h.opening.books.version q ∙ is in
@@ -187,6 +204,8 @@ module _ (p : Pair) (v : View) (layout : Layout) (x : Parts) (w : Opening) (st :
             ∙ sym (h.opening.books.mark q
             ∙ by_lt (back g q) g.nbuckets (λ b. (if b then own else books.Metadata) ≡ own) (λ lt. refl)
             (λ out. absurd (omega (arith, out, inside))));
+        pins = known.unused.1 ∙ sym (no_pins w.flow.books place n);
+        held = known.unused.2 ∙ sym (not_held (w.flow.books.listed q));
       }
     where
       small : generation_of r.gens (back g q) % 256 ≡ generation_of r.gens (back g q)
@@ -235,10 +254,13 @@ law_buckets p v layout x w st b h bytes same_buckets same_reserves none =
           ∙ ap (λ n. w.before + n) (sym h.divided.journal)
           ∙ ap (λ (l : Layout). w.before + l.journal) (sym h.opening.layout_is);
       records = λ q inside. subst (λ (bs : Buckets). IsBucketFor (w.flow.books.version q) q
-          (buckets_in (opened w.flow.books)) (bucket_of bs (w.before + q))) (sym same_buckets)
+          (buckets_in (opened w.flow.books))
+          (pins_in (opened w.flow.books).owner ((w.before + q) * bs.size) bs.size)
+          (bucket_of bs (w.before + q))) (sym same_buckets)
           (subst (λ n. IsBucketFor (w.flow.books.version q) q (buckets_in (opened w.flow.books))
+          (pins_in (opened w.flow.books).owner ((w.before + q) * x.buckets.size) x.buckets.size)
           (bucket_of x.buckets (n + q))) (sym h.opening.before)
-          (record_of p v layout x w st h bytes q
+          (record_of p v layout x w st h bytes q ((w.before + q) * x.buckets.size) x.buckets.size
           (let long = h.read.buckets.each in let at = h.opening.before in
           let same = ap (λ (bs : Buckets). length bs.records) same_buckets in
           omega (arith, long, at, same, inside))));

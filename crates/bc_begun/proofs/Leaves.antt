@@ -21,7 +21,7 @@ use Rattle.bc_key.specs.declared.key.Key.{Key}
 use Rattle.bc_key.specs.declared.ptr.Ptr.{Ptr}
 use Rattle.bc_leaves.specs.Keys.{last_said, ref_said}
 use Rattle.bc_leaves.specs.Parts as parts
-use Rattle.bc_leaves.specs.Parts.{Pending}
+use Rattle.bc_leaves.specs.Parts.{Leaving, Pending}
 use Rattle.bc_machine.specs.Containers.{AreEntriesOf, AreLeavesOf, IsInTree, IsLeafFor, IsTreeLeaf}
 use Rattle.bc_meta.specs.Facts.{In}
 use Rattle.bc_meta.specs.Layout.{Layout}
@@ -303,6 +303,15 @@ module _ (p : Pair) (v : View) (layout : Layout) (x : Parts) (w : Opening) (st :
         go None = refl
         go (Some n) = none
 
+    -- no leaf is replaced yet
+    not_leaving : (k : ℕ) → (st.leaves k).role ≡ Leaving → ⊥
+    not_leaving k is = go (node_at (leaf_nodes r.nodes) k)
+        (sym (ap (λ (l : parts.Leaf). l.role) (h.opening.parts.leaves k)) ∙ is)
+      where
+        go : (o : Option Node) → (leaf_of g o (waiting_at x.pending k)).role ≡ Leaving → ⊥
+        go None is = absurd (cc)
+        go (Some n) is = absurd (cc)
+
     leaves_of : (count part : ℕ) (cache : NodeCache)
         → IsLeafPart g x.tree.leaves x.pending count d part cache
         → AreLeavesOf w st count part cache
@@ -316,6 +325,7 @@ module _ (p : Pair) (v : View) (layout : Layout) (x : Parts) (w : Opening) (st :
           leaf_for c.number c.leaf o.range o.there o.leaf);
       others = λ k same live misses. no_keys k
           (nothing_waits count part cache k is same misses (slice_index_or x.pending k []) refl);
+      leaving = λ k same leaves. absurd (not_leaving k leaves);
     }
 
 pub law_leaves : (d : DiskFacts) → LawLeaves d

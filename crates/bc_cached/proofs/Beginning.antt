@@ -13,7 +13,8 @@ use Rattle.bc_tree.specs.Spine.{Spine}
 use Rattle.bc_machine.specs.Containers.{AreLeavesOf}
 use Rattle.bc_machine.specs.declared.part.CorePart.{CorePart}
 use Rattle.bc_machine.specs.declared.part.CorePart.TheVariants as part
-use Rattle.bc_machine.specs.World.{AreLeafParts, IsBacking, IsBackingOf, IsCache, IsFlight, IsFlightOf, IsOrigin, Origin, Side, World, behind, image_of, is_some_image, leaves_among, model, opening, side_of}
+use Rattle.bc_data.specs.Seats.{no_candidate}
+use Rattle.bc_machine.specs.World.{AreCandidatesOf, AreLeafParts, kept_of, IsBacking, IsBackingOf, IsCache, IsFlight, IsFlightOf, IsOrigin, Origin, Side, World, behind, image_of, is_some_image, leaves_among, model, opening, side_of}
 use Rattle.bc_machine.proofs.Viewing.{new_view}
 use Rattle.bc_hand.specs.Seats.{Works, core, empty}
 use Rattle.bc_deed.proofs.Devices.{begins_stands}
@@ -98,15 +99,26 @@ module _ {C B : Type 0} (cache_facts : C → DiskFacts) (backing_facts : B → D
       leaves_from (suc i) (n + 1) cs (omega (arith, is)) (λ o origin. (on o origin).1),
     )
 
-    flight : k.flight.seats ≡ 320 → k.flight.claims ≡ [] → IsFlight k.flight run
-    flight seats claims y (inl is) = subst (IsFlightOf k.flight) (sym is) (record {
+    none_waits : k.flight.candidates ≡ []
+        → AreCandidatesOf k.flight.candidates (λ n. kept_of no_candidate)
+    none_waits none = subst (λ cs. AreCandidatesOf cs (λ n. kept_of no_candidate)) (sym none)
+        (record { each = tt; all = λ n stands. absurd (cc) })
+
+    flight : k.flight.seats ≡ 320 → k.flight.claims ≡ [] → k.flight.candidates ≡ []
+        → k.flight.next ≡ 0 → IsFlight k.flight run
+    flight seats claims candidates next y (inl is) = subst (IsFlightOf k.flight) (sym is) (record {
       seats = seats;
       claims = λ n. ap (claim_of n) claims;
+      candidates = none_waits candidates;
+      next = next;
     })
-    flight seats claims y (inr (o, seen)) = subst (IsFlightOf k.flight) (sym seen.is) (record {
-      seats = seats;
-      claims = λ n. ap (claim_of n) claims;
-    })
+    flight seats claims candidates next y (inr (o, seen)) =
+        subst (IsFlightOf k.flight) (sym seen.is) (record {
+          seats = seats;
+          claims = λ n. ap (claim_of n) claims;
+          candidates = none_waits candidates;
+          next = next;
+        })
 
     cache : StandsFor (cache_facts k.cache) (settled_model (cache_facts k.cache))
         → IsCache {B = B} cache_facts backing_facts k.cache run
@@ -146,14 +158,15 @@ module _ {C B : Type 0} (cache_facts : C → DiskFacts) (backing_facts : B → D
         (six_pushed l0 l1 l2 l3 l4 l5 l6 _ _ _ _ _ _ p0 p1 p2 p3 p4 p5 p6)
 
     pub begins : k.flight.seats ≡ 320 → k.flight.claims ≡ []
+        → k.flight.candidates ≡ [] → k.flight.next ≡ 0
         → StandsFor (cache_facts k.cache) (settled_model (cache_facts k.cache))
         → StandsFor (backing_facts k.backing.disk) (settled_model (backing_facts k.backing.disk))
         → k.backing.offset + k.backing.size ≤ (backing_facts k.backing.disk).sectors
         → StandFrom (core cache_facts backing_facts) run 0 (parts_of tree k)
-    begins seats claims settled_cache settled_backing inside = (
+    begins seats claims candidates next settled_cache settled_backing inside = (
       (refl, λ o is course. is.begun.spine),
       (
-        (refl, flight seats claims),
+        (refl, flight seats claims candidates next),
         (
           (refl, λ o is course. is.begun.buckets),
           (

@@ -18,10 +18,13 @@ pub record AreUnopened (b : Buckets) (r : Reserves) (p : BucketsPart) : Type 0 w
   pub reserves : p.reserves ≡ r
   pub fill : p.fill ≡ []
 
--- What the run begins with is just what was ready; nothing is claimed, and no bucket is open.
+-- What the run begins with is just what was ready; nothing is claimed, no candidate waits, and no
+-- bucket is open.
 pub record IsMadeOf {C B : Type 0} (ready : Ready C B) (k : Beginning C B) : Type 0 where
   pub seats : k.flight.seats ≡ 320
   pub claims : k.flight.claims ≡ []
+  pub candidates : k.flight.candidates ≡ []
+  pub next : k.flight.next ≡ 0
   pub buckets : AreUnopened ready.buckets ready.reserves k.buckets
   pub journal : k.journal ≡ ready.journal
   pub cache : k.cache ≡ ready.cache

@@ -1,8 +1,12 @@
 -- Claims, as their part has them and as the core has them.
-use Rattle.std.proofs.Common.{◌≡◌, ◌≢◌, inl, inr, ℕ, ◌+◌, ◌≤◌, Bool, true, false, List, [], ◌∷◌, ◌++◌, Option, Some, None, refl, sym, ap, ◌∙◌, subst, arith}
-use Rattle.std.specs.Prelude.{◌==◌, ◌&&◌, ◌||◌, nat_lt, if◌then◌else◌}
-use Rattle.std.proofs.lemmas.Bool.{lt-ltb}
+use Rattle.std.proofs.Common.{◌≡◌, ◌≢◌, ◌⊎◌, inl, inr, ℕ, suc, ◌+◌, ◌<◌, ◌≤◌, Bool, true, false, List, [], ◌∷◌, ◌++◌, Option, Some, None, refl, sym, ap, ◌∙◌, subst, arith}
+use Rattle.std.specs.Prelude.{◌==◌, ◌&&◌, ◌||◌, max, min, nat_le, nat_lt, if◌then◌else◌}
+use Rattle.std.proofs.lemmas.Bool.{le-ltb, lt-ltb}
+use Rattle.std.proofs.lemmas.Bool.Decides.{leb_tells}
 use Rattle.bc_disk.specs.Disk.{DiskFacts}
+use Rattle.bc_key.specs.Key.{start_of}
+use Rattle.bc_flight.specs.Candidates.{after_claim, is_over, kill_over, killed_over}
+use Rattle.bc_flight.specs.declared.candidate.Candidate.{Candidate}
 use Rattle.bc_flight.specs.Claims.{is_exclusive as alone, conflicts, conflicts_any}
 use Rattle.bc_flight.specs.Flight.{InFlight, claim_at, claim_of, without, HasConflict}
 use Rattle.bc_flight.specs.declared.claim.Claim.{Claim as FlightClaim}
@@ -10,15 +14,17 @@ use Rattle.bc_flight.specs.declared.claim.Share.{Share}
 use Rattle.bc_flight.specs.declared.claim.Share.TheVariants.{Shared, Exclusive}
 use Rattle.bc_parts.specs.Seat.{Holds}
 use Rattle.bc_books.specs.Index.{Index}
-use Rattle.bc_data.specs.Seats.{Claim, Apart, new_claim}
+use Rattle.bc_data.specs.Seats.{Claim, Apart, new_claim, overlap}
 use Rattle.bc_data.specs.Data as flow
 use Rattle.bc_events.specs.Acts.{is_exclusive, claimed}
 use Rattle.bc_events.specs.Run.{Opening, CanDo}
+use Rattle.bc_events.specs.Run as core
+use Rattle.bc_known.specs.Run as machine
 use Rattle.bc_events.specs.declared.event.Deed.{Deed}
 use Rattle.bc_events.specs.declared.event.Deed.TheVariants as deed
 use Rattle.bc_machine.specs.declared.part.CorePart.TheVariants as part
-use Rattle.bc_machine.specs.World.{World, after, data_of, is_told, claim_in, share_of, IsFlightOf, IsFlight}
-use Rattle.bc_machine.specs.Standing.{leads_each}
+use Rattle.bc_machine.specs.World.{World, after, data_of, is_told, claim_in, share_of, Kept, kept_of, IsCandidateOf, EachIsOf, IsAmong, AreCandidatesOf, IsFlightOf, IsFlight}
+use Rattle.bc_machine.specs.Standing.{candidates_stay, leads_each}
 use Rattle.bc_machine.specs.Bare.{IsBare}
 use Rattle.bc_machine.proofs.Viewing.{plain_view}
 use Rattle.bc_data.specs.Enabled as flow_ask
@@ -156,6 +162,7 @@ module _ {C B : Type 0} (cache_facts : C → DiskFacts) (backing_facts : B → D
   may_claim v f first count how seat holds on none some inside off = λ x y at told. record {
     enabled = go x y at told y.opening.machine.flow.plain refl;
     names = tt;
+    number = tt;
   }
     where
       claims : (x y : World) → AtDeed cache_facts backing_facts v (deed.Claim first count how) x y
@@ -217,7 +224,7 @@ module _ {C B : Type 0} (cache_facts : C → DiskFacts) (backing_facts : B → D
   pub may_release : (v : View cache_facts backing_facts) → IsCoreSeat cache_facts backing_facts v
       → MayDo cache_facts backing_facts v deed.Release
   may_release v seat = λ x y at told. can_alone y v.first deed.Release flow.Release
-      (low cache_facts backing_facts v seat) refl refl (record { heard = tt; steps = tt; can = tt }) tt tt tt
+      (low cache_facts backing_facts v seat) refl refl (record { heard = tt; steps = tt; can = tt }) tt tt tt tt
 
 -- ---- behind a claim, and its release
 
@@ -244,11 +251,118 @@ own_is : (x : World) (d : Deed) (i : ℕ) → claim_in i ((data_of (after x (by 
     ≡ in_range i (note_after x.opening.machine.flow.plain (note_of x i) d).range
 own_is x d i = ap (λ o. in_range i o.range) (note_event x (by i d))
 
+-- ---- behind a claim, and its release, of candidates
+
+-- an exclusive claim kills those of its sectors
+abbrev killed_by : ℕ → ℕ → Bool → Kept → Kept
+killed_by first count exclusive x = record x {
+  alive = if exclusive && overlap first count x.first x.count then false else x.alive;
+}
+
+claim_kills : (x : World) (i first count : ℕ) (how : Share) (n : ℕ)
+    → kept_of ((data_of (after x (by i (deed.Claim first count how)))).candidates n)
+    ≡ killed_by first count (is_exclusive how) (kept_of ((data_of x).candidates n))
+claim_kills x i first count how n = go x.opening.machine.flow.plain
+  where
+    go : (plain : Bool) → kept_of ((machine.run x.opening.machine x.now.machine
+        (core.by i (claimed plain ((data_of x).books.index.leaf first) first count
+        (is_exclusive how)))).whole.flow.candidates n)
+        ≡ killed_by first count (is_exclusive how) (kept_of ((data_of x).candidates n))
+    go false = refl
+    go true = refl
+
+-- of two runs that have a sector each, both say whether they have one in common
+over_is : (first count start size end : ℕ) → 1 ≤ count → 0 < size → start + size ≡ end
+    → nat_lt (max first start) (min (first + count) end) ≡ overlap first count start size
+over_is first count start size end some more is =
+    go (leb_tells (suc first) (start + size)) (leb_tells (suc start) (first + count))
+  where
+    go : ((nat_le (suc first) (start + size) ≡ true) × (suc first ≤ start + size))
+        ⊎ ((nat_le (suc first) (start + size) ≡ false) × (start + size < suc first))
+        → ((nat_le (suc start) (first + count) ≡ true) × (suc start ≤ first + count))
+        ⊎ ((nat_le (suc start) (first + count) ≡ false) × (first + count < suc start))
+        → nat_lt (max first start) (min (first + count) end) ≡ overlap first count start size
+    go (inl p) (inl q) = let a = p.1 in let b = q.1 in
+        lt-ltb (max first start) (min (first + count) end) (omega (arith, some, more, is, a, b))
+        ∙ sym (ap (λ t. t && nat_le (suc start) (first + count)) p.0 ∙ q.0)
+    go (inl p) (inr q) = let a = p.1 in let b = q.1 in
+        le-ltb (max first start) (min (first + count) end) (omega (arith, some, more, is, a, b))
+        ∙ sym (ap (λ t. t && nat_le (suc start) (first + count)) p.0 ∙ q.0)
+    go (inr p) q = let a = p.1 in
+        le-ltb (max first start) (min (first + count) end) (omega (arith, some, more, is, a))
+        ∙ sym (ap (λ t. t && nat_le (suc start) (first + count)) p.0)
+
+killed_one : (first count : ℕ) (k : Kept) (c : Candidate) → 1 ≤ count → IsCandidateOf k c
+    → IsCandidateOf (killed_by first count true k) (killed_over first count c)
+killed_one first count k c some h = go (is_over first count c) refl
+  where
+    same : overlap first count k.first k.count ≡ is_over first count c
+    same = ap (λ n. overlap first count n k.count) h.first
+        ∙ ap (λ n. overlap first count (start_of c.key) n) h.count
+        ∙ sym (over_is first count (start_of c.key) c.key.size c.key.end some h.some
+        (let inside = h.inside in omega (arith, inside)))
+
+    go : (b : Bool) → is_over first count c ≡ b
+        → IsCandidateOf (record k { alive = if overlap first count k.first k.count then false else k.alive })
+        (if b then record c { killed = true } else c)
+    go true is = record {
+      stands = h.stands;
+      alive = ap (λ t. if t then false else k.alive) (same ∙ is);
+      first = h.first;
+      count = h.count;
+      some = h.some;
+      inside = h.inside;
+      place = h.place;
+    }
+    go false is = record {
+      stands = h.stands;
+      alive = ap (λ t. if t then false else k.alive) (same ∙ is) ∙ h.alive;
+      first = h.first;
+      count = h.count;
+      some = h.some;
+      inside = h.inside;
+      place = h.place;
+    }
+
+number_killed : (first count : ℕ) (c : Candidate) → (killed_over first count c).number ≡ c.number
+number_killed first count c = go (is_over first count c)
+  where
+    go : (b : Bool) → (if b then record c { killed = true } else c).number ≡ c.number
+    go true = refl
+    go false = refl
+
+each_killed : (first count : ℕ) (cs : List Candidate) (kept : ℕ → Kept) → 1 ≤ count → EachIsOf kept cs
+    → EachIsOf (λ n. killed_by first count true (kept n)) (kill_over first count cs)
+each_killed first count [] kept some h = tt
+each_killed first count (c ∷ cs) kept some h = (
+  subst (λ n. IsCandidateOf (killed_by first count true (kept n)) (killed_over first count c))
+      (sym (number_killed first count c)) (killed_one first count (kept c.number) c some h.0),
+  each_killed first count cs kept some h.1,
+)
+
+among_killed : (first count : ℕ) (cs : List Candidate) (n : ℕ) → IsAmong n cs
+    → IsAmong n (kill_over first count cs)
+among_killed first count [] n h = h
+among_killed first count (c ∷ cs) n (inl is) = inl (number_killed first count c ∙ is)
+among_killed first count (c ∷ cs) n (inr h) = inr (among_killed first count cs n h)
+
+-- what a claim leaves of the candidates, in the part and in the core
+candidates_claimed : (i first count : ℕ) (how : Share) (cs : List Candidate) (kept : ℕ → Kept)
+    → 1 ≤ count → AreCandidatesOf cs kept
+    → AreCandidatesOf (after_claim (claim_at i first count how) cs)
+    (λ n. killed_by first count (is_exclusive how) (kept n))
+candidates_claimed i first count Shared cs kept some h = record { each = h.each; all = h.all }
+candidates_claimed i first count Exclusive cs kept some h = record {
+  each = each_killed first count cs kept some h.each;
+  all = λ n stands. among_killed first count cs n (h.all n stands);
+}
+
 pub flight_claimed : (f g : InFlight) (x : World) (i first count : ℕ) (how : Share) → IsFlightOf f x
     → g.seats ≡ f.seats → g.claims ≡ f.claims ++ claim_at i first count how ∷ []
+    → g.candidates ≡ after_claim (claim_at i first count how) f.candidates → g.next ≡ f.next
     → (note_of x i).range.count ≡ 0 → 1 ≤ count
     → IsFlightOf g (after x (by i (deed.Claim first count how)))
-flight_claimed f g x i first count how on seats claims none some = record {
+flight_claimed f g x i first count how on seats claims candidates next none some = record {
   seats = seats ∙ on.seats;
   claims = λ n. ap (claim_of n) claims ∙ by_test i n
       (λ b. claim_of n (f.claims ++ claim_at i first count how ∷ [])
@@ -260,11 +374,21 @@ flight_claimed f g x i first count how on seats claims none some = record {
       ∙ sym (own_is x (deed.Claim first count how) i ∙ some_in i first count how some)))
       (λ ne. push_old n f.claims (claim_at i first count how) ne ∙ on.claims n
       ∙ sym (others_stay x (deed.Claim first count how) i n ne));
+  candidates = subst (λ cs. AreCandidatesOf cs
+      (λ n. kept_of ((data_of (after x (by i (deed.Claim first count how)))).candidates n)))
+      (sym candidates)
+      (candidates_stay (after_claim (claim_at i first count how) f.candidates)
+      (λ n. killed_by first count (is_exclusive how) (kept_of ((data_of x).candidates n))) _
+      (claim_kills x i first count how)
+      (candidates_claimed i first count how f.candidates
+      (λ n. kept_of ((data_of x).candidates n)) some on.candidates));
+  next = next ∙ on.next;
 }
 
 pub flight_released : (f g : InFlight) (x : World) (i : ℕ) → IsFlightOf f x → g.seats ≡ f.seats
-    → g.claims ≡ without i f.claims → IsFlightOf g (after x (by i deed.Release))
-flight_released f g x i on seats claims = record {
+    → g.claims ≡ without i f.claims → g.candidates ≡ f.candidates → g.next ≡ f.next
+    → IsFlightOf g (after x (by i deed.Release))
+flight_released f g x i on seats claims candidates next = record {
   seats = seats ∙ on.seats;
   claims = λ n. ap (claim_of n) claims ∙ by_test i n
       (λ b. claim_of n (without i f.claims)
@@ -273,6 +397,9 @@ flight_released f g x i on seats claims = record {
       ≡ claim_in k ((data_of (after x (by i deed.Release))).seats k).claim) is
       (gone_own i f.claims ∙ sym (own_is x deed.Release i)))
       (λ ne. gone_other n i f.claims ne ∙ on.claims n ∙ sym (others_stay x deed.Release i n ne));
+  candidates = subst (λ cs. AreCandidatesOf cs (λ n. kept_of ((data_of x).candidates n)))
+      (sym candidates) on.candidates;
+  next = next ∙ on.next;
 }
 
 module _ {C B : Type 0} (cache_facts : C → DiskFacts) (backing_facts : B → DiskFacts) where
@@ -288,28 +415,6 @@ module _ {C B : Type 0} (cache_facts : C → DiskFacts) (backing_facts : B → D
       (λ y view on. step y on (note_since cache_facts backing_facts v did.is.before y seat.seat.live did.is.since view))
       (held (m cache_facts backing_facts) (framed cache_facts backing_facts) v did.is.before 1
       (part.Flight f) seat.seat did.is.since holds (refl, on)).1)
-
-  -- a claim that was noted in the part and is let go again
-  back_in : (f g : InFlight) (x : World) (i first count : ℕ) (how : Share) → IsFlightOf f x
-      → g.seats ≡ f.seats → g.claims ≡ without i (f.claims ++ claim_at i first count how ∷ [])
-      → claim_of i f.claims ≡ None → IsFlightOf g x
-  back_in f g x i first count how on seats claims none = record {
-    seats = seats ∙ on.seats;
-    claims = λ n. ap (claim_of n) claims ∙ by_test i n
-        (λ b. claim_of n (without i (f.claims ++ claim_at i first count how ∷ []))
-        ≡ claim_in n ((data_of x).seats n).claim)
-        (λ is. subst (λ k. claim_of k (without i (f.claims ++ claim_at i first count how ∷ []))
-        ≡ claim_in k ((data_of x).seats k).claim) is
-        (gone_own i (f.claims ++ claim_at i first count how ∷ []) ∙ sym none ∙ on.claims i))
-        (λ ne. gone_other n i (f.claims ++ claim_at i first count how ∷ []) ne
-        ∙ push_old n f.claims (claim_at i first count how) ne ∙ on.claims n);
-  }
-
-  pub flight_back : (f g : InFlight) (x : World) (i first count : ℕ) (how : Share) → IsFlight f x
-      → g.seats ≡ f.seats → g.claims ≡ without i (f.claims ++ claim_at i first count how ∷ [])
-      → claim_of i f.claims ≡ None → IsFlight g x
-  flight_back f g x i first count how on seats claims none = λ y view.
-      back_in f g y i first count how (on y view) seats claims none
 
   -- a seat that noted no claim has none in the part
   pub no_claim : (v : View cache_facts backing_facts) (f : InFlight) (i : ℕ) → i ≡ v.first
@@ -343,21 +448,6 @@ module _ {C B : Type 0} (cache_facts : C → DiskFacts) (backing_facts : B → D
         sym ((on (world cache_facts backing_facts v) (inl refl)).claims taken.0.seat) ∙ taken.1,
         taken.2,
       )
-
-  -- nothing has changed in the part
-  pub same_flight : (f g : InFlight) (x : World) → g.seats ≡ f.seats → g.claims ≡ f.claims
-      → IsFlight f x → IsFlight g x
-  same_flight f g x seats claims on = λ y view. record {
-    seats = seats ∙ (on y view).seats;
-    claims = λ n. ap (claim_of n) claims ∙ (on y view).claims n;
-  }
-
-  pub claim_stands : (f g : InFlight) (i first count : ℕ) (how : Share) (c : FlightClaim)
-      → c ≡ claim_at i first count how → g.claims ≡ f.claims ++ claim_at i first count how ∷ []
-      → claim_of i f.claims ≡ None → claim_of c.seat g.claims ≡ Some c
-  claim_stands f g i first count how c is claims none =
-      subst (λ (y : FlightClaim). claim_of y.seat g.claims ≡ Some y) (sym is)
-      (ap (claim_of i) claims ∙ push_new i f.claims (claim_at i first count how) refl none)
 
   pub waited_flight : (v w : View cache_facts backing_facts) (f : InFlight)
       → IsCoreSeat cache_facts backing_facts v → Holds v.parts 1

@@ -8,7 +8,8 @@ use Rattle.bc_disk.specs.Disk.{DiskFacts}
 use Rattle.bc_machine.specs.declared.part.BackingPart.{BackingPart}
 use Rattle.bc_machine.specs.declared.part.CorePart.{CorePart}
 use Rattle.bc_machine.specs.declared.part.CorePart.TheVariants as part
-use Rattle.bc_machine.specs.World.{World, opening, StandsAs, IsFlightOf, IsBackingOf, IsBacking}
+use Rattle.bc_data.specs.Seats.{no_candidate}
+use Rattle.bc_machine.specs.World.{World, opening, StandsAs, AreCandidatesOf, kept_of, IsFlightOf, IsBackingOf, IsBacking}
 use Rattle.bc_machine.proofs.Viewing.{plain_view}
 use Rattle.bc_hand.specs.Seats.{core}
 use Rattle.bc_deed.specs.Begun.{opening_parts}
@@ -55,11 +56,12 @@ module _ {C B : Type 0} (cache_facts : C → DiskFacts) (backing_facts : B → D
 
   -- as a run over the backing device alone begins
   pub begins : (f : InFlight) (b : BackingPart B) → f.seats ≡ 320 → f.claims ≡ []
+      → f.candidates ≡ [] → f.next ≡ 0
       → StandsFor (backing_facts b.disk) (settled_model (backing_facts b.disk))
       → b.offset + b.size ≤ (backing_facts b.disk).sectors
       → StandFrom (core cache_facts backing_facts)
       (opening cache_facts backing_facts (opening_parts f b)) 0 (opening_parts f b)
-  begins f b seats claims stands inside =
+  begins f b seats claims candidates next stands inside =
       let x = opening cache_facts backing_facts (opening_parts f b) in (
         record { not_flight = λ is. cc; not_backing = λ is. cc; plain = refl },
         (
@@ -68,6 +70,9 @@ module _ {C B : Type 0} (cache_facts : C → DiskFacts) (backing_facts : B → D
             λ y view. subst (IsFlightOf f) (sym (plain_view x y refl view)) (record {
               seats = seats;
               claims = λ n. ap (claim_of n) claims;
+              candidates = subst (λ cs. AreCandidatesOf cs (λ n. kept_of no_candidate))
+                  (sym candidates) (record { each = tt; all = λ n stands. absurd (cc) });
+              next = next;
             }),
           ),
           (

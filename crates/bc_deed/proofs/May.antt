@@ -24,7 +24,7 @@ use Rattle.bc_disk.specs.declared.disk.Device.TheVariants as which
 use Rattle.bc_machine.specs.declared.part.CorePart.{CorePart}
 use Rattle.bc_machine.specs.declared.part.CorePart.TheVariants as part
 use Rattle.bc_machine.specs.Plain.{worker_of}
-use Rattle.bc_machine.specs.World.{World, CanFollow, data_of, are_plain, opening, after, IsBackingOf, IsBacking}
+use Rattle.bc_machine.specs.World.{World, CanFollow, IsNumbered, data_of, are_plain, opening, after, IsBackingOf, IsBacking}
 use Rattle.bc_machine.specs.Standing.{leads_each}
 use Rattle.bc_machine.proofs.Viewing.{opening_stays, plain_view}
 use Rattle.bc_shares.specs.Touched.{NamesItsChange}
@@ -68,8 +68,9 @@ map_if_err (Err e) f h = f e h
 pub can_alone : (y : World) (i : ℕ) (d : Deed) (act : flow.Act) → i < 320
     → acts_of y.opening.machine y.now.machine i d ≡ Some (Alone act ∷ []) → is_quiet act ≡ true
     → flow_ask.IsEnabled y.opening.machine.flow (data_of y) i act → IsFit y.opening y.now i d
-    → IsOf y.opening i (line_of d) → NamesItsChange y.now.machine.whole.parts d → CanFollow y (by i d)
-can_alone y i d act low is quiet on fit of names = record {
+    → IsOf y.opening i (line_of d) → NamesItsChange y.now.machine.whole.parts d → IsNumbered y.log d
+    → CanFollow y (by i d)
+can_alone y i d act low is quiet on fit of names number = record {
   enabled = subst (λ o. IsSome o (CanDo y.opening y.now (by i d))) (sym is) (record {
     seat = lt-ltb i 320 low;
     course = (record { data_allows = (on, tt); asks = quiet }, tt);
@@ -78,6 +79,7 @@ can_alone y i d act low is quiet on fit of names = record {
     plain = λ _. (tt, tt);
   });
   names = names;
+  number = number;
 }
 
 -- ---- parts that a deed doesn't change
@@ -157,7 +159,7 @@ module _ {C B : Type 0} (cache_facts : C → DiskFacts) (backing_facts : B → D
       → MayDo cache_facts backing_facts v (deed.FlushFrom of)
   may_begin_flush v of seat line = λ x y at told. can_alone y v.first (deed.FlushFrom of)
       (flow.Say (flow.BeginFlush of.line)) (low v seat) refl refl
-      (record { heard = at.running refl; steps = tt; can = tt }) tt (line_at v (deed.FlushFrom of) x y of at line) tt
+      (record { heard = at.running refl; steps = tt; can = tt }) tt (line_at v (deed.FlushFrom of) x y of at line) tt tt
 
   pub may_end_flush : (v : View cache_facts backing_facts) (of : LineNumber)
       → IsCoreSeat cache_facts backing_facts v → worker_of v.first ≡ of.worker
@@ -177,7 +179,7 @@ module _ {C B : Type 0} (cache_facts : C → DiskFacts) (backing_facts : B → D
           keys = omega arith;
           firm = at.note.flush.2 firm;
         };
-      }) tt (line_at v (deed.FlushDone of) x y of at line) tt
+      }) tt (line_at v (deed.FlushDone of) x y of at line) tt tt
 
   pub may_acknowledge : (v : View cache_facts backing_facts) (of : LineNumber) (first count : ℕ)
       → IsCoreSeat cache_facts backing_facts v → worker_of v.first ≡ of.worker
@@ -202,7 +204,7 @@ module _ {C B : Type 0} (cache_facts : C → DiskFacts) (backing_facts : B → D
           keys = omega arith;
           firm = at.note.last.3 last.firm;
         };
-      }) tt (line_at v (deed.Durable of first count) x y of at line) tt
+      }) tt (line_at v (deed.Durable of first count) x y of at line) tt tt
 
   pub may_begin_line : (v : View cache_facts backing_facts) (of : LineNumber)
       → IsCoreSeat cache_facts backing_facts v → worker_of v.first ≡ of.worker
@@ -216,6 +218,7 @@ module _ {C B : Type 0} (cache_facts : C → DiskFacts) (backing_facts : B → D
       plain = λ _. tt;
     };
     names = tt;
+    number = tt;
   }
 
   pub may_end_line : (v : View cache_facts backing_facts) (of : LineNumber)
@@ -231,6 +234,7 @@ module _ {C B : Type 0} (cache_facts : C → DiskFacts) (backing_facts : B → D
       plain = λ _. tt;
     };
     names = tt;
+    number = tt;
   }
 
   -- nothing is cached, so the backing device has what is shown
@@ -273,26 +277,26 @@ module _ {C B : Type 0} (cache_facts : C → DiskFacts) (backing_facts : B → D
             ),
           ),
         );
-      }) tt (line_at v (deed.Answer of first values) x y of at line) tt
+      }) tt (line_at v (deed.Answer of first values) x y of at line) tt tt
 
   -- ---- calls of the backing device
 
   pub may_barrier : (v : View cache_facts backing_facts) → IsCoreSeat cache_facts backing_facts v
       → v.heard ≡ None → MayDo cache_facts backing_facts v deed.BackingBarrier
   may_barrier v seat untold = λ x y at told. can_alone y v.first deed.BackingBarrier flow.BackingBarrier (low v seat)
-      refl refl (record { heard = inr (at.late untold); steps = tt; can = tt }) tt tt tt
+      refl refl (record { heard = inr (at.late untold); steps = tt; can = tt }) tt tt tt tt
 
   pub may_fail_barrier : (v : View cache_facts backing_facts) → IsCoreSeat cache_facts backing_facts v
       → v.heard ≡ None → MayDo cache_facts backing_facts v (deed.DeviceFault (failure.Barrier which.Backing))
   may_fail_barrier v seat untold = λ x y at told. can_alone y v.first
       (deed.DeviceFault (failure.Barrier which.Backing)) (flow.Fail flow.BarrierFault) (low v seat)
-      refl refl (record { heard = inr (at.late untold); steps = tt; can = tt }) tt tt tt
+      refl refl (record { heard = inr (at.late untold); steps = tt; can = tt }) tt tt tt tt
 
   pub may_fail_read : (v : View cache_facts backing_facts) → IsCoreSeat cache_facts backing_facts v
       → v.heard ≡ None → MayDo cache_facts backing_facts v (deed.DeviceFault (failure.Read which.Backing))
   may_fail_read v seat untold = λ x y at told. can_alone y v.first
       (deed.DeviceFault (failure.Read which.Backing)) (flow.Fail flow.ReadFault) (low v seat)
-      refl refl (record { heard = inr (at.late untold); steps = tt; can = tt }) tt tt tt
+      refl refl (record { heard = inr (at.late untold); steps = tt; can = tt }) tt tt tt tt
 
   pub may_read : (v : View cache_facts backing_facts) (b : BackingPart B) (first : ℕ) (values : Values)
       → IsCoreSeat cache_facts backing_facts v → v.heard ≡ None → Holds v.parts 5
@@ -315,7 +319,7 @@ module _ {C B : Type 0} (cache_facts : C → DiskFacts) (backing_facts : B → D
                 refl refl first values told is s value here,
           ),
         );
-      }) tt tt tt
+      }) tt tt tt tt
 
   bypass : (v : View cache_facts backing_facts) (x y : World) (d : Deed) (first : ℕ) (values : Values)
       → AtDeed cache_facts backing_facts v d x y → 0 < length values
@@ -344,7 +348,7 @@ module _ {C B : Type 0} (cache_facts : C → DiskFacts) (backing_facts : B → D
         heard = inr (at.late untold);
         steps = tt;
         can = bypass v x y (deed.BackingWrite first (Some of) values) first values at some plain may;
-      }) tt (line_at v (deed.BackingWrite first (Some of) values) x y of at line) tt
+      }) tt (line_at v (deed.BackingWrite first (Some of) values) x y of at line) tt tt
 
   pub may_fail_write : (v : View cache_facts backing_facts) (first : ℕ) (of : LineNumber) (values : Values)
       → IsCoreSeat cache_facts backing_facts v → v.heard ≡ None → worker_of v.first ≡ of.worker
@@ -356,7 +360,7 @@ module _ {C B : Type 0} (cache_facts : C → DiskFacts) (backing_facts : B → D
         heard = inr (at.late untold);
         steps = tt;
         can = bypass v x y (deed.DeviceFault (failure.BackingWrite first (Some of) values)) first values at some plain may;
-      }) tt (line_at v (deed.DeviceFault (failure.BackingWrite first (Some of) values)) x y of at line) tt
+      }) tt (line_at v (deed.DeviceFault (failure.BackingWrite first (Some of) values)) x y of at line) tt tt
 
   -- how many sectors the data are
   pub size_is : (v : View cache_facts backing_facts) (b : BackingPart B)

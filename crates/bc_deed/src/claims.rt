@@ -1,9 +1,11 @@
 //! The steps that claim ranges of sectors, and let them go.
-ghost use Rattle.std.specs.Prelude.{◌≡◌, ◌+◌, ◌<◌, ◌≤◌, ◌^◌, ◌==◌, ℕ, true, false, None, Some, IfOk, IfErr};
+ghost use Rattle.std.specs.Prelude.{◌≡◌, ◌+◌, ◌<◌, ◌≤◌, ◌^◌, ◌==◌, ℕ, true, false, None, Some, All, IfOk, IfErr};
 ghost use Rattle.bc_parts.specs.Seat.{Holds};
 ghost use Rattle.bc_seats.specs.Seats.{Kept};
 ghost use Rattle.bc_machine.specs.World.{IsFlight};
 ghost use Rattle.bc_events.specs.declared.event.Deed.{Deed};
+ghost use Rattle.bc_flight.specs.Claims.{conflicts_any};
+ghost use Rattle.bc_flight.specs.Flight.{IsRanged};
 ghost use Rattle.bc_hand.specs.Seats.{core, IsCoreSeat, Works, HasNoneBehindFlight, Did, kinds, note, world};
 ghost use Rattle.bc_deed.specs.Asked.{HasClaimed, IsClaim, IsHalted, size_of};
 
@@ -49,7 +51,22 @@ pub fn claim<C: Disk + Drop, B: Disk + Drop, R: Wait>(
     done
 }
 
-// The same, of the part in hand.
+// Whether one of these claims conflicts with it.
+fn conflicts_with(claim: &Claim, claims: &[Claim]) -> bool
+    requires claim { IsRanged claim.now }
+    requires claims { All IsRanged claims.now }
+    ensures { result ≡ conflicts_any claim.now claims.now }
+{
+    for other in claims {
+        if claim.conflicts(other) {
+            return true;
+        }
+    }
+    false
+}
+
+// The same, of the part in hand. The part is changed once the claim is committed, since a claim kills
+// candidates there.
 fn claim_in<C: Disk, B: Disk, R: Wait>(
     rt: &R,
     parts: &CoreParts<C, B>,
@@ -74,25 +91,27 @@ fn claim_in<C: Disk, B: Disk, R: Wait>(
     ensures err { IfErr result (λ error. IsHalted error seat.new.seen
         × Did C.facts B.facts None seat.old seat.new) }
 {
-    let Some(claim) = flight.try_claim(seat.number(), first, count, share) else {
-        return Ok(false);
+    let claim = Claim {
+        seat: seat.number(),
+        first,
+        count,
+        share,
     };
-    match commit(
-        rt,
-        parts,
-        seat,
-        Deed::Claim {
-            first,
-            count,
-            share,
-        },
-    ) {
-        Ok(()) => Ok(true),
-        Err(device) => {
-            flight.release(claim);
-            Err(StepError::Halted(device))
-        }
+    if conflicts_with(&claim, flight.claims()) {
+        return Ok(false);
     }
+    let deed = Deed::Claim {
+        first,
+        count,
+        share,
+    };
+    if let Err(device) = commit(rt, parts, seat, deed) {
+        return Err(StepError::Halted(device));
+    }
+    let Some(_) = flight.try_claim(claim.seat, first, count, share) else {
+        unreachable!()
+    };
+    Ok(true)
 }
 
 /// Lets the seat's claim go, also after a halt.

@@ -244,6 +244,7 @@ module _ {C B : Type 0} (cache_facts : C → DiskFacts) (backing_facts : B → D
                   since
                   knows o seen.origin seen.course) running;
               names = tt;
+              number = tt;
             })
 
     -- ---- the write
@@ -304,6 +305,7 @@ module _ {C B : Type 0} (cache_facts : C → DiskFacts) (backing_facts : B → D
                     enabled = write_enabled o x.log seen.origin.sound seen.origin.cached seen.course
                         (knows_at x since o seen.origin seen.course) late;
                     names = tt;
+                    number = tt;
                   })
 
           may_fail_write : MayDo cache_facts backing_facts v fault
@@ -319,6 +321,7 @@ module _ {C B : Type 0} (cache_facts : C → DiskFacts) (backing_facts : B → D
                     enabled = fault_enabled o x.log seen.origin.sound seen.origin.cached seen.course
                         (knows_at x since o seen.origin seen.course) late;
                     names = tt;
+                    number = tt;
                   })
 
           -- by whatever place and values these are

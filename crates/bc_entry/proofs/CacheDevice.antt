@@ -153,6 +153,7 @@ module _ {C B : Type 0} (cache_facts : C → DiskFacts) (backing_facts : B → D
       plain = λ plain. absurd (never y.opening.machine.flow.plain plain (at.plain ∙ cached));
     };
     names = tt;
+    number = tt;
   }
 
   pub may_fail_barrier : (v : View cache_facts backing_facts)
@@ -161,7 +162,7 @@ module _ {C B : Type 0} (cache_facts : C → DiskFacts) (backing_facts : B → D
   may_fail_barrier v seat untold = λ x y at told. can_alone y v.first
       (deed.DeviceFault (failure.Barrier which.Cache)) (flow.Fail flow.BarrierFault)
       (low cache_facts backing_facts v seat) refl refl
-      (record { heard = inr (at.late untold); steps = tt; can = tt }) tt tt tt
+      (record { heard = inr (at.late untold); steps = tt; can = tt }) tt tt tt tt
 
   -- ---- what it leaves
 

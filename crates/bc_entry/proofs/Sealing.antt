@@ -386,6 +386,7 @@ module _ {C B : Type 0} (cache_facts : C → DiskFacts) (backing_facts : B → D
                   (known_since cache_facts backing_facts v x (NeedsNone j.needed) journal
                   (needs_kept j.needed) since needs o seen.origin seen.course) running;
               names = tt;
+              number = tt;
             })
 
     module _ (w : View cache_facts backing_facts) (heads : Heads)

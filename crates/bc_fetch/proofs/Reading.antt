@@ -49,7 +49,7 @@ module _ {C B : Type 0} (cache_facts : C → DiskFacts) (backing_facts : B → D
   may_read_node v seat unheard at values = λ x y at_ told. can_alone y v.first
       (deed.CacheRead at None values)
       (flow.Fail flow.ReadFault) (low cache_facts backing_facts v seat) refl refl
-      (record { heard = inr (at_.late unheard); steps = tt; can = tt }) tt tt tt
+      (record { heard = inr (at_.late unheard); steps = tt; can = tt }) tt tt tt tt
 
   -- the cache device behind a commit that changed it
   committed_cache : (v w : View cache_facts backing_facts) (old new : C) (d : Deed)

@@ -11,7 +11,7 @@ use Rattle.bc_cache.specs.declared.slots.Cached.{Cached}
 use Rattle.bc_disk.specs.Device.{next_count}
 use Rattle.bc_leaves.specs.Parts.{Pending}
 use Rattle.bc_leaves.specs.Parts as parts
-use Rattle.bc_machine.specs.Containers.{AreEntriesOf, AreLeavesOf, IsInTree, IsLeafFor}
+use Rattle.bc_machine.specs.Containers.{AreEntriesOf, AreLeavesOf, IsHeldIn, IsInTree, IsLeafFor}
 use Rattle.bc_node.specs.Leaf.{Leaf}
 use Rattle.bc_node.specs.declared.pending.Entries.{Entries}
 use Rattle.bc_shares.specs.Shares.{leaf_share}
@@ -78,8 +78,26 @@ module _ (w : Opening) (st : parts.State) (count part : ℕ) (cache : NodeCache)
       | inr other ↦ h.leaves i c other.1
     ];
     others = λ k its live misses. h.others k its live (λ j has. go k misses j has (cases_eq j slot));
+    leaving = λ k its leaves. let one = h.leaving k its leaves in
+        stays_held k one.0 one.1 one.2 one.3 one.4 (cases_eq one.0 slot);
   }
     where
+      stays_held : (k i : ℕ) (c : Cached) → slice_get cache.slots i ≡ Some (Some c) → c.number ≡ k
+          → c.held ≡ true → (i ≡ slot) ⊎ (i ≢ slot)
+          → IsHeldIn (slice_set cache.slots slot (Some (record cached { used = n }))) k
+      stays_held k i c at is held (inl e) =
+          let here = subst (λ m. slice_get cache.slots m ≡ Some (Some c)) e at in
+          let same : cached ≡ c = cc in (
+            slot,
+            record cached { used = n },
+            set_same cache.slots slot (Some (record cached { used = n }))
+                (slice_get_within cache.slots slot (Some cached) there),
+            ap (λ (x : Cached). x.number) same ∙ is,
+            ap (λ (x : Cached). x.held) same ∙ held,
+          )
+      stays_held k i c at is held (inr ne) =
+          (i, c, other_stays cache.slots slot (Some (record cached { used = n })) i (Some c) ne at, is, held)
+
       go : (k : ℕ) → Misses (slice_set cache.slots slot (Some (record cached { used = n }))) k
           → (j : ℕ) → HasLeaf cache.slots j k → (j ≡ slot) ⊎ (j ≢ slot) → ⊥
       go k misses j has (inl e) = misses slot (record {
@@ -116,8 +134,23 @@ module _ (w : Opening) (st : parts.State) (count part : ℕ) (cache : NodeCache)
       | inr other ↦ h.leaves i c other.1
     ];
     others = λ k its live misses. by_kept k its live misses kept there can;
+    leaving = λ k its leaves. let one = h.leaving k its leaves in (
+      one.0,
+      one.1,
+      other_stays cache.slots slot None one.0 (Some one.1)
+          (λ e. not_it one.1 one.4 kept can
+          (sym there ∙ subst (λ m. slice_get cache.slots m ≡ Some (Some one.1)) e one.2)) one.2,
+      one.3,
+      one.4,
+    );
   }
     where
+      -- what is held doesn't go
+      not_it : (c : Cached) → c.held ≡ true → (kept : Option Cached) → CanGo kept
+          → Some kept ≡ Some (Some c) → ⊥
+      not_it c held None can is = absurd (cc)
+      not_it c held (Some d) can is = let free = can.0 in absurd (cc)
+
       -- no slot had the leaf, where the one that goes is another
       missed : (k : ℕ) → Misses (slice_set cache.slots slot None) k
           → ((c : Cached) → slice_get cache.slots slot ≡ Some (Some c) → c.number ≡ k → ⊥)
@@ -178,6 +211,15 @@ module _ (w : Opening) (st : parts.State) (count part : ℕ) (cache : NodeCache)
           (subst (λ m. slice_get cache.slots m ≡ Some (Some has.cached)) e has.there) in cc)) has.there;
       number_is = has.number_is;
     }));
+    leaving = λ k same leaves. let one = h.leaving k same leaves in (
+      one.0,
+      one.1,
+      other_stays cache.slots slot (Some (coming number leaf n)) one.0 (Some one.1)
+          (λ e. absurd (let other = some_is None (Some one.1) (slice_get cache.slots slot) empty
+          (subst (λ m. slice_get cache.slots m ≡ Some (Some one.1)) e one.2) in cc)) one.2,
+      one.3,
+      one.4,
+    );
   }
 
 -- ---- the steps on slots

@@ -171,18 +171,18 @@ slots_installed w st i c come gone fits names slots k s tree within =
     (λ free. slots k s (free_tree (p.leaves k).role free) range)
     (after_install (p.leaves k).role role)
 
-slot_event : (w : Opening) (st : State) (i : ℕ) (d : Deed) → Fits st.machine.whole.parts
-    → Follows w st (record { seat = i; deed = d }) → HasSlots st
+slot_event : (w : Opening) (st : State) (log : List Event) (i : ℕ) (d : Deed)
+    → Fits st.machine.whole.parts → Follows w st log (record { seat = i; deed = d }) → HasSlots st
     → HasSlots (after w st (record { seat = i; deed = d }))
-slot_event w st i (deed.Install c come gone) fits on slots =
+slot_event w st log i (deed.Install c come gone) fits on slots =
     slots_installed w st i c come gone fits on.names slots
-slot_event w st i d fits on slots = slots_shrunk st (after w st (record { seat = i; deed = d }))
+slot_event w st log i d fits on slots = slots_shrunk st (after w st (record { seat = i; deed = d }))
     (shrunk w st (record { seat = i; deed = d }) on.enabled tt) slots
 
 slots_in : (o : Origin) → IsSound o.opening.machine o.parts → AreInSlots o.opening o.parts
     → (es : List Event) → IsCourseOf o es → HasSlots (replay o es)
 slots_in o sound first [] on = first
-slots_in o sound first (e ∷ es) on = slot_event o.opening (replay o es) e.seat e.deed
+slots_in o sound first (e ∷ es) on = slot_event o.opening (replay o es) es e.seat e.deed
     (inv_course o sound es on.2).fits on.0 (slots_in o sound first es on.2)
 
 pub law_slots : LawSlots

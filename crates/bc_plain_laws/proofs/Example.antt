@@ -85,6 +85,7 @@ claim_on = record {
       plain = λ _. (tt, (tt, tt));
     };
     names = tt;
+    number = tt;
   };
   follows = λ o is course. let t = is.with_cache in absurd (cc);
 }
@@ -125,6 +126,7 @@ write_on = record {
       plain = λ _. (tt, tt);
     };
     names = tt;
+    number = tt;
   };
   follows = λ o is course. let t = is.with_cache in absurd (cc);
 }
@@ -144,6 +146,7 @@ barrier_on = record {
       plain = λ _. (tt, tt);
     };
     names = tt;
+    number = tt;
   };
   follows = λ o is course. let t = is.with_cache in absurd (cc);
 }

@@ -195,4 +195,4 @@ module _ {C B : Type 0} (cache_facts : C → DiskFacts) (backing_facts : B → D
                       known_value x o seen.origin seen.course since there same s value covers (may s value here),
                     ),
               );
-            }) tt line tt) range same running line
+            }) tt line tt tt) range same running line

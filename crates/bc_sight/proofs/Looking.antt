@@ -151,7 +151,7 @@ module _ {C B : Type 0} (cache_facts : C → DiskFacts) (backing_facts : B → D
           heard = at.running refl;
           steps = tt;
           can = λ s covers. can_see x y seen.0 seen.1 on at.note.range s covers;
-        }) tt tt tt
+        }) tt tt tt tt
       where
         can_see : (x y : World) (o : Origin) → IsSeenFrom o x y → AreLeaves (has.hand.part - 6) has.hand.cache x
             → (note_of y v.first).range ≡ (note cache_facts backing_facts v).range

@@ -187,7 +187,7 @@ module _ {C B : Type 0} (cache_facts : C → DiskFacts) (backing_facts : B → D
             (λ s value here.
             let inside = at_range first values s value here in
             pointed x o since seen.origin seen.course s inside.0 inside.1
-            (covers_it (seen_from o x) range s inside.0 inside.1)) tt tt)
+            (covers_it (seen_from o x) range s inside.0 inside.1)) tt tt tt)
             range late told
 
   -- what it knows behind a read
@@ -255,7 +255,7 @@ module _ {C B : Type 0} (cache_facts : C → DiskFacts) (backing_facts : B → D
       → v.heard ≡ None → MayDo cache_facts backing_facts v (deed.DeviceFault (failure.Read device.Cache))
   may_fail_cache_read v seat unheard = λ x y at told. can_alone y v.first
       (deed.DeviceFault (failure.Read device.Cache)) (flow.Fail flow.ReadFault) (low cache_facts backing_facts v seat)
-      refl refl (record { heard = inr (at.late unheard); steps = tt; can = tt }) tt tt tt
+      refl refl (record { heard = inr (at.late unheard); steps = tt; can = tt }) tt tt tt tt
 
   -- how many sectors the cache device has
   sectors_called : (o : Option _) (x : Side) → (called device.Cache o x).sectors ≡ x.sectors

@@ -30,6 +30,7 @@ new-requires-3-clause-stand g c =
     c.push_reserved-4.ensures.items c.push_reserved-5.ensures.items
     c.push_reserved-6.ensures.items c.add_leaves.ensures))
     (begins g.C.Disk.facts g.B.Disk.facts c.in-Ok-set_apart.large.tree k c.in-Ok.ensures.0 c.in-Ok.ensures.1
+    c.in-Ok.ensures.2 c.in-Ok.ensures.3
     c.requires.cache c.requires.backing c.requires.inside)
 
 pub devices_in-requires : goal.devices_in-requires
@@ -83,6 +84,8 @@ returns-in-Ok-new-clause-ok g c =
       made = record {
         seats = c.in-Ok.ensures.0;
         claims = c.in-Ok.ensures.1;
+        candidates = c.in-Ok.ensures.2;
+        next = c.in-Ok.ensures.3;
         buckets = subst (λ (b : BucketsPart). AreUnopened c.args.ready.buckets c.args.ready.reserves b)
             (sym c.in-Ok-set_apart.ensures.1) c.unopened-buckets.ensures;
         journal = c.in-Ok-set_apart.ensures.2;

@@ -10,7 +10,8 @@ returns-clause-flight g c = let v = c.args.seat.now in let f = c.args.flight.now
     committed_flight g.C.Disk.facts g.B.Disk.facts v c.commit.new.seat f c.release.new.self deed.Release
     c.requires.holds c.requires.flight c.in-Ok.ensures.ok
     (λ x on firm. flight_released f c.release.new.self x v.first on c.release.ensures.seats
-    (c.release.ensures.claims ∙ ap (λ n. without n f.claims) c.requires.its.its_seat))
+    (c.release.ensures.claims ∙ ap (λ n. without n f.claims) c.requires.its.its_seat)
+    c.release.ensures.candidates c.release.ensures.next)
     c.requires.seat
 
 pub release-requires : goal.release-requires

@@ -33,4 +33,5 @@ new-requires-3-clause-stand g c = let f = c.in-Ok.flight in let b = c.args.backi
     c.push_reserved.ensures.items c.push_reserved-2.ensures.items c.push_reserved-3.ensures.items
     c.push_reserved-4.ensures.items c.push_reserved-5.ensures.items c.push_reserved-6.ensures.items))
     (begins g.C.Disk.facts g.B.Disk.facts f b c.in-Ok.ensures.0 c.in-Ok.ensures.1
+    c.in-Ok.ensures.2 c.in-Ok.ensures.3
     c.requires.backing c.requires.inside)
