@@ -1,7 +1,7 @@
-mod Lists
-mod Ends
-mod Open
-mod Cut
+pub mod Lists
+pub mod Ends
+pub mod Open
+pub mod Cut
 pub mod Steps
 pub mod Events
 pub mod Others
