@@ -229,9 +229,44 @@ pub fn backing_write<C: Disk + Drop, B: Disk + Drop, R: Wait>(
     let Ok(values) = values.copy() else {
         return Err(StepError::Memory);
     };
+    if values.len() == 1 {
+        let mut sector = [0; 512];
+        values.put_into(&mut sector);
+        return write_bytes(rt, parts, seat, hand, first, values, &sector, of);
+    }
     let Some(bytes) = bytes_of(alloc, &values) else {
         return Err(StepError::Memory);
     };
+    write_bytes(rt, parts, seat, hand, first, values, &bytes, of)
+}
+
+// The same, of values that have these bytes.
+fn write_bytes<C: Disk + Drop, B: Disk + Drop, R: Wait>(
+    rt: &R,
+    parts: &CoreParts<C, B>,
+    seat: &mut CoreSeat<C, B>,
+    hand: &mut Hand<C, B>,
+    first: u64,
+    values: Values,
+    bytes: &[u8],
+    of: LineNumber,
+) -> Result<(), StepError>
+    requires works { Works C.facts B.facts parts.now seat.old hand.old }
+    requires unheard { seat.old.heard ≡ None }
+    requires plain { are_plain C.facts B.facts parts.now.run.start ≡ true }
+    requires promise { 0 < seat.old.promises }
+    requires line { worker_of seat.old.first ≡ of.worker }
+    requires some { 0 < length values }
+    requires inside { first + length values ≤ size_of C.facts B.facts seat.old.run.start }
+    requires bytes { (values_of bytes.now ≡ values) × (length bytes.now ≡ 512 * length values) }
+    requires may { MayWrite (note C.facts B.facts seat.old) first (length values) }
+    ensures works { Works C.facts B.facts parts.now seat.new hand.new }
+    ensures hand { kinds hand.new ≡ kinds hand.old }
+    ensures ok { OnOk result (Did C.facts B.facts
+        (Some (Deed.BackingWrite first (Some of) values)) seat.old seat.new) }
+    ensures err { IfErr result (λ error. HasFailedOr C.facts B.facts error
+        (Deed.DeviceFault (Failure.BackingWrite first (Some of) values)) seat.old seat.new) }
+{
     let (mut backing, taken) = borrow_backing(rt, parts, seat, hand);
     let done = write_in(rt, parts, seat, &mut backing, first, values, bytes, of);
     return_backing(parts, seat, hand, backing, taken);
@@ -257,7 +292,7 @@ fn write_in<C: Disk, B: Disk, R: Wait>(
     backing: &mut BackingPart<B>,
     first: u64,
     values: Values,
-    bytes: Vec<u8>,
+    bytes: &[u8],
     of: LineNumber,
 ) -> Result<(), StepError>
     requires run { seat.old.run ≡ parts.now.run }
@@ -270,7 +305,7 @@ fn write_in<C: Disk, B: Disk, R: Wait>(
     requires line { worker_of seat.old.first ≡ of.worker }
     requires some { 0 < length values }
     requires inside { first + length values ≤ backing.old.size }
-    requires bytes { (values_of bytes.items ≡ values) × (length bytes.items ≡ 512 * length values) }
+    requires bytes { (values_of bytes.now ≡ values) × (length bytes.now ≡ 512 * length values) }
     requires may { MayWrite (note C.facts B.facts seat.old) first (length values) }
     ensures seat { IsCoreSeat C.facts B.facts seat.new }
     ensures kept { Kept (core C.facts B.facts) seat.old seat.new (λ k. k == 5) }
@@ -281,7 +316,7 @@ fn write_in<C: Disk, B: Disk, R: Wait>(
         (Deed.DeviceFault (Failure.BackingWrite first (Some of) values)) seat.old seat.new) }
 {
     let at = backing.offset + first;
-    match backing.disk.write(at, &bytes) {
+    match backing.disk.write(at, bytes) {
         Ok(()) => {
             let of = Some(of);
             called(rt, parts, seat, Deed::BackingWrite { first, of, values });

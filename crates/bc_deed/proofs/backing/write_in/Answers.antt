@@ -21,8 +21,8 @@ called-requires-in-Err-clause-may g c = may_fail_write g.C.Disk.facts g.B.Disk.f
 
 pub returns-in-Ok-clause-backing : goal.returns-in-Ok-clause-backing
 returns-in-Ok-clause-backing g c = let v = c.args.seat.now in
-    let values : values_of c.deref.result.now ≡ c.args.values =
-    ap (λ (bs : List ℕ). values_of bs) c.deref.ensures.value ∙ c.requires.bytes.0 in
+    let values : values_of c.args.bytes.now ≡ c.args.values =
+    c.requires.bytes.0 in
     committed_backing g.C.Disk.facts g.B.Disk.facts v c.called.new.seat c.args.backing.now _
     (deed.BackingWrite c.args.first (Some c.args.of) c.args.values) c.requires.seat c.requires.holds c.requires.backing
     c.called.ensures.did
@@ -32,10 +32,10 @@ returns-in-Ok-clause-backing g c = let v = c.args.seat.now in
     (g.B.Disk.facts c.args.backing.now.disk) (g.B.Disk.facts c.write.new.self)) values c.in-Ok.ensures.ok)
     c.in-Ok.ensures.counted)
 
-pub returns-clause-backing : goal.returns-clause-backing
-returns-clause-backing g c = let v = c.args.seat.now in
-    let values : values_of c.deref.result.now ≡ c.args.values =
-    ap (λ (bs : List ℕ). values_of bs) c.deref.ensures.value ∙ c.requires.bytes.0 in
+pub returns-in-Err-clause-backing : goal.returns-in-Err-clause-backing
+returns-in-Err-clause-backing g c = let v = c.args.seat.now in
+    let values : values_of c.args.bytes.now ≡ c.args.values =
+    c.requires.bytes.0 in
     committed_backing g.C.Disk.facts g.B.Disk.facts v c.called-in-Err.new.seat c.args.backing.now _
     (deed.DeviceFault (failure.BackingWrite c.args.first (Some c.args.of) c.args.values)) c.requires.seat c.requires.holds
     c.requires.backing c.called-in-Err.ensures.did
@@ -58,7 +58,7 @@ write-requires g c = let inside = c.requires.inside in
       on_disk = (
         length c.args.values,
         c.requires.some,
-        ap (λ (bs : List ℕ). length bs) c.deref.ensures.value ∙ c.requires.bytes.1,
+        c.requires.bytes.1,
         omega arith,
       );
     }
