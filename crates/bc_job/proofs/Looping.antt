@@ -1,5 +1,5 @@
 -- Requests piece by piece.
-use Rattle.std.proofs.Common.{◌≡◌, ℕ, zero, suc, ◌+◌, ◌-◌, ◌/◌, ◌<◌, ◌≤◌, Bool, List, [], ◌∷◌, ◌++◌, length, refl, sym, ap, ◌∙◌, subst, append_assoc, append-nil, arith}
+use Rattle.std.proofs.Common.{◌≡◌, ℕ, zero, suc, ◌+◌, ◌-◌, ◌/◌, ◌<◌, ◌≤◌, Bool, List, [], ◌∷◌, ◌++◌, length, refl, sym, ap, ◌∙◌, subst, append_assoc, append-nil, length-append, arith}
 use Rattle.bc_model.specs.Sector.{Value}
 use Rattle.bc_model.specs.Pieces.{Piece, piece_in, pieces_from, ServedUpTo, piece_of}
 use Rattle.bc_disk.specs.Disk.{DiskFacts}
@@ -103,6 +103,13 @@ reads_more of (x ∷ xs) p values own ds reads long =
           ∙ append_assoc (read_deeds of x.first x.count h.0) h.2 (read_deeds of p.first p.count own),
       reads_more of xs p h.1 own h.2 h.6 long,
     )
+
+-- the end of a list that is as long as the list is all of it
+pub last_is_all : (all before own : List Value) (n : ℕ) → all ≡ before ++ own → length all ≡ n → length own ≡ n
+    → own ≡ all
+last_is_all all [] own n is a b = sym is
+last_is_all all (v ∷ before) own n is a b =
+    let long = ap (λ (vs : List Value). length vs) is ∙ length-append (v ∷ before) own in absurd (omega arith)
 
 -- no piece is done yet
 pub at_start : (n q : ℕ) → n ≡ q → 0 ≡ n - q

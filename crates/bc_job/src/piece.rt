@@ -1,5 +1,5 @@
 //! One piece of a request, under one claim.
-ghost use Rattle.std.specs.Prelude.{◌≡◌, ◌+◌, ◌*◌, ◌/◌, ◌<◌, ◌≤◌, ◌^◌, true, [], ◌∷◌, length, if◌then◌else◌, OnOk, IfErr};
+ghost use Rattle.std.specs.Prelude.{◌≡◌, ◌+◌, ◌*◌, ◌/◌, ◌<◌, ◌≤◌, ◌^◌, true, [], ◌∷◌, length, if◌then◌else◌, OnOk, IfOk, IfErr};
 ghost use Rattle.bc_model.specs.Sector.{values_of};
 ghost use Rattle.bc_events.specs.declared.event.Deed.{Deed};
 ghost use Rattle.bc_flight.specs.declared.claim.Share.{Share};
@@ -30,7 +30,7 @@ use bc_worker::gate::Gate;
 use std::alloc::Global;
 use std::sync::Wait;
 
-// Reads the claimed sectors and answers the line with them.
+// Reads the claimed sectors, answers the line with their values, and has these too.
 fn read_under<C: Disk + Drop, B: Disk + Drop, R: Wait, G: Gate>(
     rt: &R,
     alloc: Global,
@@ -41,7 +41,7 @@ fn read_under<C: Disk + Drop, B: Disk + Drop, R: Wait, G: Gate>(
     first: u64,
     into: &mut [u8],
     gate: &G,
-) -> Result<(), StepError>
+) -> Result<Values, StepError>
     requires works { Works C.facts B.facts parts.now seat.old hand.old }
     requires plain { are_plain C.facts B.facts parts.now.run.start ≡ true }
     requires empty { hand.old ≡ empty }
@@ -56,6 +56,7 @@ fn read_under<C: Disk + Drop, B: Disk + Drop, R: Wait, G: Gate>(
     ensures left { seat.old.promises ≤ seat.new.promises + 2 }
     ensures ok { OnOk result (HasDone C.facts B.facts (Deed.BackingRead first (values_of into.new)
         ∷ Deed.Answer of first (values_of into.new) ∷ []) seat.old seat.new) }
+    ensures values { IfOk result (λ values. values ≡ values_of into.new) }
     ensures err { IfErr result (λ error. ReadUnder C.facts B.facts error first seat.old seat.new) }
 {
     let read = match backing_read(rt, alloc, parts, seat, hand, first, into, gate) {
@@ -65,11 +66,14 @@ fn read_under<C: Disk + Drop, B: Disk + Drop, R: Wait, G: Gate>(
     let Some(values) = read else {
         return Err(StepError::Memory);
     };
-    answer(rt, parts, seat, hand, of, first, &values)
+    match answer(rt, parts, seat, hand, of, first, &values) {
+        Ok(()) => Ok(values),
+        Err(error) => Err(error),
+    }
 }
 
 /// Reads the sectors of a piece into `into` for a line, under a shared claim of them: one call of
-/// the device. After an error the bytes of `into` are any.
+/// the device. Answers their values too; after an error the bytes of `into` are any.
 pub(crate) fn read_piece<C: Disk + Drop, B: Disk + Drop, R: Wait, G: Gate>(
     rt: &R,
     alloc: Global,
@@ -80,7 +84,7 @@ pub(crate) fn read_piece<C: Disk + Drop, B: Disk + Drop, R: Wait, G: Gate>(
     count: u32,
     into: &mut [u8],
     gate: &G,
-) -> Result<(), RequestError>
+) -> Result<Values, RequestError>
     requires idle { IsIdle C.facts B.facts parts.now seat.old }
     requires line { worker_of seat.old.first ≡ of.worker }
     requires some { 1 ≤ count }
@@ -90,6 +94,7 @@ pub(crate) fn read_piece<C: Disk + Drop, B: Disk + Drop, R: Wait, G: Gate>(
     ensures idle { IsIdle C.facts B.facts parts.now seat.new }
     ensures ok { OnOk result (HasDone C.facts B.facts
         (read_deeds of first count (values_of into.new)) seat.old seat.new) }
+    ensures values { IfOk result (λ values. values ≡ values_of into.new) }
     ensures err { IfErr result (λ error. HasStoppedBy C.facts B.facts error
         (ReadStop error first count) seat.old seat.new) }
 {
@@ -104,7 +109,7 @@ pub(crate) fn read_piece<C: Disk + Drop, B: Disk + Drop, R: Wait, G: Gate>(
     let answered = read_under(rt, alloc, parts, seat, &mut hand, of, first, into, gate);
     release(rt, parts, seat, &mut hand, claim);
     match answered {
-        Ok(()) => Ok(()),
+        Ok(values) => Ok(values),
         Err(error) => Err(refusal(error)),
     }
 }

@@ -1,10 +1,12 @@
 //! Writes.
-ghost use Rattle.std.specs.Prelude.{◌≡◌, length, OnOk, IfErr};
-ghost use Rattle.bc_job.specs.Asked.{IsFor, IsIdle, IsRange};
-ghost use Rattle.bc_job.specs.Requests.{HasNotWritten, HasWritten};
+ghost use Rattle.std.specs.Prelude.{◌≡◌, ◌+◌, ◌-◌, ◌≤◌, length, take, drop, OnOk, IfErr};
+ghost use Rattle.bc_deed.specs.Flushed.{HasDone};
+ghost use Rattle.bc_job.specs.Asked.{IsFor, IsIdle, IsRange, line_of};
+ghost use Rattle.bc_job.specs.Deeds.{WriteStop, write_deeds};
+ghost use Rattle.bc_job.specs.Requests.{HasNotWritten, HasStoppedBy, HasWritten};
 
 use crate::error::RequestError;
-use crate::job::Job;
+use crate::job::{Job, Piece};
 use crate::piece::write_piece;
 use bc_disk::disk::Disk;
 use bc_machine::machine::{CoreParts, CoreSeat};
@@ -12,6 +14,43 @@ use bc_model::values::Values;
 use bc_worker::gate::Gate;
 use std::alloc::Global;
 use std::sync::Wait;
+
+// Writes the piece of a line: its values are those of its sectors among the line's. Those of the whole
+// line are written as they are.
+fn write_at<C: Disk + Drop, B: Disk + Drop, R: Wait>(
+    rt: &R,
+    alloc: Global,
+    parts: &CoreParts<C, B>,
+    seat: &mut CoreSeat<C, B>,
+    job: &Job,
+    values: &Values,
+    piece: Piece,
+) -> Result<(), RequestError>
+    requires idle { IsIdle C.facts B.facts parts.now seat.old }
+    requires its { IsFor C.facts B.facts job.now seat.old }
+    requires range { IsRange job.now }
+    requires inside { job.now.first + job.now.count ≤ job.now.size }
+    requires values { length values.now ≡ job.now.count }
+    requires piece { (1 ≤ piece.count) × (job.now.first ≤ piece.first)
+        × (piece.first + piece.count ≤ job.now.first + job.now.count) }
+    ensures idle { IsIdle C.facts B.facts parts.now seat.new }
+    ensures ok { OnOk result (HasDone C.facts B.facts (write_deeds job.now.force (line_of job.now)
+        piece.first (take piece.count (drop (piece.first - job.now.first) values.now)))
+        seat.old seat.new) }
+    ensures err { IfErr result (λ error. HasStoppedBy C.facts B.facts error
+        (WriteStop error job.now.force (line_of job.now) piece.first
+        (take piece.count (drop (piece.first - job.now.first) values.now))) seat.old seat.new) }
+{
+    let of = job.of();
+    if piece.count == values.len() {
+        return write_piece(rt, alloc, parts, seat, of, piece.first, values, job.force);
+    }
+    let from = (piece.first - job.first) as u32;
+    let Ok(part) = values.part(job.first, from, piece.count) else {
+        return Err(RequestError::Memory);
+    };
+    write_piece(rt, alloc, parts, seat, of, piece.first, &part, job.force)
+}
 
 /// Serves the write of a line, piece by piece, each under an exclusive claim. At `Ok` every piece has
 /// its entry in the history; a crash may still lose it until a flush that begins later is done,
@@ -40,20 +79,7 @@ pub fn write<C: Disk + Drop, B: Disk + Drop, R: Wait, G: Gate>(
     }
     for number in job.first_piece()..job.end_piece() {
         let piece = job.piece(number);
-        let from = (piece.first - job.first) as u32;
-        let Ok(part) = values.part(job.first, from, piece.count) else {
-            return Err(RequestError::Memory);
-        };
-        match write_piece(
-            rt,
-            alloc,
-            parts,
-            seat,
-            job.of(),
-            piece.first,
-            &part,
-            job.force,
-        ) {
+        match write_at(rt, alloc, parts, seat, job, values, piece) {
             Ok(()) => {}
             Err(error) => return Err(error),
         }

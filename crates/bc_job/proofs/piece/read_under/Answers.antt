@@ -5,10 +5,9 @@ use Rattle.bc_model.proofs.Sectors.{length_values_of}
 use Rattle.bc_events.specs.declared.event.Deed.TheVariants as deed
 use Rattle.bc_events.specs.declared.event.Failure.TheVariants as failure
 use Rattle.bc_disk.specs.declared.disk.Device.TheVariants.{Backing}
-use Rattle.bc_hand.proofs.Knowing.{map_ok}
 use Rattle.bc_deed.proofs.Sequence.{done_first}
 use Rattle.bc_deed.proofs.Noting.{range_failed, range_either}
-use Rattle.bc_job.proofs.Under.{read_failed, read_noted, read_there, read_answered, answer_stopped, within_same}
+use Rattle.bc_job.proofs.Under.{read_failed, read_noted, read_only, read_there, read_answered, within_same}
 use Rattle.bc_job.proofs.piece.read_under.Goals as goal
 
 same : (found : Option (List Value)) (values : List Value) (bytes : List ℕ)
@@ -54,20 +53,32 @@ pub answer-requires-clause-read : goal.answer-requires-clause-read
 answer-requires-clause-read g c = read_there g.C.Disk.facts g.B.Disk.facts c.args.first _ c.in-Some.values
     c.args.seat.now c.backing_read.new.seat c.requires.works.seat (same _ c.in-Some.values c.backing_read.new.into c.in-Ok.ensures.values c.in-Some.is) c.in-Ok.ensures.ok
 
-pub returns-clause-claim : goal.returns-clause-claim
-returns-clause-claim g c = range_either g.C.Disk.facts g.B.Disk.facts c.answer.result
+pub returns-in-Ok-answer-clause-claim : goal.returns-in-Ok-answer-clause-claim
+returns-in-Ok-answer-clause-claim g c = range_either g.C.Disk.facts g.B.Disk.facts c.answer.result
     (deed.Answer c.args.of c.args.first c.in-Some.values) c.backing_read.new.seat c.answer.new.seat
     c.backing_read.ensures.works.seat (λ plain. refl) c.answer.ensures.ok c.answer.ensures.err
     ∙ (read_noted g.C.Disk.facts g.B.Disk.facts c.args.first _ c.args.seat.now
     c.backing_read.new.seat c.requires.works.seat c.in-Ok.ensures.ok).range
 
-pub returns-clause-ok : goal.returns-clause-ok
-returns-clause-ok g c = map_ok c.answer.result
-    (read_answered g.C.Disk.facts g.B.Disk.facts c.args.of c.args.first _ c.in-Some.values
-    c.args.seat.now c.backing_read.new.seat c.answer.new.seat (same _ c.in-Some.values c.backing_read.new.into c.in-Ok.ensures.values c.in-Some.is) c.in-Ok.ensures.ok)
-    c.answer.ensures.ok
+pub returns-in-Err-answer-clause-claim : goal.returns-in-Err-answer-clause-claim
+returns-in-Err-answer-clause-claim g c = range_either g.C.Disk.facts g.B.Disk.facts c.answer.result
+    (deed.Answer c.args.of c.args.first c.in-Some.values) c.backing_read.new.seat c.answer.new.seat
+    c.backing_read.ensures.works.seat (λ plain. refl) c.answer.ensures.ok c.answer.ensures.err
+    ∙ (read_noted g.C.Disk.facts g.B.Disk.facts c.args.first _ c.args.seat.now
+    c.backing_read.new.seat c.requires.works.seat c.in-Ok.ensures.ok).range
 
-pub returns-clause-err : goal.returns-clause-err
-returns-clause-err g c = answer_stopped g.C.Disk.facts g.B.Disk.facts c.answer.result c.args.first _
-    c.args.seat.now c.backing_read.new.seat c.answer.new.seat c.in-Ok.ensures.ok c.answer.ensures.cause
-    c.answer.ensures.err
+pub returns-in-Ok-answer-clause-ok : goal.returns-in-Ok-answer-clause-ok
+returns-in-Ok-answer-clause-ok g c =
+    read_answered g.C.Disk.facts g.B.Disk.facts c.args.of c.args.first _ c.in-Some.values
+    c.args.seat.now c.backing_read.new.seat c.answer.new.seat
+    (same _ c.in-Some.values c.backing_read.new.into c.in-Ok.ensures.values c.in-Some.is) c.in-Ok.ensures.ok
+    c.in-Ok-answer.ensures.ok
+
+pub returns-in-Ok-answer-clause-values : goal.returns-in-Ok-answer-clause-values
+returns-in-Ok-answer-clause-values g c =
+    same _ c.in-Some.values c.backing_read.new.into c.in-Ok.ensures.values c.in-Some.is
+
+pub returns-in-Err-answer-clause-err : goal.returns-in-Err-answer-clause-err
+returns-in-Err-answer-clause-err g c = read_only g.C.Disk.facts g.B.Disk.facts c.in-Err-answer.error c.args.first _
+    c.args.seat.now c.backing_read.new.seat c.answer.new.seat c.in-Ok.ensures.ok c.in-Err-answer.ensures.cause
+    c.in-Err-answer.ensures.err

@@ -16,5 +16,5 @@ count_of : (len : ℕ) (new old : List ℕ) (n : ℕ) → len ≡ 512 * n → le
 count_of len new old n a b d = omega (arith, length-take len (new ++ drop (length new) old), length-append new (drop (length new) old), length-drop (length new) old)
 
 pub returns-in-Ok-read_pieces-clause-count : goal.returns-in-Ok-read_pieces-clause-count
-returns-in-Ok-read_pieces-clause-count g c = ap (λ (vs : List Value). length vs) c.from_sectors.ensures ∙ length_values_of _
+returns-in-Ok-read_pieces-clause-count g c = ap (λ (vs : List Value). length vs) c.values_with.ensures ∙ length_values_of _
     ∙ count_of c.in-Ok.bytes.len c.read_pieces.new.bytes c.in-Ok.bytes.items c.args.job.now.count (omega (arith, c.in-Ok.ensures.len, c.in-Ok.bytes.ok)) (omega (arith, c.read_pieces.auto.bytes, ap (λ (bs : List ℕ). length bs) c.deref_mut.ensures.value, c.in-Ok.ensures.len)) (omega (arith, c.in-Ok.ensures.len))

@@ -1,6 +1,6 @@
-use Rattle.std.proofs.Common.{◌≡◌, ℕ, ◌+◌, ◌*◌, ◌-◌, ◌/◌, length, ◌∙◌, arith}
+use Rattle.std.proofs.Common.{◌≡◌, ℕ, ◌+◌, ◌*◌, ◌-◌, ◌/◌, List, ◌++◌, length, sym, ap, ◌∙◌, arith}
 use Rattle.std.proofs.lemmas.Slice.{take-put_mid}
-use Rattle.bc_model.specs.Sector.{values_of}
+use Rattle.bc_model.specs.Sector.{Value, sectors, values_of}
 use Rattle.bc_model.proofs.Sectors.{length_values_of, sectors_next}
 use Rattle.bc_job.proofs.read.read_at.Goals as goal
 
@@ -18,3 +18,12 @@ returns-in-Ok-clause-ok g c =
   where
     count_of : (n m : ℕ) → n ≡ 512 * m → n / 512 ≡ m
     count_of n m e = omega arith
+
+pub returns-in-Ok-clause-values : goal.returns-in-Ok-clause-values
+returns-in-Ok-clause-values g c =
+    let into = c.read_piece.new.into in
+    let long : length into ≡ 512 * c.args.piece.count = omega (arith, c.read_piece.auto.into) in
+    let end : 512 * (c.args.place + c.args.piece.count) ≡ 512 * c.args.place + length into = omega arith in
+    sectors_next c.args.place c.args.piece.count c.args.bytes.now into _ (omega arith) long
+    (take-put_mid (512 * c.args.place) (512 * c.args.place + 512 * c.args.piece.count - 512 * c.args.place) c.args.bytes.now into (512 * (c.args.place + c.args.piece.count)) end (omega arith))
+    ∙ ap (λ (vs : List Value). sectors c.args.place c.args.bytes.now ++ vs) (sym c.in-Ok.ensures.values)

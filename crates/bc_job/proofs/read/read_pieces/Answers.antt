@@ -1,6 +1,7 @@
-use Rattle.std.proofs.Common.{◌≡◌, ℕ, ◌+◌, ◌-◌, ◌*◌, ◌/◌, ◌<◌, ◌≤◌, min, max, List, [], ◌++◌, refl, sym, ap, ◌∙◌, subst, arith}
+use Rattle.std.proofs.Common.{◌≡◌, ℕ, ◌+◌, ◌-◌, ◌*◌, ◌/◌, ◌<◌, ◌≤◌, min, max, List, [], ◌++◌, length, length-append, refl, sym, ap, ◌∙◌, subst, arith}
 use Rattle.bc_model.specs.Sector.{Value, sectors}
 use Rattle.bc_model.specs.Pieces.{Piece, piece_in, pieces_from}
+use Rattle.bc_model.proofs.Sectors.{length_sectors}
 use Rattle.bc_events.specs.declared.event.Deed.{Deed}
 use Rattle.bc_events.specs.declared.event.LineNumber.{LineNumber}
 use Rattle.bc_deed.specs.Flushed.{HasDone}
@@ -21,6 +22,17 @@ more_done : (first count number at many : ℕ) → first / 256 ≤ number → nu
     → ((at - first) + many ≡ done first count (number + 1)) × (at - first ≡ done first count number)
 more_done first count number at many low high here long = (omega arith, omega arith)
 
+-- a piece that was read has values
+own_long : (n m : ℕ) (new old : List ℕ) (own : List Value) → sectors (n + m) new ≡ sectors n old ++ own → 1 ≤ m
+    → 1 ≤ length own
+own_long n m new old own is some = omega (
+  arith,
+  ap (λ (vs : List Value). length vs) is,
+  length_sectors (n + m) new,
+  length-append (sectors n old) own,
+  length_sectors n old,
+)
+
 pub loop-number-init : goal.loop-number-init
 loop-number-init g c =
     let start : 0 ≡ c.first_piece-number.result - c.args.job.now.first / 256 =
@@ -40,6 +52,9 @@ loop-number-init g c =
             start (refl, refl)),
         done_none g.C.Disk.facts g.B.Disk.facts c.args.seat.now c.requires.idle.works.seat,
       ),
+      ap (λ n. sectors n c.args.bytes.now)
+          (none_done c.args.job.now.first c.args.job.now.count c.first_piece-number.result
+          c.requires.range.some c.first_piece-number.ensures),
     )
 
 pub returns-in-Err-clause-err : goal.returns-in-Err-clause-err
@@ -97,5 +112,11 @@ loop-number-preserved g c =
             (subst (λ (of : LineNumber). HasDone g.C.Disk.facts g.B.Disk.facts
             (read_deeds of c.piece-piece.result.first c.piece-piece.result.count own)
             c.loop-number.seat c.read_at.new.seat) c.of.ensures now_.3))),
+      ),
+      (
+        sectors (done job.first job.count number) c.loop-number.bytes,
+        own_long _ _ _ _ c.in-Ok.own c.in-Ok.ensures.values c.piece-piece.ensures.some.0,
+        ap (λ n. sectors n c.read_at.new.bytes) (sym places.0) ∙ c.in-Ok.ensures.values
+            ∙ ap (λ n. sectors n c.loop-number.bytes ++ c.in-Ok.own) places.1,
       ),
     )

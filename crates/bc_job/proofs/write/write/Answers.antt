@@ -3,13 +3,11 @@ use Rattle.std.proofs.lemmas.Bool.{ltb-false}
 use Rattle.bc_model.specs.Sector.{Value}
 use Rattle.bc_model.specs.Pieces.{Piece, piece_in, pieces_from, piece_of}
 use Rattle.bc_events.specs.declared.event.Deed.{Deed}
-use Rattle.bc_events.specs.declared.event.LineNumber.{LineNumber}
 use Rattle.bc_deed.specs.Flushed.{HasDone}
 use Rattle.bc_deed.proofs.Sequence.{done_both}
 use Rattle.bc_job.specs.Asked.{line_of}
-use Rattle.bc_job.specs.Deeds.{WriteStop, write_deeds, writes_deeds}
-use Rattle.bc_job.specs.Requests.{HasStoppedBy}
-use Rattle.bc_job.proofs.Looping.{writes_more, write_stopped_at, write_short, at_start, done_none}
+use Rattle.bc_job.specs.Deeds.{writes_deeds}
+use Rattle.bc_job.proofs.Looping.{writes_more, write_stopped_at, at_start, done_none}
 use Rattle.bc_job.proofs.write.write.Goals as goal
 
 pub loop-number-init : goal.loop-number-init
@@ -21,22 +19,10 @@ loop-number-init g c = let job = c.args.job.now in (
       (done_none g.C.Disk.facts g.B.Disk.facts c.args.seat.now c.requires.idle.works.seat),
 )
 
-pub returns-in_default-clause-err : goal.returns-in_default-clause-err
-returns-in_default-clause-err g c =
-    let inside = ltb-false c.args.job.now.size (c.args.job.now.first + c.args.job.now.count)
-    (sym c.is_outside.ensures ∙ c.if-is_outside.false) in
-    let low = c.loop-number.auto.number in
-    let first_ = c.first_piece-number.ensures in
-    let end = c.end_piece-number-end.ensures in
-    let test = c.loop-number-test.true in
-    write_short g.C.Disk.facts g.B.Disk.facts c.args.seat.now c.loop-number.seat c.args.job.now c.args.values.now
-    c.loop-number.number c.loop-number.invariant.0.works.seat inside (omega arith) (omega arith)
-    c.loop-number.invariant.1
-
-part_is : (p : Piece) (first : ℕ) (values part : List Value) (first' count : ℕ)
-    → part ≡ take count (drop (first' - first) values) → first' ≡ p.first → count ≡ p.count
-    → part ≡ piece_of first values p
-part_is p first values part first' count is a b = is ∙ ap (λ k. take count (drop (k - first) values)) a
+-- the values of a piece
+part_is : (p : Piece) (first : ℕ) (values : List Value) (first' count : ℕ) → first' ≡ p.first → count ≡ p.count
+    → take count (drop (first' - first) values) ≡ piece_of first values p
+part_is p first values first' count a b = ap (λ k. take count (drop (k - first) values)) a
     ∙ ap (λ k. take k (drop (p.first - first) values)) b
 
 pub returns-in-Err-clause-err : goal.returns-in-Err-clause-err
@@ -48,15 +34,14 @@ returns-in-Err-clause-err g c =
     let end = c.end_piece-number-end.ensures in
     let test = c.loop-number-test.true in
     let p = piece_in job.first job.count c.loop-number.number in
-    write_stopped_at g.C.Disk.facts g.B.Disk.facts c.args.seat.now c.loop-number.seat c.write_piece.new.seat
-    c.in-Err.error job c.args.values.now c.in-Ok.part c.loop-number.number c.piece-piece.result.first inside
+    write_stopped_at g.C.Disk.facts g.B.Disk.facts c.args.seat.now c.loop-number.seat c.write_at.new.seat
+    c.in-Err.error job c.args.values.now
+    (take c.piece-piece.result.count (drop (c.piece-piece.result.first - job.first) c.args.values.now))
+    c.loop-number.number c.piece-piece.result.first inside
     (omega arith) (omega arith) c.piece-piece.ensures.first
-    (part_is p job.first c.args.values.now c.in-Ok.part c.piece-piece.result.first c.piece-piece.result.count
-    c.in-Ok.ensures c.piece-piece.ensures.first c.piece-piece.ensures.count)
-    c.loop-number.invariant.1
-    (subst (λ (of : LineNumber). HasStoppedBy g.C.Disk.facts g.B.Disk.facts c.in-Err.error
-    (WriteStop c.in-Err.error job.force of c.piece-piece.result.first c.in-Ok.part)
-    c.loop-number.seat c.write_piece.new.seat) c.of.ensures c.in-Err.ensures.err)
+    (part_is p job.first c.args.values.now c.piece-piece.result.first c.piece-piece.result.count
+    c.piece-piece.ensures.first c.piece-piece.ensures.count)
+    c.loop-number.invariant.1 c.in-Err.ensures.err
 
 pub loop-number-preserved : goal.loop-number-preserved
 loop-number-preserved g c =
@@ -64,16 +49,14 @@ loop-number-preserved g c =
     let low = c.loop-number.auto.number in
     let first_ = c.first_piece-number.ensures in
     let p = piece_in job.first job.count c.loop-number.number in
-    let part = part_is p job.first c.args.values.now c.in-Ok.part c.piece-piece.result.first
-    c.piece-piece.result.count c.in-Ok.ensures c.piece-piece.ensures.first c.piece-piece.ensures.count in
+    let own : List Value = take c.piece-piece.result.count (drop (c.piece-piece.result.first - job.first) c.args.values.now) in
+    let part = part_is p job.first c.args.values.now c.piece-piece.result.first
+    c.piece-piece.result.count c.piece-piece.ensures.first c.piece-piece.ensures.count in
     let more = writes_more job.force (line_of job) job.first job.count c.loop-number.number
-    c.piece-piece.result.first c.args.values.now c.in-Ok.part (omega arith) c.piece-piece.ensures.first part in (
-      c.write_piece.ensures.idle,
-      subst (λ (ds : List Deed). HasDone g.C.Disk.facts g.B.Disk.facts ds c.args.seat.now c.write_piece.new.seat)
+    c.piece-piece.result.first c.args.values.now own (omega arith) c.piece-piece.ensures.first part in (
+      c.write_at.ensures.idle,
+      subst (λ (ds : List Deed). HasDone g.C.Disk.facts g.B.Disk.facts ds c.args.seat.now c.write_at.new.seat)
           (sym more)
-          (done_both g.C.Disk.facts g.B.Disk.facts _ _ c.args.seat.now c.loop-number.seat c.write_piece.new.seat
-          c.loop-number.invariant.1
-          (subst (λ (of : LineNumber). HasDone g.C.Disk.facts g.B.Disk.facts
-          (write_deeds job.force of c.piece-piece.result.first c.in-Ok.part) c.loop-number.seat
-          c.write_piece.new.seat) c.of.ensures c.in-Ok-write_piece.ensures.ok)),
+          (done_both g.C.Disk.facts g.B.Disk.facts _ _ c.args.seat.now c.loop-number.seat c.write_at.new.seat
+          c.loop-number.invariant.1 c.in-Ok.ensures.ok),
     )
