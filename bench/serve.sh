@@ -1,7 +1,8 @@
 #!/usr/bin/env bash
 # The proved program beside bench/serve.c, a plain C program that makes the same reads, writes and barriers of the same file,
 # on traces of single sectors: half reads, half writes, anywhere on a device of 64 MiB. Both get fresh copies of one image,
-# and have to print the same lines and leave the same bytes. Each is timed five times, and the least times count.
+# and have to print the same lines and leave the same bytes. Each is timed fifteen times, and the least times count. The two
+# take turns, over the trace and over an empty one, so that a slow spell of the machine meets both.
 #
 # For each number of lines it prints the milliseconds of both from start to end, with the ratio; the microseconds of processor
 # time, the system's too, that both take for a line, with the ratio; the most memory that each had; and what the proved program
@@ -38,35 +39,51 @@ trace_of() {
     }'
 }
 
-# best PRINTED COMMAND WORD.. runs a command five times over a fresh copy of the image, backing.img, and prints its least
-# microseconds, its least microseconds of processor time and its most kilobytes. The copy has no holes, which a write would have
-# to fill first.
-best() {
-    local printed=$1
-    shift
-    for _ in 1 2 3 4 5; do
-        cp --sparse=never "$tools/image" backing.img
-        sync backing.img
-        "$tools/measure" "$@" < trace 2>&1 > "$printed" || { echo "$1 failed" >&2; exit 1; }
-    done | awk '{ if (!least || $1 < least) least = $1; if (!work || $2 < work) work = $2; if ($3 > most) most = $3 }
-        END { if (NR != 5) exit 1; print least, work, most }'
+# once TRACE PRINTED COMMAND WORD.. runs a command over a fresh copy of the image, backing.img, and prints its microseconds,
+# its microseconds of processor time and its kilobytes. The copy has no holes, which a write would have to fill first.
+once() {
+    local trace=$1 printed=$2
+    shift 2
+    cp --sparse=never "$tools/image" backing.img
+    sync backing.img
+    "$tools/measure" "$@" < "$trace" 2>&1 > "$printed" || { echo "$1 failed" >&2; exit 1; }
+}
+
+# least FILE prints the least microseconds, the least microseconds of processor time and the most kilobytes of fifteen runs.
+least() {
+    awk '{ if (!least || $1 < least) least = $1; if (!work || $2 < work) work = $2; if ($3 > most) most = $3 }
+        END { if (NR != 15) exit 1; print least, work, most }' "$1"
+}
+
+# turns LINES runs both programs by turns, over an empty trace and over one of so many lines, and compares what they print and
+# leave over the latter. What each run took stands in c_none, none, c_all and all.
+turns() {
+    local turn
+    rm -f c_none none c_all all
+    trace_of 0 > empty
+    trace_of "$1" > trace
+    for turn in {1..15}; do
+        once empty c_printed "$tools/serve" backing.img >> c_none
+        once empty printed "$bcache" cache.img backing.img serve >> none
+        once trace c_printed "$tools/serve" backing.img >> c_all
+        mv backing.img c_backing.img
+        once trace printed "$bcache" cache.img backing.img serve >> all
+        cmp printed c_printed
+        cmp backing.img c_backing.img
+    done
 }
 
 # table prints a line for each number of lines, of runs over files in the folder in which it is called.
 table() {
-    local c_wall c_work c_memory c_idle wall work memory idle idle_memory
+    local lines c_wall c_work c_memory c_idle wall work memory idle idle_memory
     : > cache.img
-    trace_of 0 > trace
-    read -r _ c_idle _ < <(best c_printed "$tools/serve" backing.img)
-    read -r _ idle idle_memory < <(best printed "$bcache" cache.img backing.img serve)
     echo "  lines  proved ms       C ms  ratio  proved us/line  C us/line  ratio  proved KiB      C KiB  bytes a line"
     for lines in 1000 10000 100000 262144; do
-        trace_of "$lines" > trace
-        read -r c_wall c_work c_memory < <(best c_printed "$tools/serve" backing.img)
-        mv backing.img c_backing.img
-        read -r wall work memory < <(best printed "$bcache" cache.img backing.img serve)
-        cmp printed c_printed
-        cmp backing.img c_backing.img
+        turns "$lines"
+        read -r _ c_idle _ < <(least c_none)
+        read -r _ idle idle_memory < <(least none)
+        read -r c_wall c_work c_memory < <(least c_all)
+        read -r wall work memory < <(least all)
         awk -v lines="$lines" -v a="$wall" -v b="$c_wall" -v c="$((work - idle))" -v d="$((c_work - c_idle))" \
             -v m="$memory" -v n="$c_memory" -v idle="$idle_memory" 'BEGIN {
             printf "%7d %10.1f %10.1f %6.2f %15.2f %10.2f %6.2f %11d %10d %13.0f\n", lines, a / 1000, b / 1000, a / b,
