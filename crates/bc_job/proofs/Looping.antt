@@ -179,20 +179,6 @@ module _ {C B : Type 0} (cache_facts : C → DiskFacts) (backing_facts : B → D
         ),
       )
 
-  -- no memory for the values of a piece
-  pub write_short : (v u : View cache_facts backing_facts) (job : Job) (values : List Value) (number : ℕ)
-      → IsCoreSeat cache_facts backing_facts u
-      → job.first + job.count ≤ job.size → job.first / 256 ≤ number
-      → number < (job.first + job.count + 255) / 256
-      → HasDone cache_facts backing_facts (writes_deeds job.force (line_of job) job.first values
-      (pieces_from job.first job.count (job.first / 256) (number - job.first / 256))) v u
-      → HasNotWritten cache_facts backing_facts request.Memory job values v u
-  write_short v u job values number seat inside low high before =
-      write_stopped_at v u u request.Memory job values
-      (piece_of job.first values (piece_in job.first job.count number)) number
-      (piece_in job.first job.count number).first inside low high refl refl before
-      (tt, ([], Rattle.std.proofs.Common.inl refl, done_none u seat))
-
   pub read_stopped_at : (v u w : View cache_facts backing_facts) (error : RequestError) (job : Job)
       (values : List Value) (before : List Deed) (number at many : ℕ) → job.first + job.count ≤ job.size
       → job.first / 256 ≤ number → number < (job.first + job.count + 255) / 256

@@ -244,14 +244,6 @@ module _ {C B : Type 0} (cache_facts : C → DiskFacts) (backing_facts : B → D
       ∙ ap (λ o. Rattle.bc_data.specs.Seats.noted o ((note cache_facts backing_facts v).read s))
       (ap (λ (vs : List Value). Rattle.bc_model.specs.Sector.at_run first vs s) (sym is) ∙ at)
 
-  pub answer_stopped : {A : Type 0} (r : Result A StepError) (first : ℕ) (values : List Value)
-      (u v w : View cache_facts backing_facts)
-      → Did cache_facts backing_facts (Some (deed.BackingRead first values)) u v
-      → IfErr r (λ e. IsHaltedOr e w.seen) → OnErr r (Did cache_facts backing_facts None v w)
-      → IfErr r (λ e. ReadUnder cache_facts backing_facts e first u w)
-  answer_stopped (Ok a) first values u v w read why none = tt
-  answer_stopped (Err e) first values u v w read why none = read_only e first values u v w read why none
-
   pub durable_stopped : {A : Type 0} (r : Result A StepError) (force : Bool) (of : LineNumber) (first : ℕ)
       (values : List Value) (t u v w : View cache_facts backing_facts) → force ≡ true
       → Did cache_facts backing_facts (Some (deed.BackingWrite first (Some of) values)) t u
