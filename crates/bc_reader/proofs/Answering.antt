@@ -70,6 +70,16 @@ not_both leaf b s at dirty x (inr gone) =
     one : (p q : Ref) (o : Option Ref) → o ≡ Some p → o ≡ Some q → p ≡ q
     one p q o a b = cc
 
+-- while the buckets are those of the look
+pub may_answer_now : (leaf : Leaf) (b : Buckets) → 0 < b.size → (first : ℕ) (values : List Value)
+    (cache backing : ℕ → Option Value)
+    → Gives first values (λ s value. IsReadAs leaf b (cache s) (backing s) s value)
+    → Gives first values (λ s value. MayAnswer leaf b b (cache s) (backing s) s value)
+may_answer_now leaf b some first values cache backing gives = λ s value here. elim (gives s value here) [
+  | inl on ↦ inl on
+  | inr read ↦ inr (read.2, law_still leaf b b s read.0 read.1 some read.3 refl)
+]
+
 module _ (leaf : Leaf) (before now : Buckets) (first end : ℕ) (runs : List ReadRun)
     (noted : List Noted) (some : 0 < before.size) (are : AreRuns leaf before first end runs)
     (there : AreNoted runs before noted) (same : All (IsUnchanged now) noted) where

@@ -1,3 +1,4 @@
+pub mod Claimed
 pub mod Deeds
 pub mod Known
 pub mod Look

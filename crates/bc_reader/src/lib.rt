@@ -5,6 +5,7 @@
 //! came from there may be answered as long as the counts of uses are what they were at the look.
 #![tactic(auto)]
 
+pub mod claimed;
 pub mod error;
 pub mod look;
 pub mod noted;
