@@ -12,5 +12,3 @@ pub mod fetch;
 pub mod leaf;
 pub mod node;
 mod slot;
-#[cfg(test)]
-mod tests;

@@ -6,7 +6,7 @@ use Rattle.bc_seats.specs.Seats.{Same}
 use Rattle.bc_fetch.specs.Fetch.{HasPart, HasReadOne, HasStoppedAt}
 use Rattle.bc_fetch.specs.declared.error.LeafError.{LeafError}
 use Rattle.bc_fetch.specs.declared.error.LeafError.TheVariants as errors
-use Rattle.bc_fetch.proofs.tests.try_leaf.Goals as goal
+use Rattle.bc_step_rows.proofs.leaves.try_leaf.Goals as goal
 
 only_part : (number count : ℕ) → count ≡ 7 → 6 + number % (count - 6) ≡ 6
 only_part number count is = subst (λ n. 6 + number % (n - 6) ≡ 6) (sym is) (omega arith)
