@@ -19,7 +19,7 @@ abbrev numbers : ℕ → ℕ → Numbers
 numbers seq last_seq = record { seq = seq; last_seq = last_seq }
 
 -- the newest of the entries comes first
-first_seen : (g : Geometry) (es : List FoundEntry) (e : FoundEntry) (newest : Entry) (older : List Entry)
+pub first_seen : (g : Geometry) (es : List FoundEntry) (e : FoundEntry) (newest : Entry) (older : List Entry)
     → seen_entries g (es ++ e ∷ []) ≡ newest ∷ older → seen_entry g e.item ≡ newest
 first_seen g es e newest older is = one (seen_entry g e.item) newest (seen_entries g es) older
     (sym (ap reverse (map-append (λ (x : FoundEntry). seen_entry g x.item) es (e ∷ []))

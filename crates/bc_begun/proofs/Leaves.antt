@@ -269,6 +269,12 @@ module _ (p : Pair) (v : View) (layout : Layout) (x : Parts) (w : Opening) (st :
           entries = subst (λ (o : Option Entries). AreEntriesOf o (all_waiting more))
               (sym (is.added.entries ∙ ap (noted_all more) none.entries))
               (entries_of more (rises k range there));
+          lists = record {
+            list = set_keys sets ++ added.keys_of more;
+            last = last;
+            added = added.keys_of more;
+            last_added = pending;
+          };
         })
       where
         nothing : AreLastOfAll [] []

@@ -5,4 +5,5 @@ pub mod Journal
 pub mod Said
 pub mod Order
 pub mod Leaves
+pub mod Needs
 pub mod Origin

@@ -1,5 +1,5 @@
 -- Keys of the journal by the numbers of their entries, which rise.
-use Rattle.std.proofs.Common.{◌≡◌, inl, inr, ℕ, suc, ◌≤◌, List, [], ◌∷◌, ◌++◌, Option, Some, None, refl, sym, ap, ◌∙◌, subst, arith, if◌then◌else◌}
+use Rattle.std.proofs.Common.{◌≡◌, ◌≢◌, inl, inr, ℕ, suc, ◌≤◌, List, [], ◌∷◌, ◌++◌, Option, Some, None, refl, sym, ap, ◌∙◌, subst, arith, if◌then◌else◌}
 use Rattle.std.specs.Prelude.{map, reverse}
 use Rattle.std.proofs.lemmas.List.{reverse-append}
 use Rattle.bc_chosen.specs.Waiting.{all_waiting, waiting}
@@ -129,13 +129,13 @@ up_to_last n (x ∷ xs) from rises =
       ]),
     )
 
-in_map : (xs : List Numbered) (z : Pending) → In z (map waiting xs)
+pub in_map : (xs : List Numbered) (z : Pending) → In z (map waiting xs)
     → (y : Numbered) × In y xs × (z.number ≡ y.entry)
 in_map [] z i = absurd i
 in_map (x ∷ xs) z (inl e) = (x, inl refl, ap (λ (p : Pending). p.number) e)
 in_map (x ∷ xs) z (inr i) = let k = in_map xs z i in (k.0, inr k.1, k.2)
 
-in_reverse : (zs : List Pending) (z : Pending) → In z (reverse zs) → In z zs
+pub in_reverse : (zs : List Pending) (z : Pending) → In z (reverse zs) → In z zs
 in_reverse [] z i = i
 in_reverse (x ∷ zs) z i = elim (in_either z (reverse zs) (x ∷ [])
     (subst (λ (l : List Pending). In z l) (reverse-append (x ∷ []) zs) i)) [
@@ -144,11 +144,17 @@ in_reverse (x ∷ zs) z i = elim (in_either z (reverse zs) (x ∷ [])
       | inr (inr none) ↦ absurd none
     ]
 
+some_left : (zs : List Pending) (z : Pending) → (zs ++ z ∷ []) ≢ []
+some_left [] z none = absurd (cc)
+some_left (y ∷ ys) z none = absurd (cc)
+
 pub entries_of : (xs : List Numbered) → Rising xs
     → AreEntriesOf (noted_all xs None) (all_waiting xs)
 entries_of [] rises = refl
 entries_of (x ∷ xs) rises = subst (λ (o : Option Entries). AreEntriesOf o (all_waiting (x ∷ xs)))
     (sym (noted_more xs x.entry x.entry)) (
+      (λ none. some_left (reverse (map waiting xs)) (waiting x)
+          (sym (reverse-append (waiting x ∷ []) (map waiting xs)) ∙ none)),
       (λ z i. (let y = in_map (x ∷ xs) z (in_reverse (map waiting (x ∷ xs)) z i) in
           let is = y.2 in low y.0 y.1 z is)),
       (λ z i. (let y = in_map (x ∷ xs) z (in_reverse (map waiting (x ∷ xs)) z i) in

@@ -1,13 +1,17 @@
 -- An opening from which a run that begins is seen.
-use Rattle.std.proofs.Common.{◌≡◌, inr, ℕ, suc, ◌+◌, ◌-◌, ◌<◌, ◌&&◌, Bool, true, List, [], ◌∷◌, length, Option, refl, sym, ap, ◌∙◌, subst, arith}
-use Rattle.std.specs.Prelude.{map, slice_index_or}
+use Rattle.std.proofs.Common.{◌≡◌, inr, ℕ, zero, suc, ◌+◌, ◌-◌, ◌<◌, ◌&&◌, Bool, true, List, [], ◌∷◌, length, Option, refl, sym, ap, ◌∙◌, subst, arith}
+use Rattle.std.specs.Prelude.{◌≤◌, ◌/◌, map, slice_index_or}
+use Rattle.std.proofs.Math.Nat.{div-mul-le_self}
+use Rattle.std.proofs.lemmas.Nat.{le-div}
 use Rattle.bc_cache.specs.Slots.{NodeCache}
 use Rattle.bc_chosen.specs.Parts.{ArePartsOf, Parts}
 use Rattle.bc_chosen.proofs.Parts.{law_stands}
 use Rattle.bc_disk.specs.Disk.{DiskFacts}
 use Rattle.bc_entries.specs.Journal.{Journal as Read}
 use Rattle.bc_events.specs.Run.{Opening}
+use Rattle.bc_disk.specs.declared.geometry.Geometry.{Geometry}
 use Rattle.bc_facts.specs.Layout.{IsLayoutOf}
+use Rattle.bc_facts.specs.Seen.{counted}
 use Rattle.bc_image.specs.Pair.{Pair}
 use Rattle.bc_image.specs.Reading.{IsView, View}
 use Rattle.bc_image.specs.Sound.{HasSoundParts}
@@ -20,6 +24,7 @@ use Rattle.bc_machine.specs.declared.part.CorePart.{CorePart}
 use Rattle.bc_machine.specs.declared.part.CorePart.TheVariants as part
 use Rattle.bc_meta.specs.Layout.{Layout}
 use Rattle.bc_model.specs.Sector.{Image}
+use Rattle.bc_record.specs.Places.{bucket_at}
 use Rattle.bc_whole.specs.State as whole
 use Rattle.bc_begun.specs.Begin.{Beginning, BeginsOn, IsSeenAs, parts_of}
 use Rattle.bc_begun.specs.Laws.{LawOrigin}
@@ -27,7 +32,21 @@ use Rattle.bc_begun.specs.Opened.{IsOpenedWith}
 use Rattle.bc_begun.proofs.Buckets.{law_buckets}
 use Rattle.bc_begun.proofs.Journal.{law_journal}
 use Rattle.bc_begun.proofs.Leaves.{in_slots, law_leaves}
+use Rattle.bc_begun.proofs.Needs.{law_needs}
 use Rattle.bc_begun.proofs.Spine.{law_spine}
+
+-- ---- buckets
+
+div_rises : (k s t : ℕ) → s ≤ t → s / k ≤ t / k
+div_rises zero s t le = omega arith
+div_rises (suc k) s t le = le-div (s / suc k) t (suc k) (omega arith)
+    (let down = div-mul-le_self s (suc k) in omega (arith, down, le))
+
+-- of a lower sector the bucket isn't above
+in_order : (g : Geometry) (a b s t : ℕ) → s ≤ t → a ≡ counted g (bucket_at g s)
+    → b ≡ counted g (bucket_at g t) → a ≤ b
+in_order g a b s t le at_s at_t =
+    let up = div_rises g.bucket s t le in omega (arith, at_s, at_t, up)
 
 -- ---- leaf parts
 
@@ -98,6 +117,7 @@ module _ {C B : Type 0} (cache_facts : C → DiskFacts) (backing_facts : B → D
       buckets = law_buckets p v layout x w st k.buckets h on.bytes on.buckets on.reserves on.fill;
       journal = law_journal p v layout x o.opening st next_seq read k.journal h is
           on.found on.entries on.resumed;
+      needs = law_needs p v layout x o.opening st h next_seq read k.journal on.entries on.resumed;
       leaves = leaves;
     }
 
@@ -121,6 +141,8 @@ module _ {C B : Type 0} (cache_facts : C → DiskFacts) (backing_facts : B → D
           ∙ sym (ap (λ (i : Option Image). image_of i (k.backing.offset + s)) on.backing);
       sound = is;
       slots = in_slots p v layout x w st h;
+      order = λ s t le. in_order v.geometry (w.flow.books.bucket s) (w.flow.books.bucket t) s t le
+          (h.opening.books.bucket s) (h.opening.books.bucket t);
       calm = h.opening.parts.change;
       begun = begun;
     }

@@ -170,7 +170,13 @@ module _ {C B : Type 0} (cache_facts : C → DiskFacts) (backing_facts : B → D
         (
           (refl, λ o is course. is.begun.buckets),
           (
-            (refl, λ o is course. is.begun.journal),
+            (
+              refl,
+              record {
+                stands = λ o is course. is.begun.journal;
+                needs = λ o is course. is.begun.needs;
+              },
+            ),
             (
               (refl, cache settled_cache),
               (

@@ -28,7 +28,7 @@ use Rattle.bc_shares.specs.Shares.{journal_share}
 use Rattle.bc_entry.specs.Entry.{IsNewestEntry, IsSafeEntry}
 use Rattle.bc_entry.proofs.Allowed.{sealed_is}
 use Rattle.bc_entry.proofs.Course.{inv_course}
-use Rattle.bc_entry.proofs.Holding.{holds_journal, known_committed, known_since, safe_kept, some_is}
+use Rattle.bc_entry.proofs.Holding.{holds_journal, known_committed, known_since, needs_committed, safe_kept, some_is}
 
 -- it changes the journal alone
 pub journal_changed : (k : ℕ) → (if k == 0 then false else (if k == 1 then false
@@ -98,11 +98,15 @@ module _ {C B : Type 0} (cache_facts : C → DiskFacts) (backing_facts : B → D
     journal_ended j seat on =
         let there = (held (m cache_facts backing_facts) (framed cache_facts backing_facts) v
         did.is.before 3 (part.Journal j) seat.seat did.is.since journal (refl, on)).1 in
-        known_committed cache_facts backing_facts v w deed.Sealed
-        (λ o st. IsJournalOf o.opening.machine (journal_share st.machine) j)
-        (λ o st. IsJournalOf o.opening.machine (journal_share st.machine) (with_durable s j)) did
-        (λ o is course on h. ends_in o did.is.before.log v.first s j is.sound course
-        (safe_before o is course) h) there
+        record {
+          stands = known_committed cache_facts backing_facts v w deed.Sealed
+              (λ o st. IsJournalOf o.opening.machine (journal_share st.machine) j)
+              (λ o st. IsJournalOf o.opening.machine (journal_share st.machine) (with_durable s j))
+              did
+              (λ o is course on h. ends_in o did.is.before.log v.first s j is.sound course
+              (safe_before o is course) h) there.stands;
+          needs = needs_committed cache_facts backing_facts v w deed.Sealed j.needed did there.needs;
+        }
 
   -- a part in hand
   pub with_journal_in : (p : PartsView (CorePart C B)) (v : View cache_facts backing_facts)

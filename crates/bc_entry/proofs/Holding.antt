@@ -16,10 +16,11 @@ use Rattle.bc_hand.specs.Seats.{Did, Works, by, numbers, with_part, with_leaves,
 use Rattle.bc_hand.specs.declared.hand.Hand.{Hand}
 use Rattle.bc_hand.proofs.Knowing.{View, m}
 use Rattle.bc_journal.specs.Sealed.{Sealed}
-use Rattle.bc_machine.specs.Standing.{origin_before}
+use Rattle.bc_machine.specs.Standing.{needs_stay, origin_before}
 use Rattle.bc_machine.specs.World.{FromEach, IsCourseOf, IsOrigin, Origin, World, after, is_call_of, replay}
 use Rattle.bc_machine.specs.declared.part.CorePart.{CorePart}
 use Rattle.bc_meta.specs.Records.{Fixed, Nothing, Ready, Safe, Sent, Stage, after_barrier}
+use Rattle.bc_needs.specs.Needs.{NeedsFrom}
 use Rattle.bc_sealing.specs.Laws.{IsUnwritten, IsWritten, stage_in, writes_entry}
 use Rattle.bc_sealing.proofs.Stage.{law_stage}
 use Rattle.bc_shares.specs.Shares.{JournalShare, journal_share}
@@ -156,6 +157,14 @@ module _ {C B : Type 0} (cache_facts : C → DiskFacts) (backing_facts : B → D
       → FromEach did.is.before P → FromEach (world cache_facts backing_facts w) Q
   known_committed v w d P Q did makes h = subst (λ x. FromEach x Q) (sym did.is.state)
       (from_each did.is.before (by v.first d) P Q makes h)
+
+  -- what no leaf waits for before it, none waits for behind it
+  pub needs_committed : (v w : View cache_facts backing_facts) (d : Deed) (low : ℕ)
+      → (did : Did cache_facts backing_facts (Some d) v w)
+      → FromEach did.is.before (λ o st. NeedsFrom low st)
+      → FromEach (world cache_facts backing_facts w) (λ o st. NeedsFrom low st)
+  needs_committed v w d low did h = subst (λ x. FromEach x (λ o st. NeedsFrom low st))
+      (sym did.is.state) (needs_stay low did.is.before (by v.first d) h)
 
   pub makes_firm : (v w : View cache_facts backing_facts) → Holds v.parts 3 → Holds v.parts 4
       → Did cache_facts backing_facts (Some deed.CacheBarrier) v w

@@ -4,9 +4,7 @@ pub mod Holding
 pub mod Allowed
 pub mod Ending
 pub mod Writing
-pub mod Needed
 pub mod Sealing
 pub mod Putting
 pub mod Begun
-pub mod Lasting
 pub mod Waiting

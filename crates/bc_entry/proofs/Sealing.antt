@@ -46,10 +46,10 @@ use Rattle.bc_whole.specs.State as whole
 use Rattle.bc_whole.specs.State.{SameChain, SameRoot}
 use Rattle.bc_whole.specs.Together.{entry_of}
 use Rattle.bc_entry.specs.Entry.{IsFixedEntry, IsSealedAs}
-use Rattle.bc_entry.specs.Seal.{AreNamed, CanSeal, HasSealed, IsNamed, NeedsNone, begun_by, rest_of}
+use Rattle.bc_needs.specs.Needs.{NeedsFrom, NeedsNone}
+use Rattle.bc_entry.specs.Seal.{AreNamed, CanSeal, HasSealed, IsNamed, begun_by, rest_of}
 use Rattle.bc_entry.proofs.Course.{is_sealed, nothing_course, waits_course}
-use Rattle.bc_entry.proofs.Holding.{IsKept, known_committed, known_since}
-use Rattle.bc_entry.proofs.Needed.{needs_kept}
+use Rattle.bc_entry.proofs.Holding.{IsKept, known_committed, known_since, needs_committed}
 
 never : (b : Bool) → b ≡ true → b ≡ false → ⊥
 never b is off = cc
@@ -135,7 +135,7 @@ module _ (o : Origin) (sound : IsSound o.opening.machine o.parts) (es : List Eve
   number_is : number_of j ≡ j.durable.seq + 1
   number_is = ap (λ n. newest_of j.durable n + 1) can.none
 
-  can_seal : NeedsNone j.needed o (replay o es) → CanSealNext st.whole.parts j.needed
+  can_seal : NeedsNone j.needed (replay o es) → CanSealNext st.whole.parts j.needed
   can_seal needs =
       let seq = seq_is in
       let least = low_is in
@@ -147,7 +147,7 @@ module _ (o : Origin) (sound : IsSound o.opening.machine o.parts) (es : List Eve
   not_waiting : st.whole.flow.books.journal.waiting ≡ false
   not_waiting = waits_course o sound es on ∙ ap is_sealed (nothing_course o sound es on idle)
 
-  seals : (i : ℕ) (rest : List ℕ) → NeedsNone j.needed o (replay o es)
+  seals : (i : ℕ) (rest : List ℕ) → NeedsNone j.needed (replay o es)
       → st.whole.flow.halted ≡ false → IsEnabled w st i (Seal j.needed rest SameRoot SameChain)
   seals i rest needs running = record {
     data_allows = (record { heard = running; steps = (not_waiting, tt); can = tt }, tt);
@@ -169,7 +169,7 @@ module _ (o : Origin) (sound : IsSound o.opening.machine o.parts) (es : List Eve
     );
   }
 
-  seals_behind : (i b : ℕ) (rest : List ℕ) → NeedsNone j.needed o (replay o es)
+  seals_behind : (i b : ℕ) (rest : List ℕ) → NeedsNone j.needed (replay o es)
       → st.whole.flow.halted ≡ false
       → IsEnabled w (after w st i (BeginBucket b)) i (Seal j.needed rest SameRoot SameChain)
   seals_behind i b rest needs running = record {
@@ -308,7 +308,7 @@ module _ (o : Origin) (sound : IsSound o.opening.machine o.parts)
     (h : IsJournalOf o.opening.machine (journal_share (replay o es).machine) j) (i : ℕ)
     (rest : Vec ℕ Global) where
   enabled : (begun : Option ℕ) (p : Place) → GoesTo j p begun → i < 320
-      → NeedsNone j.needed o (replay o es) → (replay o es).machine.whole.flow.halted ≡ false
+      → NeedsNone j.needed (replay o es) → (replay o es).machine.whole.flow.halted ≡ false
       → core.IsEnabled o.opening (replay o es) (by i (sealing j begun rest))
   enabled begun p (inl (is, place)) few needs running =
       subst (λ (b : Option ℕ). core.IsEnabled o.opening (replay o es) (by i (sealing j b rest)))
@@ -366,10 +366,9 @@ module _ {C B : Type 0} (cache_facts : C → DiskFacts) (backing_facts : B → D
         3 (part.Journal j) seat.seat since journal (refl, stands)).1
 
     pub may_seal : are_plain cache_facts backing_facts v.run.start ≡ false
-        → FromEach (world cache_facts backing_facts v) (NeedsNone j.needed)
         → (rest : Vec ℕ Global)
         → MayDo cache_facts backing_facts v (sealing j (begun_by j) rest)
-    may_seal cached needs rest x y at told =
+    may_seal cached rest x y at told =
         let seen = at.from (is_plain_at cache_facts backing_facts v x at.since ∙ cached) in
         go x y seen.0 seen.1 at.since (at.running refl)
       where
@@ -378,13 +377,12 @@ module _ {C B : Type 0} (cache_facts : C → DiskFacts) (backing_facts : B → D
             → CanFollow y (by v.first (sealing j (begun_by j) rest))
         go x y o seen since = subst (λ (z : World). (data_of z).halted ≡ false
             → CanFollow z (by v.first (sealing j (begun_by j) rest))) (sym seen.is)
-            (λ running. let place = has_place j can in record {
+            (λ running. let place = has_place j can in let there = journal_since x since in record {
               enabled = enabled o seen.origin.sound seen.origin.cached x.log seen.course j good can
-                  (journal_since x since o seen.origin seen.course) v.first rest (begun_by j)
+                  (there.stands o seen.origin seen.course) v.first rest (begun_by j)
                   place.0
                   (goes_to j place.0 good place.1) (low cache_facts backing_facts v seat)
-                  (known_since cache_facts backing_facts v x (NeedsNone j.needed) journal
-                  (needs_kept j.needed) since needs o seen.origin seen.course) running;
+                  (there.needs o seen.origin seen.course).needs running;
               names = tt;
               number = tt;
             })
@@ -405,10 +403,16 @@ module _ {C B : Type 0} (cache_facts : C → DiskFacts) (backing_facts : B → D
           (known_since cache_facts backing_facts v did.is.before (AreNamed j.ring.geometry heads)
           journal (named_kept j.ring.geometry heads) did.is.since named o origin course) s new is
           rest_is (begun_by j) (goes_to j s.place good is.place))
-          (journal_since did.is.before did.is.since)
+          (journal_since did.is.before did.is.since).stands
 
       pub journal_sealed : IsJournal new (world cache_facts backing_facts w)
-      journal_sealed o origin course = (both_left o origin course).0
+      journal_sealed = record {
+        stands = λ o origin course. (both_left o origin course).0;
+        needs = subst (λ n. FromEach (world cache_facts backing_facts w) (λ o st. NeedsFrom n st))
+            (sym (ap (λ (k : Journal). k.needed) is.journal))
+            (needs_committed cache_facts backing_facts v w (sealing j (begun_by j) rest) j.needed did
+            (journal_since did.is.before did.is.since).needs);
+      }
 
       pub knows_fixed : FromEach (world cache_facts backing_facts w) (IsFixedEntry s)
       knows_fixed o origin course = (both_left o origin course).1
@@ -426,13 +430,12 @@ module _ {C B : Type 0} (cache_facts : C → DiskFacts) (backing_facts : B → D
     -- by whatever numbers these are
     pub may_seal_at : (n : ℕ) (begun : Option ℕ) → n ≡ j.needed → begun ≡ begun_by j
         → are_plain cache_facts backing_facts v.run.start ≡ false
-        → FromEach (world cache_facts backing_facts v) (NeedsNone j.needed)
         → (rest : Vec ℕ Global)
         → MayDo cache_facts backing_facts v (deed.Seal n begun rest None None)
-    may_seal_at n begun n_is begun_is cached needs rest = subst
+    may_seal_at n begun n_is begun_is cached rest = subst
         (λ k. MayDo cache_facts backing_facts v (deed.Seal k begun rest None None)) (sym n_is)
         (subst (λ (b : Option ℕ). MayDo cache_facts backing_facts v
-        (deed.Seal j.needed b rest None None)) (sym begun_is) (may_seal cached needs rest))
+        (deed.Seal j.needed b rest None None)) (sym begun_is) (may_seal cached rest))
 
   pub did_sealing : (v w : View cache_facts backing_facts) (j : Journal) (n : ℕ) (begun : Option ℕ)
       (rest : Vec ℕ Global) → n ≡ j.needed → begun ≡ begun_by j

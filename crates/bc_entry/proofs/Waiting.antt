@@ -14,8 +14,8 @@ use Rattle.bc_machine.specs.Containers.{AreEntriesOf, AreLeavesOf, IsInTree, IsJ
 use Rattle.bc_machine.specs.World.{AreLeafParts, IsOrigin, Origin, World, replay}
 use Rattle.bc_node.specs.declared.pending.Entries.{Entries}
 use Rattle.bc_shares.specs.Shares.{journal_share}
-use Rattle.bc_entry.specs.Laws.{AllWaitFrom, LawNeeds, LawNeedsFrom, NeedsFrom}
-use Rattle.bc_entry.specs.Seal.{NeedsNone}
+use Rattle.bc_needs.specs.Needs.{NeedsFrom, NeedsNone}
+use Rattle.bc_entry.specs.Laws.{AllWaitFrom, LawNeeds}
 
 -- ---- a slot has the leaf, or none has
 
@@ -71,7 +71,7 @@ search_slots (Some c ∷ slots) k = elim (cases_eq c.number k) [
 from_entries : (low : ℕ) (o : Option Entries) (xs : List Pending) → IfSome o (λ e. low ≤ e.first)
     → AreEntriesOf o xs → AllFrom low xs
 from_entries low None xs tt none = subst (AllFrom low) (sym none) (λ x i. absurd i)
-from_entries low (Some e) xs least are = λ x i. (let up = are.0 x i in omega (arith, least, up))
+from_entries low (Some e) xs least are = λ x i. (let up = are.1 x i in omega (arith, least, up))
 
 part_at : (w : Opening) (st : parts.State) (count i n : ℕ) (cs : List NodeCache)
     → AreLeafParts w st count i cs → n < length cs
@@ -131,16 +131,12 @@ module _ (x : World) (o : Origin) (is : IsOrigin x o) (low : ℕ) (wait : AllWai
     by_role k Leaving at some = live k (subst IsLive (sym at) tt)
     by_role k Coming at some = live k (subst IsLive (sym at) tt)
 
-    pub needs : NeedsNone low o (replay o [])
+    pub needs : NeedsNone low (replay o [])
     needs k some = by_role k (leaf k).role refl some
 
 pub law_needs : LawNeeds
-law_needs x low first wait o is course = subst (λ (log : List Event).
-    NeedsNone low o (replay o log)) (sym first) (needs x o is low wait)
-
-pub law_needs_from : LawNeedsFrom
-law_needs_from x low j first wait has next o is course = subst (λ (log : List Event).
-    NeedsFrom low o (replay o log)) (sym first) (record {
+law_needs x low j first wait has next o is course = subst (λ (log : List Event).
+    NeedsFrom low (replay o log)) (sym first) (record {
       needs = needs x o is low wait;
       next =
           let stands = subst (λ (k : Option Journal). IfSome k (IsJournalOf o.opening.machine

@@ -1,5 +1,5 @@
 -- What the first seat of a run knows as the run begins.
-use Rattle.std.specs.Prelude.{◌≡◌, ℕ, suc, ◌+◌, ◌<◌, ◌≤◌, List, [], Some, IfSome, length, slice_get}
+use Rattle.std.specs.Prelude.{◌≡◌, ℕ, ◌+◌, ◌<◌, ◌≤◌, List, [], Some, IfSome, length, slice_get}
 use Rattle.bc_cache.specs.Slots.{NodeCache}
 use Rattle.bc_cache.specs.declared.slots.Cached.{Cached}
 use Rattle.bc_disk.specs.Disk.{DiskFacts}
@@ -8,11 +8,10 @@ use Rattle.bc_journal.specs.Journal.{Journal}
 use Rattle.bc_journal.specs.declared.heads.Heads.{Heads}
 use Rattle.bc_jset.specs.Entries.{AreEntries, FoundEntry}
 use Rattle.bc_jset.specs.declared.entry.JEntry.{JEntry}
-use Rattle.bc_events.specs.Run.{State}
-use Rattle.bc_events.specs.declared.event.Event.{Event}
-use Rattle.bc_machine.specs.World.{Begun, FromEach, Origin, World, after}
+use Rattle.bc_machine.specs.World.{Begun, FromEach, World}
 use Rattle.bc_seats.specs.Seats.{Waited}
-use Rattle.bc_entry.specs.Seal.{AreNamed, NeedsNone}
+use Rattle.bc_needs.specs.Needs.{NeedsFrom}
+use Rattle.bc_entry.specs.Seal.{AreNamed}
 
 -- what an entry names
 abbrev pub heads_of : JEntry → Heads
@@ -48,24 +47,10 @@ pub record AllWaitFrom (low : ℕ) (b : Begun) : Type 0 where
   pub each : b.leaf_parts ≡ length b.leaves
   pub from : (i : ℕ) (cache : NodeCache) → slice_get b.leaves i ≡ Some cache → WaitFrom low cache
 
--- No leaf waits for a key of an entry below this one, and the next entry isn't below it.
-pub record NeedsFrom (low : ℕ) (o : Origin) (st : State) : Type 0 where
-  pub needs : NeedsNone low o st
-  pub next : low ≤ suc st.machine.whole.parts.records.newest.number
-
--- It never will, whatever happens: a key that comes in is of an entry to come. So it is known for
--- good once it is known, with the journal in hand or without.
-abbrev pub LawLasts : Type 0
-LawLasts = (x : World) (e : Event) (low : ℕ) → FromEach x (NeedsFrom low)
-    → FromEach (after x e) (NeedsFrom low)
-
 -- Before a run's first event no leaf of the machine waits for a key of an older entry than those in
--- memory do: what isn't in memory waits for none, and no change of the tree is under way.
+-- memory do: what isn't in memory waits for none, and no change of the tree is under way. So the
+-- journal may need as few entries as that, if the next entry isn't below it either.
 abbrev pub LawNeeds : Type 0
-LawNeeds = (x : World) (low : ℕ) → x.log ≡ [] → AllWaitFrom low x.begun
-    → FromEach x (NeedsNone low)
-
--- And it goes on to wait for none, if the journal's next entry isn't below that either.
-abbrev pub LawNeedsFrom : Type 0
-LawNeedsFrom = (x : World) (low : ℕ) (j : Journal) → x.log ≡ [] → AllWaitFrom low x.begun
-    → x.begun.journal ≡ Some j → low ≤ j.durable.seq + 1 → FromEach x (NeedsFrom low)
+LawNeeds = (x : World) (low : ℕ) (j : Journal) → x.log ≡ [] → AllWaitFrom low x.begun
+    → x.begun.journal ≡ Some j → low ≤ j.durable.seq + 1
+    → FromEach x (λ o st. NeedsFrom low st)

@@ -1,5 +1,5 @@
 -- An entry that a seat seals: what it has to know for it, and what it did.
-use Rattle.std.specs.Prelude.{◌≡◌, ◌≢◌, ℕ, ◌+◌, ◌^◌, ◌<◌, List, [], ◌∷◌, length, nat_le, Option, Some, None, if◌then◌else◌, Vec}
+use Rattle.std.specs.Prelude.{◌≡◌, ℕ, ◌+◌, ◌^◌, ◌<◌, List, [], ◌∷◌, length, nat_le, Option, Some, None, if◌then◌else◌, Vec}
 use Rattle.std.specs.declared.alloc.Global.{Global}
 use Rattle.bc_disk.specs.Disk.{DiskFacts}
 use Rattle.bc_disk.specs.declared.geometry.Geometry.{Geometry}
@@ -13,7 +13,6 @@ use Rattle.bc_journal.specs.Sealed.{Sealed}
 use Rattle.bc_journal.specs.declared.heads.Heads.{Heads}
 use Rattle.bc_key.specs.declared.key.Key.{Key}
 use Rattle.bc_keys.specs.Spelling.{words_of_all}
-use Rattle.bc_leaves.specs.Parts.{AllFrom, NoNode}
 use Rattle.bc_machine.specs.World.{Origin}
 use Rattle.bc_meta.specs.Entries.{Entry}
 use Rattle.bc_shares.specs.Shares.{journal_share}
@@ -33,11 +32,6 @@ pub record IsNamed (g : Geometry) (heads : Heads) (e : Entry) : Type 0 where
 
 abbrev pub AreNamed : Geometry → Heads → Origin → State → Type 0
 AreNamed g heads o st = IsNamed g heads (journal_share st.machine).entries.newest
-
--- no leaf waits for a key of an older entry
-abbrev pub NeedsNone : ℕ → Origin → State → Type 0
-NeedsNone low o st = (k : ℕ) → (st.machine.whole.parts.leaves k).role ≢ NoNode
-    → AllFrom low (st.machine.whole.parts.leaves k).pending
 
 -- the journal bucket that the next entry begins, where it has no room behind the last one
 abbrev pub begun_by : Journal → Option ℕ

@@ -1,5 +1,5 @@
 //! What the first seat of a run knows as the run begins: each law is the contract of a function.
-ghost use Rattle.bc_entry.specs.Laws.{LawAlone, LawLasts, LawNamed, LawNeeds, LawNeedsFrom};
+ghost use Rattle.bc_entry.specs.Laws.{LawAlone, LawNamed, LawNeeds};
 
 use bc_disk::disk::Disk;
 
@@ -13,13 +13,7 @@ pub fn law_alone<C: Disk, B: Disk>()
     ensures { LawAlone C.facts B.facts }
 {}
 
-/// What no leaf waits for, none ever will.
-pub fn law_lasts()
-    ensures { LawLasts }
-{}
-
 /// No leaf waits for a key of an older entry than the leaves in memory do with which the run began.
 pub fn law_needs()
-    ensures needs { LawNeeds }
-    ensures from { LawNeedsFrom }
+    ensures { LawNeeds }
 {}

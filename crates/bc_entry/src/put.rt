@@ -2,7 +2,7 @@
 ghost use Rattle.std.specs.Prelude.{◌≡◌, ◌*◌, ◌≤◌, false, Some, OnOk, IfErr};
 ghost use Rattle.bc_entry.specs.Entry.{HasJournalAndCache};
 ghost use Rattle.bc_entry.specs.Put.{GoesOn, HasCut, HasPut, IsCause};
-ghost use Rattle.bc_entry.specs.Seal.{AreNamed, CanSeal, NeedsNone};
+ghost use Rattle.bc_entry.specs.Seal.{AreNamed, CanSeal};
 ghost use Rattle.bc_hand.specs.Seats.{Works, kinds, world};
 ghost use Rattle.bc_journal.specs.Journal.{Journal};
 ghost use Rattle.bc_jset.specs.EntryBytes.{IsLevel};
@@ -44,8 +44,7 @@ pub fn put_entry<C: Disk + Drop, B: Disk + Drop, R: Wait>(
     requires journal { (j : Journal) × (hand.old.journal ≡ Some j) × CanSeal j
         × (j.ring.geometry.bucket * j.ring.geometry.nbuckets
         ≤ (cache_among C.facts B.facts parts.now.run.start).sectors)
-        × FromEach (world C.facts B.facts seat.old) (AreNamed j.ring.geometry heads.now)
-        × FromEach (world C.facts B.facts seat.old) (NeedsNone j.needed) }
+        × FromEach (world C.facts B.facts seat.old) (AreNamed j.ring.geometry heads.now) }
     ensures works { Works C.facts B.facts parts.now seat.new hand.new }
     ensures hand { HasJournalAndCache hand.new }
     ensures kinds { kinds hand.new ≡ kinds hand.old }

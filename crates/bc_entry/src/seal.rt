@@ -2,7 +2,7 @@
 ghost use Rattle.std.specs.Prelude.{◌≡◌, ◌+◌, ◌<◌, ◌==◌, ◌++◌, ℕ, false, None, Some, length, OnOk, OnErr, OnSome, IfOk, IfErr, IfSome, IsOk};
 ghost use Rattle.bc_deed.specs.Asked.{IsHaltedOr};
 ghost use Rattle.bc_entry.specs.Entry.{IsFixedEntry};
-ghost use Rattle.bc_entry.specs.Seal.{AreNamed, CanSeal, HasSealed, NeedsNone, begun_by, rest_of};
+ghost use Rattle.bc_entry.specs.Seal.{AreNamed, CanSeal, HasSealed, begun_by, rest_of};
 ghost use Rattle.bc_hand.specs.Seats.{core, IsCoreSeat, Works, Did, world};
 ghost use Rattle.bc_journal.specs.Journal.{IsSealed, Journal};
 ghost use Rattle.bc_jset.specs.EntryBytes.{IsLevel};
@@ -25,8 +25,7 @@ use std::alloc::{AllocError, Global};
 use std::sync::Wait;
 
 /// Seals the keys that wait into an entry, which names what the newest durable one does: the same
-/// root and the same priorities. The journal is in hand, and no leaf waits for a key of an entry
-/// that the journal doesn't need any more.
+/// root and the same priorities. The journal is in hand.
 ///
 /// `Err` comes from want of memory, or names the device that halted the run; then nothing is done.
 pub fn seal<C: Disk + Drop, B: Disk + Drop, R: Wait>(
@@ -42,8 +41,7 @@ pub fn seal<C: Disk + Drop, B: Disk + Drop, R: Wait>(
     requires promise { 0 < seat.old.promises }
     requires level { IsLevel heads.now.level }
     requires journal { (j : Journal) × (hand.old.journal ≡ Some j) × CanSeal j
-        × FromEach (world C.facts B.facts seat.old) (AreNamed j.ring.geometry heads.now)
-        × FromEach (world C.facts B.facts seat.old) (NeedsNone j.needed) }
+        × FromEach (world C.facts B.facts seat.old) (AreNamed j.ring.geometry heads.now) }
     ensures works { Works C.facts B.facts parts.now seat.new hand.new }
     ensures ok { IfOk result (λ entry. (j k : Journal) × (hand.old.journal ≡ Some j)
         × (hand.new ≡ record hand.old { journal = Some k }) × IsSealed j heads.now entry k
@@ -84,7 +82,6 @@ fn seal_in<C: Disk, B: Disk, R: Wait>(
     requires can { CanSeal journal.old }
     requires named { FromEach (world C.facts B.facts seat.old)
         (AreNamed journal.old.ring.geometry heads.now) }
-    requires needs { FromEach (world C.facts B.facts seat.old) (NeedsNone journal.old.needed) }
     ensures seat { IsCoreSeat C.facts B.facts seat.new }
     ensures kept { Kept (core C.facts B.facts) seat.old seat.new (λ k. k == 3) }
     ensures journal { IsJournal journal.new (world C.facts B.facts seat.new) }

@@ -1,5 +1,5 @@
 -- The laws on leaves that are read.
-use Rattle.std.proofs.Common.{◌≡◌, ◌≢◌, ◌⊎◌, inl, inr, ℕ, ◌+◌, Bool, true, false, List, [], ◌∷◌, ◌++◌, Option, Some, None, refl, sym, ap, ◌∙◌, subst, if◌then◌else◌}
+use Rattle.std.proofs.Common.{◌≡◌, ◌≢◌, ◌⊎◌, inl, inr, ℕ, ◌+◌, Bool, true, false, List, [], ◌∷◌, ◌++◌, Option, Some, None, refl, sym, ap, ◌∙◌, subst, arith, if◌then◌else◌}
 use Rattle.bc_crash.specs.Tables.{no_tables}
 use Rattle.bc_crash.proofs.Crash.{crash_course}
 use Rattle.bc_crash.proofs.Survive.{crash_opened}
@@ -36,7 +36,7 @@ use Rattle.bc_meta.specs.Places.{NoChance}
 use Rattle.bc_meta.specs.Records.{MayHold, Node, Records, stable_node}
 use Rattle.bc_meta.specs.Tree.{NodeSet, Owner, set_keys}
 use Rattle.bc_model.specs.Sector.{Image, Value}
-use Rattle.bc_node.specs.Leaf.{IsLeafOf, Leaf}
+use Rattle.bc_node.specs.Leaf.{AreLastOfAll, IsLeafOf, Leaf}
 use Rattle.bc_node.specs.declared.pending.Entries.{Entries}
 use Rattle.bc_record.proofs.Blocks.{node_blocks}
 use Rattle.bc_set.proofs.NodeSets.{node_exists}
@@ -139,6 +139,16 @@ law_sets x o is course g image given q known =
     q known
 
 -- ---- leaves
+
+-- nothing is pending of no keys
+nothing : AreLastOfAll [] []
+nothing = record {
+  order = (
+    (λ j a lt. absurd (omega (arith, lt))),
+    (λ i j a lt inside. absurd (omega (arith, inside))),
+  );
+  shown = λ s. refl;
+}
 
 live_in : (r : Role) → IsInTree r → IsLive r
 live_in NoNode h = h
@@ -288,6 +298,12 @@ module _ (w : Opening) (st : whole.State) (inv : Inv w st) (k : ℕ)
             ∙ ap (λ (ps : List Pending). last_said (keys_of ps) s) (sym none);
         entries = subst (λ (o : Option Entries). AreEntriesOf o (st.parts.leaves k).pending)
             (sym of.pending.entries) none;
+        lists = record {
+          list = image_tree.set_keys sets;
+          last = of.last;
+          added = [];
+          last_added = subst (λ (l : List Key). AreLastOfAll [] l) (sym of.pending.keys) nothing;
+        };
       }
 
 pub law_found : LawFound

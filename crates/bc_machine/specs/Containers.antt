@@ -1,6 +1,7 @@
 -- What the parts of a running cache that are in memory stand for, in the core's state.
-use Rattle.std.specs.Prelude.{◌≡◌, ℕ, zero, suc, Bool, true, false, ◌+◌, ◌*◌, ◌%◌, ◌<◌, ◌≤◌, List, [], ◌∷◌, ◌++◌, length, reverse, Contains, Option, Some, None, IfSome, slice_get, slice_index}
+use Rattle.std.specs.Prelude.{◌≡◌, ◌≢◌, ℕ, zero, suc, Bool, true, false, ◌+◌, ◌*◌, ◌%◌, ◌<◌, ◌≤◌, List, [], ◌∷◌, ◌++◌, length, reverse, Contains, Option, Some, None, IfSome, slice_get, slice_index}
 use Rattle.bc_key.specs.Words.{ptr_word}
+use Rattle.bc_key.specs.declared.key.Key.{Key}
 use Rattle.bc_key.specs.declared.ptr.Ptr.{Ptr}
 use Rattle.bc_meta.specs.Entries.{Entry}
 use Rattle.bc_meta.specs.Facts.{In}
@@ -19,7 +20,7 @@ use Rattle.bc_spine.specs.Numbers.{HasNumber}
 use Rattle.bc_spine.specs.declared.leaf.LeafRange.{LeafRange}
 use Rattle.bc_tree.specs.Spine.{Spine}
 use Rattle.bc_node.specs.declared.pending.Entries.{Entries}
-use Rattle.bc_node.specs.Leaf.{Leaf}
+use Rattle.bc_node.specs.Leaf.{AreLast, AreLastOfAll, Leaf}
 use Rattle.bc_cache.specs.declared.slots.Cached.{Cached}
 use Rattle.bc_cache.specs.Slots.{NodeCache, Misses}
 use Rattle.bc_bucket.specs.Buckets.{bucket_of}
@@ -76,7 +77,14 @@ pub record IsSpineOf (w : Opening) (st : parts.State) (sp : Spine) : Type 0 wher
 -- the entries that hold what is pending
 abbrev pub AreEntriesOf : Option Entries → List Pending → Type 0
 AreEntriesOf None xs = xs ≡ []
-AreEntriesOf (Some e) xs = AllFrom e.first xs × AllUpTo e.last xs
+AreEntriesOf (Some e) xs = (xs ≢ []) × AllFrom e.first xs × AllUpTo e.last xs
+
+-- its keys are the last ones of some list, and what is pending are those of another
+pub record HasLists (leaf : Leaf) : Type 0 where
+  pub list : List Key
+  pub last : AreLast list leaf.keys
+  pub added : List Key
+  pub last_added : AreLastOfAll added leaf.pending
 
 -- A leaf in memory is the one in a slot: its keys say what the node's sets say, and what is pending
 -- over them. One that was read from the device is never taken for one that this run wrote.
@@ -87,6 +95,7 @@ pub record IsLeafFor (w : Opening) (x : LeafShare) (leaf : Leaf) : Type 0 where
       ≡ ref_said (last_said (keys_of x.leaf.pending ++ set_keys x.node.sets) s)
   pub pending : (s : ℕ) → last_said leaf.pending s ≡ last_said (keys_of x.leaf.pending) s
   pub entries : AreEntriesOf leaf.entries x.leaf.pending
+  pub lists : HasLists leaf
 
 -- a slot has the leaf of this number, and it is held there
 abbrev pub IsHeldIn : List (Option Cached) → ℕ → Type 0

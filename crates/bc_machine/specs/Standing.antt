@@ -32,6 +32,8 @@ use Rattle.bc_events.specs.declared.event.Deed.TheVariants as deed
 use Rattle.bc_events.specs.declared.event.Event.{Event}
 use Rattle.bc_shares.specs.Shares.{Shape, JournalShare, journal_share, BucketsShare, buckets_in, use_of, books_of, LeafShare, leaf_share, SameSpine}
 use Rattle.bc_shares.specs.Touched.{touches_journal, touches_buckets, among_leaves, write_touches_leaf, root_touches_leaf, fault_touches_leaf, touches_leaf, NamesItsChange, touches_spine}
+use Rattle.bc_needs.specs.Needs.{NeedsFrom}
+use Rattle.bc_needs.proofs.Lasting.{law_lasts}
 use Rattle.bc_shares.specs.Laws.{Happens}
 use Rattle.bc_shares.proofs.Law.{law_journal, law_buckets, law_spine, law_slot, law_leaf}
 use Rattle.bc_places.proofs.Others.{law_kept}
@@ -131,6 +133,7 @@ origin_before x e o h = record {
   backing = h.backing;
   sound = h.sound;
   slots = h.slots;
+  order = h.order;
   calm = h.calm;
   begun = h.begun;
 }
@@ -238,12 +241,25 @@ spine_stays sp x e off = from_each x e
     (law_spine o.opening o.parts o.next_seq (oldest_first x.log) e
     (happens x o e is course follows.enabled) off)) h)
 
+-- what no leaf waits for, none ever will
+pub needs_stay : (low : ℕ) (x : World) (e : Event) → FromEach x (λ o st. NeedsFrom low st)
+    → FromEach (after x e) (λ o st. NeedsFrom low st)
+needs_stay low x e = from_each x e (λ o st. NeedsFrom low st)
+    (λ o is course follows h. subst (λ (st : core.State). NeedsFrom low (core.after o.opening st e))
+    (sym (replay_is o x.log))
+    (law_lasts o.opening o.parts o.next_seq (oldest_first x.log) e
+    (happens x o e is course follows.enabled) low
+    (subst (λ (st : core.State). NeedsFrom low st) (replay_is o x.log) h)))
+
 journal_stays : (j : Journal) (x : World) (e : Event)
     → touches_journal e.deed ≡ false → IsJournal j x → IsJournal j (after x e)
-journal_stays j x e off = from_each x e
-    (λ o st. IsJournalOf o.opening.machine (journal_share st.machine) j)
-    (λ o is course follows h. subst (λ (s : JournalShare). IsJournalOf o.opening.machine s j)
-    (sym (law_journal o.opening (replay o x.log) e follows.enabled off)) h)
+journal_stays j x e off h = record {
+  stands = from_each x e
+      (λ o st. IsJournalOf o.opening.machine (journal_share st.machine) j)
+      (λ o is course follows h. subst (λ (s : JournalShare). IsJournalOf o.opening.machine s j)
+      (sym (law_journal o.opening (replay o x.log) e follows.enabled off)) h) h.stands;
+  needs = needs_stay j.needed x e h.needs;
+}
 
 pins_stay : (a b : ℕ → Owner) → ((t : ℕ) → use_of (b t) ≡ use_of (a t)) → (place n : ℕ)
     → pins_in b place n ≡ pins_in a place n

@@ -43,6 +43,7 @@ use Rattle.bc_events.specs.declared.event.UnpinKind.TheVariants as unpin
 use Rattle.bc_events.specs.declared.event.Deed.{Deed}
 use Rattle.bc_events.specs.declared.event.Deed.TheVariants as deed
 use Rattle.bc_events.specs.declared.event.Event.{Event}
+use Rattle.bc_needs.specs.Needs.{NeedsFrom}
 use Rattle.bc_shares.specs.Shares.{books_of, journal_share}
 use Rattle.bc_shares.specs.Touched.{touches_journal, touches_buckets, touches_spine, NamesItsChange}
 use Rattle.bc_machine.specs.Plain.{bare_opening, no_parts}
@@ -217,6 +218,8 @@ pub record HasBegun (b : Begun) (o : Origin) : Type 0 where
       (AreBucketsOf o.opening.machine (book.opened o.opening.machine.flow.books))
   pub journal : IfSome b.journal (IsJournalOf o.opening.machine
       (journal_share (start o.opening o.parts o.next_seq).machine))
+  pub needs : IfSome b.journal
+      (λ j. NeedsFrom j.needed (start o.opening o.parts o.next_seq))
   pub leaves : AreLeafParts o.opening o.parts b.leaf_parts 0 b.leaves
 
 -- the keys of each sector are in the leaf of the tree that has it
@@ -235,6 +238,9 @@ pub record IsOrigin (x : World) (o : Origin) : Type 0 where
   pub backing : (s : ℕ) → o.opening.machine.flow.backing s ≡ x.opening.machine.flow.backing s
   pub sound : IsSound o.opening.machine o.parts
   pub slots : AreInSlots o.opening o.parts
+  -- buckets lie in the order of their numbers
+  pub order : (s t : ℕ) → s ≤ t → o.opening.machine.flow.books.bucket s
+      ≤ o.opening.machine.flow.books.bucket t
   -- no change of the tree is under way as a run begins
   pub calm : o.parts.change ≡ parts.NoChange
   pub begun : HasBegun x.begun o
@@ -449,8 +455,11 @@ IsSpine sp x = FromEach x (λ o st. IsSpineOf o.opening.machine st.machine.whole
 abbrev pub AreBuckets : BucketsPart → World → Type 0
 AreBuckets p x = FromEach x (λ o st. AreBucketsOf o.opening.machine (books_of st.machine) p)
 
-abbrev pub IsJournal : Journal → World → Type 0
-IsJournal j x = FromEach x (λ o st. IsJournalOf o.opening.machine (journal_share st.machine) j)
+-- It needs each entry that a leaf waits for a key of.
+pub record IsJournal (j : Journal) (x : World) : Type 0 where
+  pub stands : FromEach x
+      (λ o st. IsJournalOf o.opening.machine (journal_share st.machine) j)
+  pub needs : FromEach x (λ o st. NeedsFrom j.needed st)
 
 abbrev pub AreLeaves : ℕ → NodeCache → World → Type 0
 AreLeaves part c x = FromEach x

@@ -1,5 +1,5 @@
 -- What the first seat of a run that was begun over what was read knows of the journal.
-use Rattle.std.proofs.Common.{◌≡◌, ℕ, ◌*◌, ◌≤◌, ◌&&◌, Bool, true, false, List, Option, Some, None, refl, sym, ap, ◌∙◌, subst}
+use Rattle.std.proofs.Common.{◌≡◌, ℕ, ◌*◌, ◌+◌, ◌≤◌, ◌&&◌, Bool, true, false, List, Option, Some, None, refl, sym, ap, ◌∙◌, subst, arith}
 use Rattle.std.specs.Prelude.{IfSome}
 use Rattle.bc_begun.specs.Begin.{Beginning, parts_of}
 use Rattle.bc_cache.specs.Slots.{NodeCache}
@@ -11,11 +11,11 @@ use Rattle.bc_enter.specs.Begun.{IsUnsealed}
 use Rattle.bc_enter.specs.declared.next.Unsealed.{Unsealed}
 use Rattle.bc_entries.specs.Journal.{HasJournal, Journal as Read}
 use Rattle.bc_entry.specs.Laws.{heads_of}
-use Rattle.bc_entry.specs.Seal.{AreNamed, CanSeal, NeedsNone}
+use Rattle.bc_entry.specs.Seal.{AreNamed, CanSeal}
 use Rattle.bc_entry.proofs.Begun.{law_named}
 use Rattle.bc_entry.proofs.Waiting.{law_needs}
 use Rattle.bc_events.specs.Run.{start}
-use Rattle.bc_journal.specs.Journal.{Journal}
+use Rattle.bc_journal.specs.Journal.{Journal, number_of}
 use Rattle.bc_journal.specs.declared.heads.Heads.{Heads}
 use Rattle.bc_jset.specs.Entries.{AreEntries, FoundEntry}
 use Rattle.bc_jset.proofs.Entries.{newest_is_last}
@@ -23,6 +23,7 @@ use Rattle.bc_machine.specs.Containers.{IsJournalOf}
 use Rattle.bc_machine.specs.declared.part.BackingPart.{BackingPart}
 use Rattle.bc_machine.specs.World.{FromEach, IsJournal, World, cache_among, is_some_image, image_of, opening, replay}
 use Rattle.bc_model.specs.Sector.{Image}
+use Rattle.bc_needs.specs.Needs.{NeedsFrom}
 use Rattle.bc_resume.proofs.Held.{newest_of}
 use Rattle.bc_shares.specs.Shares.{JournalShare, journal_share}
 use Rattle.bc_whole.specs.State as whole
@@ -59,8 +60,8 @@ module _ {C B : Type 0} (cache_facts : C → DiskFacts) (backing_facts : B → D
   has : run.begun.journal ≡ Some ready.journal
   has = ap (λ (j : Journal). Some j) made.journal
 
-  stands : IsJournal u.journal run
-  stands o origin course = subst (λ (j : Journal). IsJournalOf o.opening.machine
+  is_part : FromEach run (λ o st. IsJournalOf o.opening.machine (journal_share st.machine) u.journal)
+  is_part o origin course = subst (λ (j : Journal). IsJournalOf o.opening.machine
       (journal_share (start o.opening o.parts o.next_seq).machine) j) (sym journal_is)
       (needing o.opening.machine (journal_share (start o.opening o.parts o.next_seq).machine)
       ready.journal is.low (subst (λ (j : Option Journal). IfSome j (IsJournalOf o.opening.machine
@@ -124,11 +125,22 @@ module _ {C B : Type 0} (cache_facts : C → DiskFacts) (backing_facts : B → D
   replayed = subst (λ (l : List NodeCache). AreReplayed cache_facts g read ready.tree.leaves l)
       (sym made.leaves) can.leaves
 
-  needs : FromEach run (NeedsNone u.journal.needed)
-  needs = subst (λ n. FromEach run (NeedsNone n))
+  least : is.low ≤ ready.journal.durable.seq + 1
+  least =
+      let most = is.needs.most in
+      let same = ap number_of began_with in
+      let own = ap number_of can.journal.is in
+      let durable = ap (λ (j : Journal). j.durable.seq) can.journal.is in
+      omega (arith, most, same, own, durable)
+
+  needs : FromEach run (λ o st. NeedsFrom u.journal.needed st)
+  needs = subst (λ n. FromEach run (λ o st. NeedsFrom n st))
       (sym (ap (λ (j : Journal). j.needed) is.is))
-      (law_needs run is.low refl (all_wait cache_facts backing_facts g read ready.tree k replayed
-      is.low is.needs.needed))
+      (law_needs run is.low ready.journal refl (all_wait cache_facts backing_facts g read ready.tree
+      k replayed is.low is.needs.needed) has least)
+
+  stands : IsJournal u.journal run
+  stands = record { stands = is_part; needs = needs }
 
   can_seal : CanSeal u.journal
   can_seal = record {
@@ -147,5 +159,4 @@ module _ {C B : Type 0} (cache_facts : C → DiskFacts) (backing_facts : B → D
         (sym made.cache) can.division);
     stands = stands;
     named = named;
-    needs = needs;
   }

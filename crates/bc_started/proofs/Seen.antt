@@ -25,6 +25,7 @@ origin_after x e o h = record {
   backing = h.backing;
   sound = h.sound;
   slots = h.slots;
+  order = h.order;
   calm = h.calm;
   begun = h.begun;
 }

@@ -1,7 +1,7 @@
 -- The first entry of a run, which its one seat puts before anything else has happened.
 use Rattle.std.specs.Prelude.{◌≡◌, ◌*◌, ◌≤◌, true, false, None, List, []}
 use Rattle.bc_disk.specs.Disk.{DiskFacts}
-use Rattle.bc_entry.specs.Seal.{AreNamed, CanSeal, NeedsNone}
+use Rattle.bc_entry.specs.Seal.{AreNamed, CanSeal}
 use Rattle.bc_hand.specs.Seats.{Kinds, View}
 use Rattle.bc_journal.specs.Journal.{Journal}
 use Rattle.bc_journal.specs.declared.heads.Heads.{Heads}
@@ -32,7 +32,7 @@ module _ {C B : Type 0} (cache_facts : C → DiskFacts) (backing_facts : B → D
     pub seen : v.seen ≡ []
 
   -- The journal stands for what a run that began with these parts opens with. It can seal an entry
-  -- that names what the newest one names, and no leaf waits for an older entry than it needs.
+  -- that names what the newest one names.
   pub record CanPutFirst (start : List (CorePart C B)) (j : Journal) (heads : Heads) : Type 0
     where
       pub can : CanSeal j
@@ -41,4 +41,3 @@ module _ {C B : Type 0} (cache_facts : C → DiskFacts) (backing_facts : B → D
       pub stands : IsJournal j (opening cache_facts backing_facts start)
       pub named : FromEach (opening cache_facts backing_facts start)
           (AreNamed j.ring.geometry heads)
-      pub needs : FromEach (opening cache_facts backing_facts start) (NeedsNone j.needed)

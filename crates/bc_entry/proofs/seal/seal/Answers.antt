@@ -3,7 +3,7 @@ use Rattle.bc_hand.specs.Seats.{world}
 use Rattle.bc_deed.proofs.May.{did_nothing}
 use Rattle.bc_journal.specs.Journal.{Journal}
 use Rattle.bc_machine.specs.World.{FromEach}
-use Rattle.bc_entry.specs.Seal.{AreNamed, NeedsNone}
+use Rattle.bc_entry.specs.Seal.{AreNamed}
 use Rattle.bc_entry.proofs.Ending.{works_anew}
 use Rattle.bc_entry.proofs.Sealing.{both_ok, same_some}
 use Rattle.bc_entry.proofs.seal.seal.Goals as goal
@@ -18,12 +18,6 @@ seal_in-done-requires-clause-named g c = subst (λ (j : Journal). FromEach
     c.args.heads.now))
     (same_some c.args.hand.now.journal c.requires.journal.0 c.get_mut.result.now
     c.requires.journal.1 (sym c.take.ensures.value ∙ c.in-Some-take.is ∙ ap Some (sym c.get_mut.ensures.part))) c.requires.journal.3
-
-pub seal_in-done-requires-clause-needs : goal.seal_in-done-requires-clause-needs
-seal_in-done-requires-clause-needs g c = subst (λ (j : Journal). FromEach
-    (world g.C.Disk.facts g.B.Disk.facts c.args.seat.now) (NeedsNone j.needed))
-    (same_some c.args.hand.now.journal c.requires.journal.0 c.get_mut.result.now
-    c.requires.journal.1 (sym c.take.ensures.value ∙ c.in-Some-take.is ∙ ap Some (sym c.get_mut.ensures.part))) c.requires.journal.4
 
 pub returns-clause-works : goal.returns-clause-works
 returns-clause-works g c = works_anew g.C.Disk.facts g.B.Disk.facts c.args.parts.now c.args.seat.now

@@ -28,7 +28,7 @@ commit-requires-clause-may g c = may_seal_at g.C.Disk.facts g.B.Disk.facts c.arg
     c.requires.journal c.needed-last_seq.result c.bucket_begun-bucket.result
     c.needed-last_seq.ensures.value c.bucket_begun-bucket.ensures
     (cached_by g.C.Disk.facts g.B.Disk.facts c.args.parts.now c.args.seat.now
-    c.requires.run c.requires.cached) c.requires.needs c.in-Ok.rest
+    c.requires.run c.requires.cached) c.in-Ok.rest
 
 pub returns-clause-journal : goal.returns-clause-journal
 returns-clause-journal g c = journal_sealed g.C.Disk.facts g.B.Disk.facts c.args.seat.now

@@ -1,6 +1,6 @@
 use Rattle.std.proofs.Common.{[], ap, sym, subst, arith}
 use Rattle.bc_deed.proofs.Sequence.{done_both}
-use Rattle.bc_entry.specs.Seal.{AreNamed, NeedsNone}
+use Rattle.bc_entry.specs.Seal.{AreNamed}
 use Rattle.bc_hand.specs.declared.hand.Hand.{Hand}
 use Rattle.bc_machine.specs.World.{FromEach, IsJournal, World}
 use Rattle.bc_started.proofs.Entering.{all_behind, as_waited, at_opening, cut_result, halt_result, put_result, still_all, still_new, with_journal}
@@ -47,7 +47,6 @@ put_entry-done-requires-clause-journal g c =
       c.requires.can.disk,
       subst (λ (x : World). FromEach x (AreNamed c.args.journal.ring.geometry c.args.heads.now)) now
           c.requires.can.named,
-      subst (λ (x : World). FromEach x (NeedsNone c.args.journal.needed)) now c.requires.can.needs,
     )
 
 pub returns-clause-all : goal.returns-clause-all

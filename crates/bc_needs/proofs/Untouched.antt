@@ -18,8 +18,7 @@ use Rattle.bc_shares.proofs.Acts.{journal_act, kept_run, released_parts}
 use Rattle.bc_shares.proofs.Acts as shares
 use Rattle.bc_shares.proofs.Law.{in_order}
 use Rattle.bc_shares.proofs.Rows.{journal_row}
-use Rattle.bc_entry.specs.Seal.{NeedsNone}
-use Rattle.bc_entry.proofs.Holding.{IsKept}
+use Rattle.bc_needs.specs.Needs.{LawUntouched}
 
 -- of a node that is there, nothing is pending, or it was there before and that was
 abbrev pub IsFrom : Leaf → Leaf → Type 0
@@ -131,9 +130,9 @@ kept low = record {
   one = λ w st i act off on. from_old low st (after w st i act) (one_act w st i act off on);
 }
 
-pub needs_kept : (low : ℕ) → IsKept (NeedsNone low)
-needs_kept low o st e on off = kept_run (λ act. journal_act act ≡ false)
-    (λ a b. Needs low a → Needs low b) (kept low) o.opening.machine st.machine e.seat
-    (acts_or_none (acts_of o.opening.machine st.machine e.seat e.deed))
-    (journal_row o.opening.machine st.machine e.seat e.deed off)
-    (in_order o.opening st e (acts_of o.opening.machine st.machine e.seat e.deed) on)
+pub law_untouched : LawUntouched
+law_untouched w st e on off low = kept_run (λ act. journal_act act ≡ false)
+    (λ a b. Needs low a → Needs low b) (kept low) w.machine st.machine e.seat
+    (acts_or_none (acts_of w.machine st.machine e.seat e.deed))
+    (journal_row w.machine st.machine e.seat e.deed off)
+    (in_order w st e (acts_of w.machine st.machine e.seat e.deed) on)

@@ -20,15 +20,12 @@ use Rattle.bc_known.proofs.Law.{At, inv_at}
 use Rattle.bc_shares.specs.Shares.{JournalShare, journal_share}
 use Rattle.bc_known.proofs.Keyed.{parts_join}
 use Rattle.bc_events.specs.Acts.{acts_of}
-use Rattle.bc_events.specs.Run.{acts_or_none}
-use Rattle.bc_machine.specs.Standing.{origin_before}
-use Rattle.bc_machine.specs.World.{replay}
+use Rattle.bc_events.specs.Run.{acts_or_none, run, start}
 use Rattle.bc_shares.proofs.Acts.{AllActs, journal_kept}
-use Rattle.bc_shares.proofs.Law.{in_order}
+use Rattle.bc_shares.proofs.Law.{at_state, in_order}
 use Rattle.bc_shares.proofs.Parts.{IsKeptAt, kept_at}
-use Rattle.bc_entry.specs.Laws.{LawLasts}
-use Rattle.bc_entry.proofs.Course.{at_course}
-use Rattle.bc_entry.proofs.Needed.{AreFrom, Needs, from_old, one_act}
+use Rattle.bc_needs.specs.Needs.{LawLasts}
+use Rattle.bc_needs.proofs.Untouched.{AreFrom, Needs, from_old, one_act}
 
 sealed_above : (g : Stage) (n : ℕ) → n ≤ sealed_number g n
 sealed_above Nothing n = omega arith
@@ -139,14 +136,12 @@ any_acts [] = tt
 any_acts (act ∷ acts) = (tt, any_acts acts)
 
 pub law_lasts : LawLasts
-law_lasts x e low h o is course =
-    let before = origin_before x e o is in
-    let st = replay o x.log in
-    let acts = acts_or_none (acts_of o.opening.machine st.machine e.seat e.deed) in
-    let was = h o before course.2 in
-    let now = kept_at o.opening.machine o.parts is.sound (λ act. Unit {0})
-    (λ a b. NeedsLater low a → NeedsLater low b) (kept low o.opening.machine o.parts is.sound)
-    st.machine e.seat acts (at_course o is.sound x.log course.2) (any_acts acts)
-    (in_order o.opening st e (acts_of o.opening.machine st.machine e.seat e.deed)
-    course.0.enabled) (record { needs = was.needs; next = was.next }) in
+law_lasts w x next_seq es e h low was =
+    let st = run w (start w x next_seq) es in
+    let acts = acts_or_none (acts_of w.machine st.machine e.seat e.deed) in
+    let now = kept_at w.machine x h.sound (λ act. Unit {0})
+    (λ a b. NeedsLater low a → NeedsLater low b) (kept low w.machine x h.sound)
+    st.machine e.seat acts (at_state w x next_seq es h.sound h.course) (any_acts acts)
+    (in_order w st e (acts_of w.machine st.machine e.seat e.deed) h.enabled)
+    (record { needs = was.needs; next = was.next }) in
     record { needs = now.needs; next = now.next }

@@ -1,5 +1,0 @@
-use Rattle.bc_entry.proofs.Lasting.{law_lasts}
-use Rattle.bc_entry.proofs.laws.law_lasts.Goals as goal
-
-pub returns : goal.returns
-returns c = law_lasts
