@@ -1,0 +1,585 @@
+-- When keys without pointers may come into a leaf in hand, and what stands behind them.
+use Rattle.std.proofs.Common.{◌≡◌, ◌≢◌, ◌⊎◌, inl, inr, ℕ, zero, suc, ◌+◌, ◌-◌, ◌*◌, ◌%◌, ◌<◌, ◌≤◌, Bool, true, false, List, [], ◌∷◌, length, Option, Some, None, refl, sym, ap, ◌∙◌, subst, arith}
+use Rattle.std.specs.Prelude.{◌==◌, All, if◌then◌else◌, nat_lt, reverse, slice_get}
+use Rattle.std.proofs.lemmas.Bool.{lt-ltb}
+use Rattle.std.proofs.lemmas.Grind.{common_steps}
+use Rattle.std.proofs.lemmas.List.Elements.{All-head, All-tail}
+use Rattle.bc_books.specs.Enabled.{CanPut, IsLawful}
+use Rattle.bc_books.specs.Index as index
+use Rattle.bc_books.specs.Index.{AreWhole, Clean, Dirty, Kind, Pointer, first_hit, hit, is_dirty, latest, names, pointer_of, run_place}
+use Rattle.bc_books.proofs.Cases.{place_range}
+use Rattle.bc_cache.specs.Slots.{IsSlotOf, NodeCache}
+use Rattle.bc_cache.specs.declared.slots.Cached.{Cached}
+use Rattle.bc_data.specs.Data as flow
+use Rattle.bc_data.specs.Data.{DropKeys, claim_of, index_of}
+use Rattle.bc_data.specs.Enabled.{CanInsert, IsBacked}
+use Rattle.bc_data.proofs.Runs.{sector_range}
+use Rattle.bc_deed.specs.Asked.{size_of}
+use Rattle.bc_deed.proofs.May.{low, size_at}
+use Rattle.bc_disk.specs.Disk.{DiskFacts}
+use Rattle.bc_disk.specs.declared.geometry.Geometry.{Geometry}
+use Rattle.bc_facts.specs.Layout.{IsLayoutOf}
+use Rattle.bc_meta.proofs.Lists.{by_test}
+use Rattle.bc_events.specs.Keys.{ArePlain, IfPoints, IsPlain, book_keys, points_by}
+use Rattle.bc_events.specs.declared.event.Deed.{Deed}
+use Rattle.bc_events.specs.declared.event.Deed.TheVariants as deed
+use Rattle.bc_events.specs.declared.event.Form.TheVariants as form
+use Rattle.bc_events.proofs.Keys.{law_keys as same_keys}
+use Rattle.bc_hand.specs.Seats.{MayDo, Works, by, note, numbers, with_leaves, with_part, world}
+use Rattle.bc_hand.specs.declared.hand.Hand.{Hand}
+use Rattle.bc_hand.specs.declared.hand.LeafHand.{LeafHand}
+use Rattle.bc_hand.proofs.Knowing.{View, is_plain_at}
+use Rattle.bc_image.specs.Sound.{LiesWithin}
+use Rattle.bc_key.specs.Key.{Covers, start_of}
+use Rattle.bc_key.specs.Key as key
+use Rattle.bc_key.specs.declared.key.Key.{Key}
+use Rattle.bc_journal.specs.Journal.{IsJournal as IsGoodJournal, Journal}
+use Rattle.bc_known.specs.Acts.{Keyed}
+use Rattle.bc_known.specs.Acts as known
+use Rattle.bc_known.specs.Known.{AreLaid}
+use Rattle.bc_known.specs.Run.{IsEnabled}
+use Rattle.bc_leaves.specs.Frame.{AllWithin}
+use Rattle.bc_leaves.specs.Parts.{Coming, Draft, Free, Leaving, NoNode, Role}
+use Rattle.bc_leaves.specs.Parts as parts
+use Rattle.bc_looks.proofs.Law.{law_keys, law_slots}
+use Rattle.bc_machine.specs.Containers.{AreLeavesOf, IsInTree, IsLeafFor}
+use Rattle.bc_machine.specs.Frame.{Range, range_of}
+use Rattle.bc_machine.specs.Note.{note_of}
+use Rattle.bc_machine.specs.World.{AreBuckets, AreLeaves, CanFollow, IsJournal, changes, IsCourseOf, IsOrigin, IsSeenFrom, Origin, World, are_plain, data_of, replay}
+use Rattle.bc_machine.specs.declared.part.CorePart.{CorePart}
+use Rattle.bc_machine.specs.declared.part.CorePart.TheVariants as part
+use Rattle.bc_meta.specs.Keys.{Ref}
+use Rattle.bc_node.specs.Leaf.{AreWithin, Leaf}
+use Rattle.bc_parts.specs.Seat.{Holds, PartsView}
+use Rattle.bc_seats.proofs.Knowing.{held}
+use Rattle.bc_shares.specs.Shares.{books_of, leaf_share}
+use Rattle.bc_sight.specs.Sight.{IsOnBacking, said_in}
+use Rattle.bc_sight.proofs.Looking.{holds_buckets, some_of}
+use Rattle.bc_whole.specs.State as whole
+use Rattle.bc_whole.specs.Together.{ref_of}
+use Rattle.bc_keyed.specs.Parts.{PointNowhere}
+use Rattle.bc_keyed.proofs.Nowhere.{names_none}
+use Rattle.bc_insert.specs.Drop.{IsGone, MayDrop}
+use Rattle.bc_insert.specs.Insert.{CanPutIn}
+use Rattle.bc_insert.proofs.Putting.{all_reversed}
+
+-- ---- keys without pointers, as the books have them
+
+-- what the books have of one
+abbrev bare : Key → index.Key
+bare k = record { first = start_of k; count = k.size; kind = None; place = 0; version = 0 }
+
+abbrev bares : List Key → List index.Key
+bares [] = []
+bares (k ∷ ks) = bare k ∷ bares ks
+
+pub nowhere : (ks : List Key) → PointNowhere (bares ks)
+nowhere [] = tt
+nowhere (k ∷ ks) = (refl, nowhere ks)
+
+module _ (r : Range) (leaf : Leaf) (size : ℕ) where
+  abbrev Gone : Key → Type 0
+  Gone k = IsGone r leaf size k
+
+  no_pointer : (k : Key) → Gone k → key.pointer_of k ≡ None
+  no_pointer k h = ap (λ n. if nat_lt 0 n then Some (key.ptr_at k 0) else None) h.none
+
+  pub all_bare : (bucket version : ℕ → ℕ) (ks : List Key) → All Gone ks
+      → book_keys bucket version ks ≡ bares ks
+  all_bare bucket version [] all = refl
+  all_bare bucket version (k ∷ ks) all =
+      ap (λ o. points_by bucket version k o ∷ book_keys bucket version ks)
+      (no_pointer k (All-head Gone k ks all))
+      ∙ ap (λ (l : List index.Key). bare k ∷ l)
+      (all_bare bucket version ks (All-tail Gone k ks all))
+
+  -- they say the same of each sector as the records have them
+  pub plain : (bucket version : ℕ → ℕ) (ks : List Key) → All Gone ks
+      → ArePlain bucket version ks
+  plain bucket version [] all = tt
+  plain bucket version (k ∷ ks) all = (
+    (let h = All-head Gone k ks all in let from = h.from in omega (arith, from)),
+    (
+      subst (λ o. IfPoints o (IsPlain bucket version k))
+          (sym (no_pointer k (All-head Gone k ks all))) tt,
+      plain bucket version ks (All-tail Gone k ks all),
+    ),
+  )
+
+  -- a sector that one has points nowhere by it
+  pub record IsHit (s : ℕ) (o : Option Pointer) : Type 0 where
+    pub by_key : Key
+    pub gone : Gone by_key
+    pub within : LiesWithin 0 leaf.from leaf.end by_key
+    pub covers : Covers by_key s
+    pub none : o ≡ None
+
+  pub hit_bare : (ks : List Key) → All Gone ks → AreWithin leaf.from leaf.end ks → (s : ℕ)
+      (o : Option Pointer) → hit (bares ks) s ≡ Some o → IsHit s o
+  hit_bare [] all within s o at = absurd (cc)
+  hit_bare (k ∷ ks) all within s o at = go (run_place (start_of k) 0 k.size s) refl
+      (hit_bare ks (All-tail Gone k ks all) (All-tail (LiesWithin 0 leaf.from leaf.end) k ks within)
+      s o) at
+    where
+      one : (o : Option Pointer) → Some None ≡ Some o → o ≡ None
+      one o same = cc
+
+      go : (q : Option ℕ) → run_place (start_of k) 0 k.size s ≡ q
+          → (hit (bares ks) s ≡ Some o → IsHit s o)
+          → first_hit (bare k) q (hit (bares ks) s) ≡ Some o → IsHit s o
+      go None e later at = later at
+      go (Some p) e later at =
+          let h = All-head Gone k ks all in
+          let range = sector_range (start_of k) 0 k.size s p e in
+          let first = range.0 in
+          let last = range.1 in
+          let from = h.from in
+          record {
+            by_key = k;
+            gone = h;
+            within = All-head (LiesWithin 0 leaf.from leaf.end) k ks within;
+            covers = (first, omega (arith, last, from));
+            none = one o at;
+          }
+
+  pub are_whole : (bucket : ℕ → ℕ) → ((p : ℕ) → p < size → bucket p ≡ bucket 0) → (ks : List Key)
+      → All Gone ks → AreWhole bucket (bares ks)
+  are_whole bucket same [] all = tt
+  are_whole bucket same (k ∷ ks) all =
+      let h = All-head Gone k ks all in
+      let few = h.few in (
+        h.some,
+        (λ s p at. same p (let high = (place_range (start_of k) 0 k.size s p at).1 in
+            omega (arith, high, few))),
+        are_whole bucket same ks (All-tail Gone k ks all),
+      )
+
+-- ---- what a leaf in hand says of the core's index
+
+clean_kind : (k : Kind) → is_dirty k ≡ false → k ≡ Clean
+clean_kind Clean off = refl
+clean_kind Dirty off = absurd (cc)
+
+pub is_backed : (leaf : Leaf) (s : ℕ) (o : Option Pointer) → ref_of o ≡ said_in leaf s
+    → IsOnBacking leaf s → IsBacked o
+is_backed leaf s None is on = tt
+is_backed leaf s (Some r) is (inl none) =
+    absurd (let same : ref_of (Some r) ≡ None = is ∙ none in cc)
+is_backed leaf s (Some r) is (inr (ref, at, clean)) =
+    clean_kind r.kind (dirty_of (ref_of (Some r)) ref (is ∙ at) ∙ clean)
+  where
+    dirty_in : Option Ref → Bool
+    dirty_in None = false
+    dirty_in (Some x) = x.dirty
+
+    dirty_of : (a : Option Ref) (b : Ref) → a ≡ Some b → dirty_in a ≡ b.dirty
+    dirty_of a b e = ap dirty_in e
+
+-- ---- parts in hand
+
+behind : {A : Type 0} (n : ℕ) (o : Option A) (ks : List ℕ) (k : ℕ) → Holds ks k
+    → Holds (with_part n o ks) k
+behind n None ks k h = h
+behind n (Some a) ks k h = inr h
+
+here : {A : Type 0} (n : ℕ) (o : Option A) (a : A) (ks : List ℕ) → o ≡ Some a
+    → Holds (with_part n o ks) n
+here n None a ks is = absurd (cc)
+here n (Some b) a ks is = inl refl
+
+here_leaves : (o : Option LeafHand) (l : LeafHand) (ks : List ℕ) → o ≡ Some l
+    → Holds (with_leaves o ks) l.part
+here_leaves None l ks is = absurd (cc)
+here_leaves (Some x) l ks is = let e : x ≡ l = cc in inl (ap (λ (y : LeafHand). y.part) (sym e))
+
+pub holds_leaves : {C B : Type 0} (h : Hand C B) (l : LeafHand) → h.leaves ≡ Some l
+    → Holds (numbers h) l.part
+holds_leaves h l is = behind 5 h.backing _ l.part (behind 4 h.cache _ l.part
+    (behind 3 h.journal _ l.part (behind 2 h.buckets _ l.part (behind 1 h.flight _ l.part
+    (here_leaves h.leaves l (with_part 0 h.spine []) is)))))
+
+pub holds_journal : {C B : Type 0} (h : Hand C B) (j : Journal) → h.journal ≡ Some j
+    → Holds (numbers h) 3
+holds_journal h j is = behind 5 h.backing _ 3 (behind 4 h.cache _ 3 (here 3 h.journal j
+    (with_part 2 h.buckets (with_part 1 h.flight (with_leaves h.leaves (with_part 0 h.spine []))))
+    is))
+
+-- the parts that keys change
+by_number : (k a : ℕ) (b rest : Bool) → (if k == a then b else rest) ≡ true
+    → ((k ≡ a) × (b ≡ true)) ⊎ ((k ≢ a) × (rest ≡ true))
+by_number k a b rest = by_test k a (λ t. (if t then b else rest) ≡ true
+    → ((k ≡ a) × (b ≡ true)) ⊎ ((k ≢ a) × (rest ≡ true)))
+    (λ is on. inl (is, on)) (λ ne on. inr (ne, on))
+
+off_is_not_on : false ≡ true → ⊥
+off_is_not_on on = cc
+
+above : (k : ℕ) → k ≢ 0 → k ≢ 1 → k ≢ 2 → k ≢ 3 → k ≢ 4 → k ≢ 5 → 6 ≤ k
+above zero a b c d e f = absurd (a refl)
+above (suc zero) a b c d e f = absurd (b refl)
+above (suc (suc zero)) a b c d e f = absurd (c refl)
+above (suc (suc (suc zero))) a b c d e f = absurd (d refl)
+above (suc (suc (suc (suc zero)))) a b c d e f = absurd (e refl)
+above (suc (suc (suc (suc (suc zero))))) a b c d e f = absurd (f refl)
+above (suc (suc (suc (suc (suc (suc k)))))) a b c d e f = omega arith
+
+abbrev Changed : (n number k : ℕ) → Type 0
+Changed n number k = (k ≡ 2) ⊎ ((k ≡ 3) ⊎ ((6 ≤ k) × (number % (n - 6) ≡ k - 6)))
+
+pub changed_parts : (n number i : ℕ) (keys : List Key) (k : ℕ)
+    → changes n (by i (deed.Insert number keys form.Drop)) k ≡ true → Changed n number k
+changed_parts n number i keys k on = elim (by_number k 0 false _ on) [
+  | inl a ↦ absurd (off_is_not_on a.1)
+  | inr a ↦ elim (by_number k 1 false _ a.1) [
+    | inl b ↦ absurd (off_is_not_on b.1)
+    | inr b ↦ elim (by_number k 2 true _ b.1) [
+      | inl c ↦ inl c.0
+      | inr c ↦ elim (by_number k 3 true _ c.1) [
+        | inl d ↦ inr (inl d.0)
+        | inr d ↦ elim (by_number k 4 false _ d.1) [
+          | inl e ↦ absurd (off_is_not_on e.1)
+          | inr e ↦ elim (by_number k 5 false _ e.1) [
+            | inl f ↦ absurd (off_is_not_on f.1)
+            | inr f ↦ inr (inr (above k a.0 b.0 c.0 d.0 e.0 f.0, its_rest f.1))
+          ]
+        ]
+      ]
+    ]
+  ]
+]
+  where
+    its_rest : (number % (n - 6) == k - 6) ≡ true → number % (n - 6) ≡ k - 6
+    its_rest = by_test (number % (n - 6)) (k - 6) (λ b. b ≡ true → number % (n - 6) ≡ k - 6)
+        (λ same _. same) (λ _ off. absurd (off_is_not_on off))
+
+-- ---- when they may come in
+
+-- the sectors below a device's buckets, and its first bucket
+low_bucket : (w : whole.Opening) (g : Geometry) → IsLayoutOf g w.layout → AreLaid w
+    → 0 < g.journal → (bucket : ℕ → ℕ) → bucket ≡ w.flow.books.bucket
+    → ((s t : ℕ) → s ≤ t → bucket s ≤ bucket t) → (p : ℕ) → p < g.bucket
+    → bucket p ≡ bucket 0
+low_bucket w g layout laid some bucket is order p low =
+    let first = layout.first 0 in
+    let buckets = layout.buckets in
+    let sectors = layout.bucket_sectors in
+    let within = g.journal_within in
+    let from = g.bucket_from in
+    let behind_super = g.first_behind_super in
+    let there : bucket (w.layout.first 0) ≡ 0 =
+    ap (λ (f : ℕ → ℕ). f (w.layout.first 0)) is
+    ∙ laid.sector 0 (w.layout.first 0) (omega (arith, buckets, within, some)) (omega arith)
+    (omega (arith, sectors, from)) in
+    let high : p ≤ w.layout.first 0 = below g.bucket g.first_bucket p (w.layout.first 0)
+    behind_super low first in
+    let up = order p (w.layout.first 0) high in
+    let down = order 0 p (omega arith) in
+    omega (arith, up, down, there)
+  where
+    below : (b n p f : ℕ) → 0 < n → p < b → f ≡ b * (n + 0) → p ≤ f
+    below b zero p f some low is = absurd (omega (arith, some))
+    below b (suc n) p f some low is = grind (arith, common_steps)
+
+pub free_role : (a : parts.State) (count part : ℕ) (w : whole.Opening) (cache : NodeCache)
+    (slot number : ℕ) (cached : Cached) → AreLeavesOf w a count part cache
+    → slice_get cache.slots slot ≡ Some (Some cached) → cached.number ≡ number
+    → IsSlotOf cache.slots number slot → cached.held ≡ false
+    → (a.leaves cached.number).role ≡ Free
+free_role a count part w cache slot number cached h there is only free =
+    go (a.leaves cached.number).role refl (h.leaves slot cached there).at.role
+  where
+    unheld : (i : ℕ) (c : Cached) → slice_get cache.slots i ≡ Some (Some c)
+        → c.number ≡ cached.number → c.held ≡ true → ⊥
+    unheld i c at same held =
+        let e = only.only i (record { cached = c; there = at; number_is = same ∙ is }) in
+        one c (slice_get cache.slots slot)
+        (subst (λ m. slice_get cache.slots m ≡ Some (Some c)) e at) there held
+      where
+        one : (c : Cached) (o : Option (Option Cached)) → o ≡ Some (Some c)
+            → o ≡ Some (Some cached) → c.held ≡ true → ⊥
+        one c o a b held = let same : c ≡ cached = cc in
+            let off : cached.held ≡ true = ap (λ (x : Cached). x.held) (sym same) ∙ held in
+            let both : true ≡ false = sym off ∙ free in cc
+
+    go : (r : Role) → (a.leaves cached.number).role ≡ r
+        → IsInTree (a.leaves cached.number).role → (a.leaves cached.number).role ≡ Free
+    go NoNode e tree = absurd (subst IsInTree e tree)
+    go Draft e tree = absurd (subst IsInTree e tree)
+    go Coming e tree = absurd (subst IsInTree e tree)
+    go Free e tree = e
+    go Leaving e tree =
+        let one = h.leaving cached.number (h.rest slot cached there) e in
+        absurd (unheld one.0 one.1 one.2 one.3 one.4)
+
+module _ {C B : Type 0} (cache_facts : C → DiskFacts) (backing_facts : B → DiskFacts)
+    (p : PartsView (CorePart C B)) (v : View cache_facts backing_facts) (h : Hand C B)
+    (works : Works cache_facts backing_facts p v h)
+    (cached_run : are_plain cache_facts backing_facts v.run.start ≡ false)
+    (number slot : ℕ) (cached : Cached) (keys : List Key)
+    (can : CanPutIn h (length p.run.start) slot number cached keys)
+    (only : IsSlotOf can.leaves.cache.slots number slot) (good : IsGoodJournal can.journal)
+    (may : MayDrop (note cache_facts backing_facts v).range cached.leaf
+    can.buckets.buckets.size keys)
+    (inside : (note cache_facts backing_facts v).range.first
+    + (note cache_facts backing_facts v).range.count
+    ≤ size_of cache_facts backing_facts v.run.start) where
+  abbrev r : Range
+  r = (note cache_facts backing_facts v).range
+
+  abbrev size : ℕ
+  size = can.buckets.buckets.size
+
+  abbrev turned : List Key
+  turned = reverse keys
+
+  abbrev e : Deed
+  e = deed.Insert number keys form.Drop
+
+  pub gone : All (IsGone r cached.leaf size) turned
+  gone = all_reversed (IsGone r cached.leaf size) keys may.gone
+
+  pub within : AreWithin cached.leaf.from cached.leaf.end turned
+  within = all_reversed (LiesWithin 0 cached.leaf.from cached.leaf.end) keys can.can.within
+
+  pub leaves_in : (6 ≤ can.leaves.part)
+      × AreLeaves (can.leaves.part - 6) can.leaves.cache (world cache_facts backing_facts v)
+  leaves_in = some_of (λ l. (6 ≤ l.part)
+      × AreLeaves (l.part - 6) l.cache (world cache_facts backing_facts v)) h.leaves can.leaves
+      can.is works.stand.leaves
+
+  pub buckets_in_hand : AreBuckets can.buckets (world cache_facts backing_facts v)
+  buckets_in_hand = some_of (λ b. AreBuckets b (world cache_facts backing_facts v)) h.buckets
+      can.buckets can.are_buckets works.stand.buckets
+
+  pub journal_in_hand : IsJournal can.journal (world cache_facts backing_facts v)
+  journal_in_hand = some_of (λ j. IsJournal j (world cache_facts backing_facts v)) h.journal
+      can.journal can.is_journal works.stand.journal
+
+  pub has_leaves : Holds v.parts can.leaves.part
+  has_leaves = subst (λ ks. Holds ks can.leaves.part) (sym works.parts)
+      (holds_leaves h can.leaves can.is)
+
+  pub has_buckets : Holds v.parts 2
+  has_buckets = subst (λ ks. Holds ks 2) (sym works.parts)
+      (holds_buckets h can.buckets can.are_buckets)
+
+  pub has_journal : Holds v.parts 3
+  has_journal = subst (λ ks. Holds ks 3) (sym works.parts)
+      (holds_journal h can.journal can.is_journal)
+
+  pub holds_changed : (n : ℕ) → n ≡ length p.run.start → (k : ℕ)
+      → changes n (by v.first e) k ≡ true → Holds v.parts k
+  holds_changed n is k on = elim (changed_parts n number v.first keys k on) [
+    | inl two ↦ subst (λ m. Holds v.parts m) (sym two) has_buckets
+    | inr (inl three) ↦ subst (λ m. Holds v.parts m) (sym three) has_journal
+    | inr (inr at) ↦ subst (λ m. Holds v.parts m) (its_part at.0 at.1) has_leaves
+  ]
+    where
+      its_part : 6 ≤ k → number % (n - 6) ≡ k - 6 → can.leaves.part ≡ k
+      its_part low at = let part = can.its_part in
+          let same = ap (λ m. number % (m - 6)) is in
+          omega (arith, part, low, at, same)
+
+  -- in a state in which it may be committed
+  module _ (x : World) (o : Origin) (origin : IsOrigin x o) (course : IsCourseOf o x.log)
+      (leaves : AreLeaves (can.leaves.part - 6) can.leaves.cache x)
+      (buckets : AreBuckets can.buckets x) (journal : IsJournal can.journal x) where
+    abbrev w : whole.Opening
+    w = o.opening.machine
+
+    abbrev st : known.State
+    st = (replay o x.log).machine
+
+    abbrev own : AreLeavesOf w st.whole.parts x.begun.leaf_parts (can.leaves.part - 6)
+        can.leaves.cache
+    own = leaves o origin course
+
+    abbrev leaf : IsLeafFor w (leaf_share st.whole.parts cached.number) cached.leaf
+    leaf = own.leaves slot cached can.can.there
+
+    abbrev version : ℕ → ℕ
+    version = st.whole.flow.books.generations.version
+
+    abbrev bucket : ℕ → ℕ
+    bucket = w.flow.books.bucket
+
+    same_bucket : (t : ℕ) → t < size → bucket t ≡ bucket 0
+    same_bucket t low =
+        let cut = (buckets o origin course).cut in
+        let ring = (journal.stands o origin course).ring in
+        let g = can.journal.ring.geometry in
+        let next = good.ring.next.bucket in
+        let sectors = cut.sectors in
+        let long = ring.layout.bucket_sectors in
+        low_bucket w g ring.layout origin.sound.laid (omega (arith, next)) bucket refl
+        origin.order t (omega (arith, low, sectors, long))
+
+    pub role : (st.whole.parts.leaves cached.number).role ≡ Free
+    role = free_role st.whole.parts x.begun.leaf_parts (can.leaves.part - 6) w can.leaves.cache
+        slot number cached own can.can.there can.can.number_is only can.free
+
+    in_leaf : (s : ℕ) → cached.leaf.from ≤ s → s < cached.leaf.end
+        → parts.InRange (st.whole.parts.leaves cached.number) s
+    in_leaf s low high =
+        let first = leaf.at.first in
+        let end = leaf.at.end_is in (omega (arith, first, low), omega (arith, end, high))
+
+    slot_is : (s : ℕ) → cached.leaf.from ≤ s → s < cached.leaf.end
+        → (books_of st).index.leaf s ≡ number
+    slot_is s low high = law_slots x o origin course cached.number s leaf.at.role
+        (in_leaf s low high) ∙ can.can.number_is
+
+    says : (s : ℕ) → cached.leaf.from ≤ s → s < cached.leaf.end
+        → ref_of (latest (books_of st).index s) ≡ said_in cached.leaf s
+    says s low high = sym (law_keys x o origin course cached.number s leaf.at.role
+        (in_leaf s low high)) ∙ sym (leaf.keys s low high)
+
+    ks : List index.Key
+    ks = book_keys bucket version turned
+
+    pub ks_are : book_keys bucket version turned ≡ bares turned
+    ks_are = all_bare r cached.leaf size bucket version turned gone
+
+    at_hit : (s : ℕ) (q : Option Pointer) → hit (bares turned) s ≡ Some q
+        → IsHit r cached.leaf size s q
+    at_hit = hit_bare r cached.leaf size turned gone within
+
+    -- a sector that one of the keys has lies in the leaf and in the claim
+    low_in : (s : ℕ) (q : Option Pointer) (hit_is : IsHit r cached.leaf size s q)
+        → (cached.leaf.from ≤ s) × (s < cached.leaf.end)
+    low_in s q x =
+        let a = x.within.0 in
+        let b = x.within.1 in
+        let c = x.covers.0 in
+        let d = x.covers.1 in (omega (arith, a, c), omega (arith, b, d))
+
+    claim_in : (s : ℕ) (q : Option Pointer) (hit_is : IsHit r cached.leaf size s q)
+        → (r.first ≤ s) × (s < r.first + r.count)
+    claim_in s q x =
+        let a = x.gone.from in
+        let b = x.gone.to in
+        let c = x.covers.0 in
+        let d = x.covers.1 in (omega (arith, a, c), omega (arith, b, d))
+
+    module _ (sectors : w.flow.books.size ≡ size_of cache_facts backing_facts v.run.start)
+        (claim : range_of (claim_of st.whole.flow v.first) ≡ r)
+        (running : st.whole.flow.halted ≡ false) where
+      can_put : CanPut w.flow.books (books_of st).index version (books_of st).owner number
+          (bares turned)
+      can_put = record {
+        whole = are_whole r cached.leaf size bucket same_bucket turned gone;
+        inside = λ s q at. (let x = at_hit s q at in
+            let high = (claim_in s q x).1 in
+            let both = low_in s q x in (
+              omega (arith, high, inside, sectors),
+              slot_is s both.0 both.1,
+            ));
+        lawful = λ s q at. subst (λ n. IsLawful bucket version (books_of st).owner
+            (latest (books_of st).index s) n) (sym (at_hit s q at).none) tt;
+        named = λ t on. absurd (no_name t on);
+      }
+        where
+          no_name : (t : ℕ) → names (bares turned) t ≡ true → ⊥
+          no_name t on = let off = names_none (bares turned) (nowhere turned) t in
+              let both : true ≡ false = sym on ∙ off in cc
+
+      can_drop : CanInsert w.flow st.whole.flow v.first DropKeys (bares turned)
+      can_drop = record {
+        using = λ t on. absurd (no_name t on);
+        hits = λ s q at. (let x = at_hit s q at in
+            let both = claim_in s q x in
+            let inside = low_in s q x in
+            let low = both.0 in
+            let high = both.1 in
+            let first = ap (λ (z : Range). z.first) claim in
+            let count = ap (λ (z : Range). z.count) claim in
+            record {
+              exclusive = ap (λ (z : Range). z.exclusive) claim ∙ may.alone;
+              covers = (omega (arith, low, first), omega (arith, high, first, count));
+              is = x.none;
+              backed = is_backed cached.leaf s (index_of st.whole.flow s) (says s inside.0 inside.1)
+                  (x.gone.backed s x.covers);
+            });
+        not_plain = origin.cached;
+      }
+        where
+          no_name : (t : ℕ) → names (bares turned) t ≡ true → ⊥
+          no_name t on = let off = names_none (bares turned) (nowhere turned) t in
+              let both : true ≡ false = sym on ∙ off in cc
+
+      allowed : IsEnabled w st v.first
+          (Keyed (flow.Insert DropKeys number (book_keys bucket version turned)) number turned)
+      allowed = record {
+        data_allows = (
+          record {
+            heard = running;
+            steps = (
+              subst (λ (l : List index.Key). CanPut w.flow.books (books_of st).index version
+                  (books_of st).owner number l) (sym ks_are) can_put,
+              tt,
+            );
+            can = subst (λ (l : List index.Key). CanInsert w.flow st.whole.flow v.first DropKeys l)
+                (sym ks_are) can_drop;
+          },
+          tt,
+        );
+        asks = (
+          (
+            refl,
+            same_keys bucket version turned
+                (plain r cached.leaf size bucket version turned gone),
+          ),
+          subst (λ n. (st.whole.parts.leaves n).role ≡ Free) can.can.number_is role,
+          subst (λ n. AllWithin st.whole.parts n turned) can.can.number_is
+              (all_in_leaf turned within),
+        );
+      }
+        where
+          all_in_leaf : (xs : List Key) → AreWithin cached.leaf.from cached.leaf.end xs
+              → AllWithin st.whole.parts cached.number xs
+          all_in_leaf [] all = tt
+          all_in_leaf (k ∷ xs) all =
+              let first = leaf.at.first in
+              let end = leaf.at.end_is in
+              let here = All-head (LiesWithin 0 cached.leaf.from cached.leaf.end) k xs all in
+              let low = here.0 in
+              let high = here.1 in (
+                (omega (arith, first, low), omega (arith, end, high)),
+                all_in_leaf xs (All-tail (LiesWithin 0 cached.leaf.from cached.leaf.end) k xs all),
+              )
+
+  pub may_drop : MayDo cache_facts backing_facts v e
+  may_drop x y at told =
+      let seen = at.from (is_plain_at cache_facts backing_facts v x at.since ∙ cached_run) in
+      go x y seen.0 seen.1
+      (at.stand can.leaves.part (part.Leaves can.leaves.cache) has_leaves leaves_in).1
+      (at.stand 2 (part.Buckets can.buckets) has_buckets (refl, buckets_in_hand)).1
+      (at.stand 3 (part.Journal can.journal) has_journal (refl, journal_in_hand)).1
+      (size_at cache_facts backing_facts v e x y at) at.note.range (at.running refl)
+    where
+      go : (x y : World) (o : Origin) → IsSeenFrom o x y
+          → AreLeaves (can.leaves.part - 6) can.leaves.cache x → AreBuckets can.buckets x
+          → IsJournal can.journal x
+          → y.opening.machine.flow.books.size ≡ size_of cache_facts backing_facts v.run.start
+          → (note_of y v.first).range ≡ r → (data_of y).halted ≡ false
+          → CanFollow y (by v.first e)
+      go x y o seen leaves buckets journal = subst (λ (z : World).
+          z.opening.machine.flow.books.size ≡ size_of cache_facts backing_facts v.run.start
+          → (note_of z v.first).range ≡ r → (data_of z).halted ≡ false
+          → CanFollow z (by v.first e)) (sym seen.is)
+          (λ sectors claim running. record {
+            enabled = record {
+              seat = lt-ltb v.first 320 (low cache_facts backing_facts v works.seat);
+              course = (
+                allowed x o seen.origin seen.course leaves buckets journal sectors claim
+                    running,
+                tt,
+              );
+              fit = tt;
+              its_line = tt;
+              plain = λ plain. absurd (let both : true ≡ false = sym plain ∙ seen.origin.cached in
+                  cc);
+            };
+            names = tt;
+            number = tt;
+          })

@@ -1,0 +1,4 @@
+pub mod Putting
+pub mod Finding
+pub mod Dropping
+pub mod Dropped
