@@ -3,7 +3,7 @@ use Rattle.std.proofs.Common.{◌≡◌, ◌⊎◌, inl, inr, ℕ, zero, suc, �
 use Rattle.std.specs.Prelude.{if◌then◌else◌, min}
 use Rattle.std.proofs.lemmas.Bool.{cases_lt}
 use Rattle.bc_books.specs.Index.{within}
-use Rattle.bc_books.specs.Shelves.{Fresh, Own, Owner, put_run}
+use Rattle.bc_books.specs.Shelves.{Fresh, Own, Owner, Spent, put_run}
 use Rattle.bc_books.proofs.Cases.{by_within}
 use Rattle.bc_shares.specs.Shares.{Pinned, Unused, Use, Used, use_of}
 use Rattle.bc_machine.specs.Containers.{pins_in, pins_of}
@@ -92,4 +92,24 @@ pins_after owner i at n fresh place (suc m) =
         + (pins_of (use_of (owner (place + m))) + pins_in owner place m)
     go true is rest =
         let none = ap (λ o. pins_of (use_of o)) (fresh (place + m) is) in omega (arith, rest, none)
+    go false is rest = omega (arith, rest)
+
+-- and so many fewer, once they are let go
+pub pins_behind : (owner : ℕ → Owner) (i at n : ℕ)
+    → ((t : ℕ) → within at n t ≡ true → owner t ≡ Own i) → (place m : ℕ)
+    → both_in at n place m + pins_in (put_run owner at n Spent) place m
+    ≡ pins_in owner place m
+pins_behind owner i at n own place zero = refl
+pins_behind owner i at n own place (suc m) =
+    go (within at n (place + m)) refl (pins_behind owner i at n own place m)
+  where
+    go : (b : Bool) → within at n (place + m) ≡ b
+        → both_in at n place m + pins_in (put_run owner at n Spent) place m
+        ≡ pins_in owner place m
+        → ((if b then 1 else 0) + both_in at n place m)
+        + (pins_of (use_of (if b then Spent else owner (place + m)))
+        + pins_in (put_run owner at n Spent) place m)
+        ≡ pins_of (use_of (owner (place + m))) + pins_in owner place m
+    go true is rest =
+        let one = ap (λ o. pins_of (use_of o)) (own (place + m) is) in omega (arith, rest, one)
     go false is rest = omega (arith, rest)

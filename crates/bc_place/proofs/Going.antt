@@ -1,10 +1,9 @@
 -- What goes on to hold of a place.
-use Rattle.std.proofs.Common.{◌≡◌, ◌≢◌, ℕ, ◌%◌, Some, refl, sym, ap, ◌∙◌, subst, arith}
+use Rattle.std.proofs.Common.{◌≡◌, ℕ, ◌%◌, Some, sym, ap, ◌∙◌, subst, arith}
 use Rattle.std.specs.Prelude.{Option, IfSome}
 use Rattle.bc_books.specs.Shelves.{Own}
 use Rattle.bc_events.specs.Run as core
 use Rattle.bc_events.specs.declared.event.Event.{Event}
-use Rattle.bc_fill.specs.declared.fill.Placed.{Placed}
 use Rattle.bc_fill.specs.Fresh.{IsOf}
 use Rattle.bc_holds.proofs.Law.{law_pinned}
 use Rattle.bc_holds.specs.Laws.{StaysPinned}
@@ -16,7 +15,7 @@ use Rattle.bc_shares.specs.Laws.{Happens}
 use Rattle.bc_shares.specs.Shares.{books_of, journal_share}
 use Rattle.bc_place.specs.Laws.{LawBefore, LawOwn}
 
-happens : (x : World) (o : Origin) (e : Event) → IsOrigin x o → IsCourseOf o x.log
+pub happens : (x : World) (o : Origin) (e : Event) → IsOrigin x o → IsCourseOf o x.log
     → core.IsEnabled o.opening (replay o x.log) e
     → Happens o.opening o.parts o.next_seq (oldest_first x.log) e
 happens x o e is course on = record {

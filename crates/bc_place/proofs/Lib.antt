@@ -2,4 +2,18 @@ pub mod Counting
 pub mod Parts
 pub mod Taking
 pub mod Pinning
+pub mod Unpinning
 pub mod Going
+pub mod Knowing
+mod Rows
+pub mod Keeping
+mod Counts
+mod Cutting
+mod Fitting
+mod Steps
+mod Placing
+mod Storing
+mod Naming
+pub mod Inserting
+mod Marking
+mod Saying

@@ -1,8 +1,7 @@
 -- The buckets in hand, in a state of a run.
-use Rattle.std.proofs.Common.{◌≡◌, ℕ, ◌+◌, ◌*◌, ◌<◌, ◌≤◌, List, [], ◌∷◌, sym, ap, ◌∙◌, subst, arith, length, true}
+use Rattle.std.proofs.Common.{◌≡◌, ℕ, ◌<◌, List, [], ◌∷◌, sym, subst, arith, length, true}
 use Rattle.std.proofs.Math.Logic.{∥∥₁_elim}
 use Rattle.std.proofs.Props.{props}
-use Rattle.bc_alloc.specs.Buckets.{AreFor}
 use Rattle.bc_alloc.specs.Reserve.{times, IsDistinct}
 use Rattle.bc_alloc.specs.Reserves.{Reserves, times_listed}
 use Rattle.bc_books.specs.Invariant.{IsInOrder}
@@ -14,7 +13,6 @@ use Rattle.bc_fill.specs.declared.fill.Open.{Open}
 use Rattle.bc_known.proofs.Law.{At, order_at}
 use Rattle.bc_known.specs.Known.{AreLaid}
 use Rattle.bc_known.specs.Laws.{IsSound}
-use Rattle.bc_machine.specs.Containers.{AreBucketsOf}
 use Rattle.bc_machine.specs.Standing.{oldest_first, replay_is, replay_runs}
 use Rattle.bc_machine.specs.World.{IsCourseOf, Origin, replay}
 use Rattle.bc_machine.specs.declared.part.BucketsPart.{BucketsPart}

@@ -1,39 +1,37 @@
 -- A place is pinned: when that may be, what the buckets in hand stand for then, and what its seat
 -- knows of it.
-use Rattle.std.proofs.Common.{◌≡◌, ◌≢◌, ◌⊎◌, inl, inr, ℕ, ◌+◌, ◌-◌, ◌*◌, ◌%◌, ◌^◌, ◌<◌, ◌≤◌, ◌==◌, Bool, true, false, List, [], ◌∷◌, length, refl, sym, ap, ◌∙◌, subst, arith}
+use Rattle.std.proofs.Common.{◌≡◌, ◌≢◌, ◌⊎◌, inl, inr, ℕ, ◌+◌, ◌-◌, ◌*◌, ◌%◌, ◌^◌, ◌<◌, ◌≤◌, ◌==◌, Bool, true, false, List, ◌∷◌, length, refl, sym, ap, ◌∙◌, subst, arith}
 use Rattle.std.specs.Prelude.{if◌then◌else◌, min}
 use Rattle.std.proofs.lemmas.Bool.{cases_eq, cases_lt, lt-ltb}
 use Rattle.std.proofs.Math.Nat.{mul-le-mul_right}
 use Rattle.bc_alloc.proofs.Fits.{other_stays, same_length, this_changes}
 use Rattle.bc_alloc.specs.Reserve.{times}
 use Rattle.bc_alloc.specs.Reserves.{Reserves}
-use Rattle.bc_books.proofs.Cases.{by_within, put_run_cases}
+use Rattle.bc_books.proofs.Cases.{by_within}
 use Rattle.bc_books.specs.After as books
 use Rattle.bc_books.specs.Books.{Books, Pin}
 use Rattle.bc_books.specs.Enabled.{CanPin}
-use Rattle.bc_books.specs.Index.{put, within}
-use Rattle.bc_books.specs.Shelves.{Fresh, Loose, Open, Own, Owner, Shelf, put_run}
+use Rattle.bc_books.specs.Index.{within}
+use Rattle.bc_books.specs.Shelves.{Fresh, Loose, Open, Own, Owner, put_run}
 use Rattle.bc_bucket.specs.Bucket.{with_held}
 use Rattle.bc_bucket.specs.Buckets.{Buckets, bucket_of, changed}
 use Rattle.bc_bucket.specs.declared.bucket.Bucket.{Bucket}
 use Rattle.bc_events.specs.Run as core
 use Rattle.bc_events.specs.declared.event.Deed.TheVariants as deed
 use Rattle.bc_events.specs.declared.event.Event.{Event}
-use Rattle.bc_fill.proofs.Opens.{by_test}
-use Rattle.bc_fill.specs.Fill.{AreOpen, IsPlacedIn, after, bucket_numbers, shut_if_full}
+use Rattle.bc_fill.specs.Fill.{AreOpen, after, bucket_numbers, shut_if_full}
 use Rattle.bc_fill.specs.Fresh.{IsOf}
 use Rattle.bc_fill.specs.declared.fill.Open as fill
 use Rattle.bc_fill.specs.declared.fill.Placed.{Placed}
-use Rattle.bc_place.specs.Next.{by}
+use Rattle.bc_hand.specs.Seats.{by}
 use Rattle.bc_known.specs.Laws.{IsSound}
 use Rattle.bc_leaves.proofs.Chains.{put_else, put_there}
 use Rattle.bc_machine.specs.Containers.{AreBucketsOf, IsBucketFor, is_held, pins_in}
 use Rattle.bc_machine.specs.World.{IsCourseOf, Origin, replay}
 use Rattle.bc_machine.specs.declared.part.BucketsPart.{BucketsPart}
-use Rattle.bc_meta.specs.Layout.{Layout}
-use Rattle.bc_places.proofs.Cut.{begins_in, can_pin, cut_stands, shuts}
+use Rattle.bc_places.proofs.Cut.{can_pin, cut_stands, shuts}
 use Rattle.bc_places.proofs.Ends.{fills_is}
-use Rattle.bc_places.proofs.Lists.{counted, first_in, there}
+use Rattle.bc_places.proofs.Lists.{counted, first_in}
 use Rattle.bc_places.specs.Laws.{AreSpread}
 use Rattle.bc_places.specs.Stands.{IsCutInto, StandFor}
 use Rattle.bc_places.specs.Steps.{fills, shut_steps}
@@ -42,7 +40,7 @@ use Rattle.bc_whole.specs.State as whole
 use Rattle.bc_place.specs.Next.{HasCut, IsNext, with_pins}
 use Rattle.bc_place.specs.Place.{IsOwn, LiesIn}
 use Rattle.bc_place.proofs.Counting.{all_in, both_in, none_before, none_behind, pins_after, pins_few}
-use Rattle.bc_place.proofs.Parts.{are_open, order_course, spread}
+use Rattle.bc_place.proofs.Parts.{are_open, spread}
 
 never : (b : Bool) → b ≡ true → b ≡ false → ⊥
 never b is off = cc

@@ -4,20 +4,20 @@ use Rattle.std.specs.Prelude.{slice_index}
 use Rattle.std.proofs.lemmas.Bool.{cases_eq, lt-ltb}
 use Rattle.bc_alloc.proofs.Fits.{other_stays, same_length, this_changes}
 use Rattle.bc_alloc.specs.Reserve.{times}
-use Rattle.bc_alloc.specs.Reserves.{Reserves, list_of}
+use Rattle.bc_alloc.specs.Reserves.{list_of}
 use Rattle.bc_alloc.specs.declared.purpose.Purpose.TheVariants as list
 use Rattle.bc_books.specs.After as books
 use Rattle.bc_books.specs.Books.{Books, Take}
 use Rattle.bc_books.specs.Enabled.{CanStep}
 use Rattle.bc_books.specs.Index.{put}
-use Rattle.bc_books.specs.Shelves.{Listed, Open, Plain, Shelf}
+use Rattle.bc_books.specs.Shelves.{Listed, Open, Plain}
 use Rattle.bc_bucket.specs.Bucket.{with_held}
 use Rattle.bc_bucket.specs.Buckets.{Buckets, bucket_of, changed}
 use Rattle.bc_bucket.specs.declared.bucket.Bucket.{Bucket}
 use Rattle.bc_events.specs.Run as core
 use Rattle.bc_events.specs.declared.event.Deed.TheVariants as deed
 use Rattle.bc_fill.specs.Fill.{AreOpen}
-use Rattle.bc_place.specs.Next.{by}
+use Rattle.bc_hand.specs.Seats.{by}
 use Rattle.bc_known.specs.Laws.{IsSound}
 use Rattle.bc_leaves.proofs.Chains.{put_else, put_there}
 use Rattle.bc_machine.specs.Containers.{AreBucketsOf, IsBucketFor, is_held, pins_in}

@@ -6,8 +6,17 @@
 //! the seat knows from then on, with the buckets in hand or without, that its sectors are its own and
 //! which generation their bucket has.
 //!
-//! It has definitions and laws as yet, and nothing that runs. Read `specs/` in this order: Next,
-//! Place, Laws.
+//! The step `pin` gives a seat a place, `write` writes values to it, and `unpin` lets it go; `keys`
+//! makes the keys that name places, and `name` is what their insertion makes of the buckets. The laws
+//! say what a seat goes on to know of its places, whatever it and others do.
+//!
+//! Read `specs/` in this order: Next, Place, Written, Named, Laws; then `pin`, `write`, `keys`, `name`,
+//! `unpin`.
 #![tactic(auto)]
 
+pub mod keys;
 pub mod laws;
+pub mod name;
+pub mod pin;
+pub mod unpin;
+pub mod write;
