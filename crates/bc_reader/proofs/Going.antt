@@ -14,6 +14,7 @@ use Rattle.bc_fetch.specs.declared.error.LeafError.TheVariants as errors
 use Rattle.bc_hand.proofs.Knowing.{View}
 use Rattle.bc_hand.specs.declared.error.StepError.TheVariants as step
 use Rattle.bc_hand.specs.declared.hand.Hand.{Hand}
+use Rattle.bc_machine.specs.World.{cache_among}
 use Rattle.bc_machine.specs.declared.part.CorePart.{CorePart}
 use Rattle.bc_model.specs.Sector.{Value}
 use Rattle.bc_parts.specs.Seat.{PartsView}
@@ -64,7 +65,8 @@ module _ {C B : Type 0} (cache_facts : C → DiskFacts) (backing_facts : B → D
     on_stopped_in : (e : ReadError) (v w : View cache_facts backing_facts)
         → IsStoppedIn cache_facts backing_facts p first count e v w → HasGoneOn v w
     on_stopped_in e v w h = on_both v h.from w (h.way, h.done) (on_both h.from h.at w
-        (on_look_stop h.hand h.number first count h.sectors e h.from h.at h.stop) ([], h.then))
+        (on_look_stop h.hand h.number first count
+        (cache_among cache_facts backing_facts p.run.start).sectors e h.from h.at h.stop) ([], h.then))
 
     on_not_seen : (e : ReadError) (v w : View cache_facts backing_facts)
         → NotSeen cache_facts backing_facts p first count e v w → HasGoneOn v w

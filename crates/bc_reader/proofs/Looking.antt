@@ -16,6 +16,7 @@ use Rattle.bc_hand.proofs.Knowing.{View, m}
 use Rattle.bc_hand.specs.Seats.{Did, IsCoreSeat, Works, empty, note}
 use Rattle.bc_hand.specs.declared.hand.Hand.{Hand}
 use Rattle.bc_machine.specs.Frame.{Range}
+use Rattle.bc_machine.specs.World.{cache_among}
 use Rattle.bc_machine.specs.Note.{Note}
 use Rattle.bc_machine.specs.declared.part.BucketsPart.{BucketsPart}
 use Rattle.bc_machine.specs.declared.part.CorePart.{CorePart}
@@ -208,13 +209,13 @@ module _ {C B : Type 0} (cache_facts : C → DiskFacts) (backing_facts : B → D
           found.both.buckets.is);
     }
 
-    pub stopped_in : (sectors : ℕ) (e : ReadError)
-        → LookStop cache_facts backing_facts a number first count sectors e x v
+    pub stopped_in : (e : ReadError)
+        → LookStop cache_facts backing_facts a number first count
+        (cache_among cache_facts backing_facts p.run.start).sectors e x v
         → HasDone cache_facts backing_facts [] v w
         → NotSeen cache_facts backing_facts p first count e t w
-    stopped_in sectors e stop then = not_seen_in p first count e t w (record {
+    stopped_in e stop then = not_seen_in p first count e t w (record {
       number = number;
-      sectors = sectors;
       way = way.0;
       is_way = way.1;
       from = x;

@@ -13,6 +13,7 @@ use Rattle.bc_hand.specs.declared.error.StepError.TheVariants as step
 use Rattle.bc_hand.specs.declared.hand.Hand.{Hand}
 use Rattle.bc_bucket.specs.Buckets.{Buckets}
 use Rattle.bc_machine.specs.Frame.{Range}
+use Rattle.bc_machine.specs.World.{cache_among}
 use Rattle.bc_machine.specs.declared.part.BucketsPart.{BucketsPart}
 use Rattle.bc_machine.specs.declared.part.CorePart.{CorePart}
 use Rattle.bc_parts.specs.Seat.{PartsView}
@@ -117,7 +118,6 @@ module _ {C B : Type 0} (cache_facts : C → DiskFacts) (backing_facts : B → D
   pub record IsStoppedIn (p : PartsView (CorePart C B)) (first count : ℕ) (e : ReadError)
       (v w : View cache_facts backing_facts) : Type 0 where
     pub number : ℕ
-    pub sectors : ℕ
     pub way : List Deed
     pub is_way : IsWay way
     pub from : View cache_facts backing_facts
@@ -125,7 +125,8 @@ module _ {C B : Type 0} (cache_facts : C → DiskFacts) (backing_facts : B → D
     pub hand : Hand C B
     pub works : Works cache_facts backing_facts p at hand
     pub done : HasDone cache_facts backing_facts way v from
-    pub stop : LookStop hand number first count sectors e from at
+    pub stop : LookStop hand number first count
+        (cache_among cache_facts backing_facts p.run.start).sectors e from at
     pub then : HasDone cache_facts backing_facts [] at w
 
   -- why the claim wasn't looked up: its leaf wasn't had, or it was and a step in it stopped

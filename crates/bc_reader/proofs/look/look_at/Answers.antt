@@ -2,7 +2,6 @@ use Rattle.std.proofs.Common.{◌+◌, ◌-◌, ◌%◌, ap, ◌∙◌, sym, sub
 use Rattle.bc_fetch.specs.Fetch.{HasPart}
 use Rattle.bc_hand.specs.Seats.{note}
 use Rattle.bc_hand.specs.declared.hand.Hand.{Hand}
-use Rattle.bc_machine.specs.World.{cache_among}
 use Rattle.bc_reader.proofs.Finding.{leaf_moved, waited_done}
 use Rattle.bc_reader.proofs.Looking.{buckets_only, over_same, part_moved, range_still, range_way, seen_at, stopped_in, waited_twice}
 use Rattle.bc_reader.proofs.look.look_at.Goals as goal
@@ -89,7 +88,6 @@ returns-in-Err-found-clause-err g c = stopped_in g.C.Disk.facts g.B.Disk.facts c
     c.take_buckets.new.seat c.look_in-found.new.seat c.give_buckets.new.seat
     c.look_in-found.new.hand c.give_buckets.new.hand c.in-Ok.ensures.did
     c.take_buckets.ensures.waited c.take_buckets.ensures.works.seat c.look_in-found.ensures.works
-    (cache_among g.C.Disk.facts g.B.Disk.facts c.args.parts.now.run.start).sectors
     c.in-Err-found.error c.in-Err-found.ensures.err
     (waited_twice g.C.Disk.facts g.B.Disk.facts c.look_in-found.new.seat c.give_leaves.new.seat
     c.give_buckets.new.seat c.give_leaves.ensures.works.seat c.give_leaves.ensures.waited
