@@ -13,7 +13,7 @@ use Rattle.bc_replay.specs.Survey.{IsUsedAs, TellsUses}
 use Rattle.bc_replay.specs.declared.uses.Use.{Use}
 use Rattle.bc_replay.specs.declared.uses.Use.TheVariants as uses
 use Rattle.bc_traced.specs.Rows.{AreTraced}
-use Rattle.bc_recover.specs.Known.{IsMetadata}
+use Rattle.bc_recover.specs.Known.{AreUnheld, IsMetadata}
 use Rattle.bc_recover.specs.Opened.{AreMarked, AreOpened, as_metadata, is_metadata, marked_by, marked_if}
 
 -- the buckets below k are marked
@@ -31,6 +31,23 @@ marked_traced g records rows table old new traced changed = record {
   touched = changed.same_touched ∙ traced.touched;
   opened = λ k low. (bucket_of old k, traced.traced k low, changed.each k (omega (arith, traced.each)));
 }
+
+-- a mark lets nobody hold the bucket
+pub marked_unheld : (g : Geometry) (records : List BucketRecord) (rows : List Key) (table : List Use)
+    (buckets : Buckets) → AreMarked g records rows table buckets → AreUnheld g.nbuckets buckets
+marked_unheld g records rows table buckets are = record {
+  each = are.each;
+  not_held = λ k low. (
+      let one = are.opened k low in
+      ap (λ (b : Bucket). b.held) one.2
+      ∙ same (is_metadata (get_or table k uses.None)) one.0
+      ∙ ap (λ (b : Bucket). b.held) one.1.is
+      );
+}
+  where
+    same : (t : Bool) (b : Bucket) → (marked_if t b).held ≡ b.held
+    same true b = refl
+    same false b = refl
 
 -- ---- by what a pair has
 

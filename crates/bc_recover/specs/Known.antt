@@ -72,3 +72,10 @@ pub record AreKnown (g : Geometry) (r : Reading) (buckets : Buckets) : Type 0 wh
   pub data_from : buckets.data_from ≡ g.first_bucket + g.journal
   pub touched : buckets.touched ≡ replicate g.nbuckets false
   pub known : (k : ℕ) → k < g.nbuckets → IsKnownAs g r k (bucket_of buckets k)
+
+-- ---- what no pair has to tell
+
+-- there are so many buckets, and nobody holds one
+pub record AreUnheld (count : ℕ) (buckets : Buckets) : Type 0 where
+  pub each : length buckets.records ≡ count
+  pub not_held : (k : ℕ) → k < count → (bucket_of buckets k).held ≡ false

@@ -2,7 +2,7 @@
 ghost use Rattle.std.specs.Prelude.{◌≡◌, length, IfOk};
 ghost use Rattle.bc_bucket.specs.Buckets.{EachChanged};
 ghost use Rattle.bc_image.specs.Pair.{Pair};
-ghost use Rattle.bc_recover.specs.Known.{AreKnown};
+ghost use Rattle.bc_recover.specs.Known.{AreKnown, AreUnheld};
 ghost use Rattle.bc_recover.specs.Opened.{AreMarked, is_metadata, marked_by};
 ghost use Rattle.bc_recover.specs.Read.{HasParts, IsReadOf};
 
@@ -59,11 +59,13 @@ fn opened(
 /// names; each bucket has the mark of what it is used for; its used count is that of the sectors
 /// whose last keys are live in it, 2^32 - 1 at most; and `last_gc` is the oldest generation of a last
 /// key that points into it, live or not, and the bucket's own where none does. The time is linear in
-/// the number of rows and that of buckets.
+/// the number of rows and that of buckets. Of each bucket of the survey's geometry there is one here,
+/// which nobody holds, whatever the devices tell.
 pub fn buckets_of(alloc: Global, s: &Survey) -> Result<Buckets, AllocError>
     requires { HasParts s.now }
-    ensures { IfOk result (λ b. (p : Pair) → (h : IsReadOf s.now p)
+    ensures known { IfOk result (λ b. (p : Pair) → (h : IsReadOf s.now p)
         → AreKnown h.view.geometry h.view.reading b) }
+    ensures unheld { IfOk result (AreUnheld s.now.supers.geometry.nbuckets) }
 {
     opened(alloc, &s.supers.geometry, &s.gens, &s.index, &s.uses)
 }

@@ -1,5 +1,5 @@
 //! The buckets that nothing uses.
-ghost use Rattle.std.specs.Prelude.{◌↔◌, IfOk, IsTrue};
+ghost use Rattle.std.specs.Prelude.{◌≡◌, ◌↔◌, IfOk, IsTrue};
 ghost use Rattle.bc_image.specs.Pair.{Pair};
 ghost use Rattle.bc_recover.specs.Read.{IsReadOf};
 ghost use Rattle.bc_recover.specs.Spare.{AreFilled, AreThose, HasReserves, IsUnused};
@@ -43,10 +43,12 @@ fn filled(alloc: Global, g: &Geometry, uses: &[Use]) -> Result<Reserves, AllocEr
 /// The lists of buckets that are ready to be taken, as a pair that was read has them: the buckets that
 /// nothing uses, the lower ones first, go to the list for priorities, then to those for moving, for the
 /// tree and for data, as far as each has room. Such a bucket needs no raise, since no key that counts
-/// points into it. The time is linear in the number of buckets.
+/// points into it. The time is linear in the number of buckets. They are of all buckets of the
+/// survey's geometry, whatever the devices tell.
 pub fn reserves_of(alloc: Global, s: &Survey) -> Result<Reserves, AllocError>
-    ensures { IfOk result (λ r. (p : Pair) → (h : IsReadOf s.now p)
+    ensures spare { IfOk result (λ r. (p : Pair) → (h : IsReadOf s.now p)
         → HasReserves h.view.geometry h.view.reading r) }
+    ensures count { IfOk result (λ r. r.count ≡ s.now.supers.geometry.nbuckets) }
 {
     filled(alloc, &s.supers.geometry, &s.uses)
 }

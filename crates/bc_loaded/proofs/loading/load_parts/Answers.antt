@@ -1,0 +1,61 @@
+use Rattle.bc_prio.proofs.Chains.{kept_both}
+use Rattle.bc_regrow.specs.Tree.{IsTreeCause, IsTreeOf}
+use Rattle.bc_replay.proofs.Pairs.{passed_on}
+use Rattle.bc_loaded.proofs.Held.{cause_back, read_on}
+use Rattle.bc_loaded.proofs.loading.load_parts.Goals as goal
+
+pub returns-in_err-tree-clause-refused : goal.returns-in_err-tree-clause-refused
+returns-in_err-tree-clause-refused g c =
+    passed_on c.from_residual.result c.in_err-tree.field-0.0
+    (IsTreeCause c.args.s.now (g.C.Disk.facts c.args.cache.now)) c.from_residual.ensures.1
+    c.in_err-tree.ensures.refused
+
+pub load_leaves-requires-clause-grown : goal.load_leaves-requires-clause-grown
+load_leaves-requires-clause-grown g c =
+    read_on c.args.s.now (g.C.Disk.facts c.args.cache.now) (g.C.Disk.facts c.tree_of.new.cache)
+    c.in_ok-tree.ensures.kept
+    (λ p h. IsTreeOf h.view.geometry h.view.reading.nodes c.in_ok-tree.tree)
+    c.in_ok-tree.ensures.found
+
+pub returns-in_err-leaves-clause-refused : goal.returns-in_err-leaves-clause-refused
+returns-in_err-leaves-clause-refused g c =
+    let d = g.C.Disk.facts c.args.cache.now in
+    let e = c.in_err-leaves.field-0.0 in
+    passed_on c.from_residual-in_err-leaves.result e (IsTreeCause c.args.s.now d)
+    c.from_residual-in_err-leaves.ensures.1
+    (cause_back c.args.s.now d (g.C.Disk.facts c.tree_of.new.cache) c.in_ok-tree.ensures.kept e
+    c.in_err-leaves.ensures.refused)
+
+pub returns-in_err-leaves-clause-kept : goal.returns-in_err-leaves-clause-kept
+returns-in_err-leaves-clause-kept g c = kept_both (g.C.Disk.facts c.args.cache.now)
+    (g.C.Disk.facts c.tree_of.new.cache) (g.C.Disk.facts c.load_leaves.new.cache)
+    c.in_ok-tree.ensures.kept c.in_err-leaves.ensures.kept
+
+pub returns-clause-loaded : goal.returns-clause-loaded
+returns-clause-loaded g c =
+    let old = g.C.Disk.facts c.args.cache.now in
+    let new = g.C.Disk.facts c.load_leaves.new.cache in
+    let both = kept_both old (g.C.Disk.facts c.tree_of.new.cache) new c.in_ok-tree.ensures.kept
+    c.in_ok-leaves.ensures.kept in
+    record {
+      grown = read_on c.args.s.now old new both
+          (λ p h. IsTreeOf h.view.geometry h.view.reading.nodes c.in_ok-tree.tree)
+          c.in_ok-tree.ensures.found;
+      known = c.in_ok-buckets.ensures.known;
+      spare = c.in_ok-buckets.ensures.spare;
+      fit = c.in_ok-buckets.ensures.fit;
+      journal = c.in_ok-journal.ensures;
+      was = c.tree_of.new.cache;
+      kept = c.in_ok-leaves.ensures.kept;
+      leaves = c.in_ok-leaves.ensures.found;
+    }
+
+pub returns-clause-kept : goal.returns-clause-kept
+returns-clause-kept g c = kept_both (g.C.Disk.facts c.args.cache.now)
+    (g.C.Disk.facts c.tree_of.new.cache) (g.C.Disk.facts c.load_leaves.new.cache)
+    c.in_ok-tree.ensures.kept c.in_ok-leaves.ensures.kept
+
+pub returns-in_err-journal-clause-kept : goal.returns-in_err-journal-clause-kept
+returns-in_err-journal-clause-kept g c = kept_both (g.C.Disk.facts c.args.cache.now)
+    (g.C.Disk.facts c.tree_of.new.cache) (g.C.Disk.facts c.load_leaves.new.cache)
+    c.in_ok-tree.ensures.kept c.in_ok-leaves.ensures.kept

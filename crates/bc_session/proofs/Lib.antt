@@ -1,0 +1,14 @@
+pub mod Alone
+pub mod Contents
+pub mod Cut
+pub mod Data
+pub mod Left
+pub mod Newest
+pub mod Ready
+pub mod Sectors
+pub mod Stopped
+pub mod Search
+pub mod Seen
+pub mod Ended
+pub mod Stops
+pub mod Final

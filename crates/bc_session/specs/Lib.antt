@@ -1,0 +1,4 @@
+pub mod Open
+pub mod Close
+pub mod Idle
+pub mod Laws
