@@ -1,4 +1,5 @@
 pub mod Holding
 pub mod Under
 pub mod Sequence
+pub mod Ready
 pub mod Looping

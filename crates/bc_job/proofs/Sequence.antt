@@ -1,6 +1,6 @@
 -- The deeds under a claim, one behind the other.
-use Rattle.std.proofs.Common.{◌≡◌, ◌⊎◌, inl, inr, ℕ, ◌≤◌, Bool, true, false, List, [], ◌∷◌, ◌++◌, Some, None, refl, sym, ap, ◌∙◌, subst}
-use Rattle.std.specs.Prelude.{length}
+use Rattle.std.proofs.Common.{◌≡◌, ◌⊎◌, inl, inr, ℕ, ◌+◌, ◌≤◌, Bool, true, false, List, [], ◌∷◌, ◌++◌, Some, None, refl, sym, ap, ◌∙◌, subst, arith}
+use Rattle.std.specs.Prelude.{length, if◌then◌else◌}
 use Rattle.bc_model.specs.Sector.{Value}
 use Rattle.bc_disk.specs.Disk.{DiskFacts}
 use Rattle.bc_disk.specs.declared.disk.Device.{Device}
@@ -18,7 +18,6 @@ use Rattle.bc_flight.specs.declared.claim.Claim.{Claim}
 use Rattle.bc_machine.specs.Frame.{Range}
 use Rattle.bc_machine.specs.World.{are_plain}
 use Rattle.bc_machine.specs.declared.part.CorePart.{CorePart}
-use Rattle.bc_hand.specs.declared.hand.Hand.{Hand}
 use Rattle.bc_hand.specs.Seats.{Did, IsCoreSeat, Works, empty}
 use Rattle.bc_hand.specs.declared.error.StepError.{StepError}
 use Rattle.bc_hand.specs.declared.error.StepError.TheVariants as step
@@ -33,9 +32,10 @@ use Rattle.bc_job.specs.Pieces.{HasMadeClaim, MayHaveRead, ReadUnder, WriteUnder
 use Rattle.bc_job.specs.Requests.{HasStoppedBy, HasNotFlushed}
 use Rattle.bc_job.specs.declared.error.RequestError.{RequestError}
 use Rattle.bc_job.specs.declared.error.RequestError.TheVariants as request
-use Rattle.bc_job.proofs.Holding.{halted_still, works_empty}
+use Rattle.bc_job.proofs.Holding.{halted_still}
 use Rattle.bc_job.proofs.Under.{claim_range, fresh_claim}
-use Rattle.bc_job.specs.Asked.{IsIdle}
+use Rattle.bc_job.specs.Asked.{IsReady}
+use Rattle.bc_job.specs.declared.stock.Stock.{Stock}
 
 module _ {C B : Type 0} (cache_facts : C → DiskFacts) (backing_facts : B → DiskFacts) where
   -- the claim, what was done under it, and its release
@@ -100,16 +100,30 @@ module _ {C B : Type 0} (cache_facts : C → DiskFacts) (backing_facts : B → D
       }
 
   -- nothing is claimed once the claim is let go
-  pub idle_released : (p : PartsView (CorePart C B)) (v w : View cache_facts backing_facts) (h : Hand C B)
-      → h ≡ empty → Works cache_facts backing_facts p w h → are_plain cache_facts backing_facts p.run.start ≡ true
-      → IsCoreSeat cache_facts backing_facts v
-      → Did cache_facts backing_facts (Some deed.Release) v w → IsIdle cache_facts backing_facts p w
-  idle_released p v w h is works plain seat did = record {
-    works = works_empty cache_facts backing_facts p w h is works;
+  pub ready_released : (p : PartsView (CorePart C B)) (v w : View cache_facts backing_facts) (s : Stock C B)
+      → s.hand ≡ empty → Works cache_facts backing_facts p w s.hand
+      → are_plain cache_facts backing_facts p.run.start ≡ true → IsCoreSeat cache_facts backing_facts v
+      → Did cache_facts backing_facts (Some deed.Release) v w → s.room + 1 ≤ v.promises
+      → IsReady cache_facts backing_facts p w s
+  ready_released p v w s free works plain seat did room = record {
+    works = works;
+    free = free;
+    room = (let used = did.is.promises in omega arith);
     plain = plain;
     unclaimed = ap (λ (r : Range). r.count)
         (note_committed cache_facts backing_facts v w deed.Release seat did.is).range;
   }
+
+  -- what an unforced write leaves of its room, and a forced one
+  pub room_left : (force : Bool) (room deeds p q r : ℕ) → (if force then 5 else 3) ≤ deeds → room + deeds ≤ p
+      → p ≤ q + 1 → q ≤ r + (if force then 3 else 1) → room + 1 ≤ r
+  room_left true room deeds p q r is a b c = omega arith
+  room_left false room deeds p q r is a b c = omega arith
+
+  pub room_still : (force : Bool) (room deeds p q : ℕ) → (if force then 5 else 3) ≤ deeds → room + deeds ≤ p
+      → p ≤ q + 1 → room ≤ q
+  room_still true room deeds p q is a b = omega arith
+  room_still false room deeds p q is a b = omega arith
 
   -- ---- before the claim
 

@@ -9,6 +9,7 @@ use Rattle.bc_machine.specs.declared.part.CorePart.{CorePart}
 use Rattle.bc_hand.specs.Seats.{View, Works, empty, note}
 use Rattle.bc_deed.specs.Asked.{size_of}
 use Rattle.bc_job.specs.declared.job.Job.{Job}
+use Rattle.bc_job.specs.declared.stock.Stock.{Stock}
 
 abbrev pub line_of : Job → LineNumber
 line_of job = record { worker = job.worker; line = job.line }
@@ -20,8 +21,18 @@ pub record IsRange (job : Job) : Type 0 where
 
 module _ {C B : Type 0} (cache_facts : C → DiskFacts) (backing_facts : B → DiskFacts) where
   -- a seat of this run, which is one over the backing device alone, that holds no part and no claim
-  pub record IsIdle (p : PartsView (CorePart C B)) (v : View cache_facts backing_facts) : Type 0 where
+  pub record IsIdle (p : PartsView (CorePart C B)) (v : View cache_facts backing_facts)
+      : Type 0 where
     pub works : Works cache_facts backing_facts p v empty
+    pub plain : are_plain cache_facts backing_facts p.run.start ≡ true
+    pub unclaimed : (note cache_facts backing_facts v).range.count ≡ 0
+
+  -- the same of a seat with this stock: no part lies in its hand, and it has the room that is told
+  pub record IsReady (p : PartsView (CorePart C B)) (v : View cache_facts backing_facts)
+      (s : Stock C B) : Type 0 where
+    pub works : Works cache_facts backing_facts p v s.hand
+    pub free : s.hand ≡ empty
+    pub room : s.room ≤ v.promises
     pub plain : are_plain cache_facts backing_facts p.run.start ≡ true
     pub unclaimed : (note cache_facts backing_facts v).range.count ≡ 0
 

@@ -40,7 +40,8 @@ AreReadDeeds of (p ∷ ps) values ds = (own : List Value) × (rest : List Value)
 -- nothing was done of the piece; or it was claimed and let go; or read in between too
 abbrev pub HasBegunRead : ℕ → ℕ → List Deed → Type 0
 HasBegunRead first count ds = (ds ≡ []) ⊎ ((ds ≡ under first count Shared [])
-    ⊎ ((values : List Value) × (ds ≡ under first count Shared (deed.BackingRead first values ∷ []))))
+    ⊎ ((values : List Value)
+    × (ds ≡ under first count Shared (deed.BackingRead first values ∷ []))))
 
 -- what was done of a piece that wasn't answered, by the refusal: at a fault, one read, which failed
 abbrev pub ReadStop : RequestError → ℕ → ℕ → List Deed → Type 0
@@ -52,7 +53,8 @@ ReadStop request.Memory first count ds = HasBegunRead first count ds
 
 -- ---- writing
 
--- one write of the backing device; where it is forced, one barrier behind it and the acknowledgement
+-- one write of the backing device; where it is forced, one barrier behind it and the
+-- acknowledgement
 abbrev pub written : Bool → LineNumber → ℕ → List Value → List Deed
 written false of first values = deed.BackingWrite first (Some of) values ∷ []
 written true of first values = deed.BackingWrite first (Some of) values ∷ deed.BackingBarrier
@@ -60,7 +62,8 @@ written true of first values = deed.BackingWrite first (Some of) values ∷ deed
 
 -- all of it under one claim
 abbrev pub write_deeds : Bool → LineNumber → ℕ → List Value → List Deed
-write_deeds force of first values = under first (length values) Exclusive (written force of first values)
+write_deeds force of first values =
+    under first (length values) Exclusive (written force of first values)
 
 -- one write of each of these pieces, with its part of the values from `first` on
 abbrev pub writes_deeds : Bool → LineNumber → ℕ → List Value → List Piece → List Deed
@@ -102,7 +105,8 @@ WriteStop request.Memory force of first values ds = HasClaimedOnly first (length
 abbrev pub flush_deeds : LineNumber → List Deed
 flush_deeds of = deed.FlushFrom of ∷ deed.BackingBarrier ∷ deed.FlushDone of ∷ []
 
--- what was done of a flush that wasn't acknowledged, by the refusal: at a fault its one barrier failed
+-- what was done of a flush that wasn't acknowledged, by the refusal: at a fault its one barrier
+-- failed
 abbrev pub FlushStop : RequestError → LineNumber → List Deed → Type 0
 FlushStop request.OutOfRange of ds = ⊥
 FlushStop (request.Fault device) of ds = (device ≡ Backing)

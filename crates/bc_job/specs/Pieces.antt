@@ -38,13 +38,15 @@ module _ {C B : Type 0} (cache_facts : C → DiskFacts) (backing_facts : B → D
     pub done : HasDone cache_facts backing_facts (deed.Claim first count share ∷ []) v w
 
   -- the sectors were read or not, and then nothing was done
-  abbrev pub MayHaveRead : ℕ → View cache_facts backing_facts → View cache_facts backing_facts → Type 0
+  abbrev pub MayHaveRead : ℕ → View cache_facts backing_facts → View cache_facts backing_facts
+      → Type 0
   MayHaveRead first v w = HasDone cache_facts backing_facts [] v w
-      ⊎ ((values : List Value) × HasDone cache_facts backing_facts (deed.BackingRead first values ∷ []) v w)
+      ⊎ ((values : List Value)
+      × HasDone cache_facts backing_facts (deed.BackingRead first values ∷ []) v w)
 
   -- what was done under the claim of a piece that wasn't answered
-  abbrev pub ReadUnder : StepError → ℕ → View cache_facts backing_facts → View cache_facts backing_facts
-      → Type 0
+  abbrev pub ReadUnder : StepError → ℕ → View cache_facts backing_facts
+      → View cache_facts backing_facts → Type 0
   ReadUnder (error.Fault device) first v w = (device ≡ Backing)
       × HasDone cache_facts backing_facts (deed.DeviceFault (failure.Read Backing) ∷ []) v w
   ReadUnder (error.Halted device) first v w = (halt_of w.seen ≡ Some device) × MayHaveRead first v w
@@ -54,7 +56,8 @@ module _ {C B : Type 0} (cache_facts : C → DiskFacts) (backing_facts : B → D
       → View cache_facts backing_facts → Type 0
   FailedUnder force of first values v w = HasDone cache_facts backing_facts
       (deed.DeviceFault (failure.BackingWrite first (Some of) values) ∷ []) v w
-      ⊎ ((force ≡ true) × HasDone cache_facts backing_facts (deed.BackingWrite first (Some of) values
+      ⊎ ((force ≡ true)
+      × HasDone cache_facts backing_facts (deed.BackingWrite first (Some of) values
       ∷ deed.DeviceFault (failure.Barrier Backing) ∷ []) v w)
 
   abbrev pub HaltedUnder : Bool → LineNumber → ℕ → List Value → View cache_facts backing_facts
@@ -66,8 +69,8 @@ module _ {C B : Type 0} (cache_facts : C → DiskFacts) (backing_facts : B → D
       (deed.BackingWrite first (Some of) values ∷ deed.BackingBarrier ∷ []) v w))
 
   -- what was done under the claim of a piece that wasn't acknowledged
-  abbrev pub WriteUnder : StepError → Bool → LineNumber → ℕ → List Value → View cache_facts backing_facts
-      → View cache_facts backing_facts → Type 0
+  abbrev pub WriteUnder : StepError → Bool → LineNumber → ℕ → List Value
+      → View cache_facts backing_facts → View cache_facts backing_facts → Type 0
   WriteUnder (error.Fault device) force of first values v w =
       (device ≡ Backing) × FailedUnder force of first values v w
   WriteUnder (error.Halted device) force of first values v w =

@@ -46,7 +46,8 @@ pub record IsRefusedWrite (error : RequestError) (job : Job) (values : List Valu
   pub refused : Piece
   pub up_to : ServedUpTo job.first job.count served refused
   pub last : List Deed
-  pub stop : WriteStop error job.force (line_of job) refused.first (piece_of job.first values refused) last
+  pub stop : WriteStop error job.force (line_of job) refused.first
+      (piece_of job.first values refused) last
   pub deeds : ds ≡ writes_deeds job.force (line_of job) job.first values served ++ last
 
 module _ {C B : Type 0} (cache_facts : C → DiskFacts) (backing_facts : B → DiskFacts) where
@@ -57,8 +58,8 @@ module _ {C B : Type 0} (cache_facts : C → DiskFacts) (backing_facts : B → D
       × ((ds : List Deed) × Is ds × HasDone cache_facts backing_facts ds v w)
 
   -- a read was answered with these values
-  abbrev pub HasRead : Job → List Value → View cache_facts backing_facts → View cache_facts backing_facts
-      → Type 0
+  abbrev pub HasRead : Job → List Value → View cache_facts backing_facts
+      → View cache_facts backing_facts → Type 0
   HasRead job values v w = IsInside job × ((ds : List Deed)
       × AreReadDeeds (line_of job) (pieces job.first job.count) values ds
       × HasDone cache_facts backing_facts ds v w)
@@ -80,8 +81,8 @@ module _ {C B : Type 0} (cache_facts : C → DiskFacts) (backing_facts : B → D
       (IsInside job × HasStoppedBy error (IsRefusedWrite error job values) v w)
 
   -- a flush was acknowledged
-  abbrev pub HasFlushedFor : LineNumber → View cache_facts backing_facts → View cache_facts backing_facts
-      → Type 0
+  abbrev pub HasFlushedFor : LineNumber → View cache_facts backing_facts
+      → View cache_facts backing_facts → Type 0
   HasFlushedFor of v w = HasDone cache_facts backing_facts (flush_deeds of) v w
 
   abbrev pub HasNotFlushed : RequestError → LineNumber → View cache_facts backing_facts

@@ -35,6 +35,7 @@ pub fn claim_range<C: Disk + Drop, B: Disk + Drop, R: Wait>(
     requires inside { first + count ≤ size_of C.facts B.facts seat.old.run.start }
     ensures works { Works C.facts B.facts parts.now seat.new hand.new }
     ensures empty { hand.new ≡ empty }
+    ensures left { seat.old.promises ≤ seat.new.promises + 1 }
     ensures ok { IfOk result (λ claim. HasMadeClaim C.facts B.facts claim first count share
         seat.old seat.new) }
     ensures err { IfErr result (λ error. IsHalted error seat.new.seen

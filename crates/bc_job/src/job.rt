@@ -70,10 +70,12 @@ impl Job {
     pub fn piece(&self, number: u64) -> Piece
         requires some { 1 ≤ self.now.count }
         requires range { self.now.first + self.now.count < 2 ^ 64 }
-        requires number { (self.now.first / piece_sectors ≤ number) × (number < (self.now.first + self.now.count + 255) / piece_sectors) }
+        requires number { (self.now.first / piece_sectors ≤ number)
+            × (number < (self.now.first + self.now.count + 255) / piece_sectors) }
         ensures first { result.first ≡ (piece_in self.now.first self.now.count number).first }
         ensures count { result.count ≡ (piece_in self.now.first self.now.count number).count }
-        ensures some { (1 ≤ result.count) × (self.now.first ≤ result.first) × (result.first + result.count ≤ self.now.first + self.now.count) }
+        ensures some { (1 ≤ result.count) × (self.now.first ≤ result.first)
+            × (result.first + result.count ≤ self.now.first + self.now.count) }
     {
         let base = number * PIECE;
         let end = self.first + u64::from(self.count);

@@ -21,4 +21,5 @@ pub mod flush;
 pub mod job;
 pub mod piece;
 pub mod read;
+pub mod stock;
 pub mod write;

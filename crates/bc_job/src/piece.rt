@@ -8,16 +8,16 @@ ghost use Rattle.bc_machine.specs.World.{are_plain};
 ghost use Rattle.bc_hand.specs.Seats.{Works, empty, note};
 ghost use Rattle.bc_deed.specs.Asked.{AreSectors, IsWithin, size_of};
 ghost use Rattle.bc_deed.specs.Flushed.{HasDone};
-ghost use Rattle.bc_job.specs.Asked.{IsIdle};
+ghost use Rattle.bc_job.specs.Asked.{IsReady};
 ghost use Rattle.bc_job.specs.Deeds.{ReadStop, WriteStop, read_deeds, write_deeds, written};
 ghost use Rattle.bc_job.specs.Pieces.{IsFresh, ReadUnder, WriteUnder};
 ghost use Rattle.bc_job.specs.Requests.{HasStoppedBy};
 
 use crate::claims::claim_range;
 use crate::error::{RequestError, refusal};
+use crate::stock::{Stock, take_room};
 use bc_deed::backing::{backing_barrier, backing_read, backing_write};
 use bc_deed::claims::release;
-use bc_deed::promise::promise;
 use bc_deed::said::{answer, durable};
 use bc_disk::disk::Disk;
 use bc_events::event::LineNumber;
@@ -47,9 +47,11 @@ fn read_under<C: Disk + Drop, B: Disk + Drop, R: Wait, G: Gate>(
     requires empty { hand.old ≡ empty }
     requires promise { 1 < seat.old.promises }
     requires line { worker_of seat.old.first ≡ of.worker }
-    requires sectors { AreSectors first (length into.old) (size_of C.facts B.facts seat.old.run.start) }
+    requires sectors { AreSectors first (length into.old)
+        (size_of C.facts B.facts seat.old.run.start) }
     requires looked { (note C.facts B.facts seat.old).looked ≡ true }
-    requires covered { IsWithin (note C.facts B.facts seat.old).range first (length into.old / 512) }
+    requires covered { IsWithin (note C.facts B.facts seat.old).range first
+        (length into.old / 512) }
     ensures works { Works C.facts B.facts parts.now seat.new hand.new }
     ensures empty { hand.new ≡ empty }
     ensures claim { (note C.facts B.facts seat.new).range ≡ (note C.facts B.facts seat.old).range }
@@ -79,35 +81,53 @@ pub(crate) fn read_piece<C: Disk + Drop, B: Disk + Drop, R: Wait, G: Gate>(
     alloc: Global,
     parts: &CoreParts<C, B>,
     seat: &mut CoreSeat<C, B>,
+    stock: &mut Stock<C, B>,
     of: LineNumber,
     first: u64,
     count: u32,
     into: &mut [u8],
     gate: &G,
 ) -> Result<Values, RequestError>
-    requires idle { IsIdle C.facts B.facts parts.now seat.old }
+    requires ready { IsReady C.facts B.facts parts.now seat.old stock.old }
     requires line { worker_of seat.old.first ≡ of.worker }
     requires some { 1 ≤ count }
     requires length { length into.old ≡ 512 * count }
     requires range { first + count < 2 ^ 64 }
     requires inside { first + count ≤ size_of C.facts B.facts seat.old.run.start }
-    ensures idle { IsIdle C.facts B.facts parts.now seat.new }
+    ensures ready { IsReady C.facts B.facts parts.now seat.new stock.new }
     ensures ok { OnOk result (HasDone C.facts B.facts
         (read_deeds of first count (values_of into.new)) seat.old seat.new) }
     ensures values { IfOk result (λ values. values ≡ values_of into.new) }
     ensures err { IfErr result (λ error. HasStoppedBy C.facts B.facts error
         (ReadStop error first count) seat.old seat.new) }
 {
-    let mut hand = Hand::empty();
-    let Ok(()) = promise(rt, parts, seat, &mut hand, 4) else {
+    let Ok(()) = take_room(rt, parts, seat, stock, 4) else {
         return Err(RequestError::Memory);
     };
-    let claim = match claim_range(rt, parts, seat, &mut hand, first, count, Share::Shared) {
+    let claim = match claim_range(
+        rt,
+        parts,
+        seat,
+        &mut stock.hand,
+        first,
+        count,
+        Share::Shared,
+    ) {
         Ok(claim) => claim,
         Err(error) => return Err(refusal(error)),
     };
-    let answered = read_under(rt, alloc, parts, seat, &mut hand, of, first, into, gate);
-    release(rt, parts, seat, &mut hand, claim);
+    let answered = read_under(
+        rt,
+        alloc,
+        parts,
+        seat,
+        &mut stock.hand,
+        of,
+        first,
+        into,
+        gate,
+    );
+    release(rt, parts, seat, &mut stock.hand, claim);
     match answered {
         Ok(values) => Ok(values),
         Err(error) => Err(refusal(error)),
@@ -133,7 +153,8 @@ fn write_under<C: Disk + Drop, B: Disk + Drop, R: Wait>(
     requires line { worker_of seat.old.first ≡ of.worker }
     requires some { 0 < length values.now }
     requires inside { first + length values.now ≤ size_of C.facts B.facts seat.old.run.start }
-    requires fresh { IsFresh first (length values.now) Share.Exclusive (note C.facts B.facts seat.old) }
+    requires fresh { IsFresh first (length values.now) Share.Exclusive
+        (note C.facts B.facts seat.old) }
     ensures works { Works C.facts B.facts parts.now seat.new hand.new }
     ensures empty { hand.new ≡ empty }
     ensures claim { (note C.facts B.facts seat.new).range ≡ (note C.facts B.facts seat.old).range }
@@ -157,41 +178,66 @@ fn write_under<C: Disk + Drop, B: Disk + Drop, R: Wait>(
     durable(rt, parts, seat, hand, of, first, values.len())
 }
 
-/// Writes the values of a piece for a line, under an exclusive claim of its sectors, and where it is
-/// forced makes them durable by a barrier before the claim is let go.
+// For how many deeds the write of a piece takes room.
+fn deeds_of(force: bool) -> u32
+    ensures some { (if force then 5 else 3) ≤ result }
+    ensures few { result ≤ 8 }
+{
+    if force { 5 } else { 3 }
+}
+
+/// Writes the values of a piece for a line, under an exclusive claim of its sectors, and where it
+/// is forced makes them durable by a barrier before the claim is let go.
 pub(crate) fn write_piece<C: Disk + Drop, B: Disk + Drop, R: Wait>(
     rt: &R,
     alloc: Global,
     parts: &CoreParts<C, B>,
     seat: &mut CoreSeat<C, B>,
+    stock: &mut Stock<C, B>,
     of: LineNumber,
     first: u64,
     values: &Values,
     force: bool,
 ) -> Result<(), RequestError>
-    requires idle { IsIdle C.facts B.facts parts.now seat.old }
+    requires ready { IsReady C.facts B.facts parts.now seat.old stock.old }
     requires line { worker_of seat.old.first ≡ of.worker }
     requires some { 1 ≤ length values.now }
     requires range { first + length values.now < 2 ^ 64 }
     requires inside { first + length values.now ≤ size_of C.facts B.facts seat.old.run.start }
-    ensures idle { IsIdle C.facts B.facts parts.now seat.new }
+    ensures ready { IsReady C.facts B.facts parts.now seat.new stock.new }
     ensures ok { OnOk result (HasDone C.facts B.facts
         (write_deeds force of first values.now) seat.old seat.new) }
     ensures err { IfErr result (λ error. HasStoppedBy C.facts B.facts error
         (WriteStop error force of first values.now) seat.old seat.new) }
 {
-    let mut hand = Hand::empty();
-    let deeds = if force { 5 } else { 3 };
-    let Ok(()) = promise(rt, parts, seat, &mut hand, deeds) else {
+    let Ok(()) = take_room(rt, parts, seat, stock, deeds_of(force)) else {
         return Err(RequestError::Memory);
     };
     let count = values.len();
-    let claim = match claim_range(rt, parts, seat, &mut hand, first, count, Share::Exclusive) {
+    let claim = match claim_range(
+        rt,
+        parts,
+        seat,
+        &mut stock.hand,
+        first,
+        count,
+        Share::Exclusive,
+    ) {
         Ok(claim) => claim,
         Err(error) => return Err(refusal(error)),
     };
-    let written = write_under(rt, alloc, parts, seat, &mut hand, of, first, values, force);
-    release(rt, parts, seat, &mut hand, claim);
+    let written = write_under(
+        rt,
+        alloc,
+        parts,
+        seat,
+        &mut stock.hand,
+        of,
+        first,
+        values,
+        force,
+    );
+    release(rt, parts, seat, &mut stock.hand, claim);
     match written {
         Ok(()) => Ok(()),
         Err(error) => Err(refusal(error)),

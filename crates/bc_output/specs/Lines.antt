@@ -16,7 +16,8 @@ IsLineOf answer line = (text : List ℕ) × IsText answer text × (line ≡ ende
 -- the lines of these answers, one behind the other
 abbrev pub AreLines : List Answer → List ℕ → Type 0
 AreLines [] text = text ≡ []
-AreLines (answer ∷ answers) text = (line rest : List ℕ) × IsLineOf answer line × AreLines answers rest × (text ≡ line ++ rest)
+AreLines (answer ∷ answers) text = (line rest : List ℕ) × IsLineOf answer line
+    × AreLines answers rest × (text ≡ line ++ rest)
 
 -- the line that is put where no memory is found for the text of an answer
 abbrev pub memory_line : List ℕ
@@ -32,14 +33,18 @@ abbrev pub IsFirstLoud : List Answer → Type 0
 IsFirstLoud [] = Unit {0}
 IsFirstLoud (answer ∷ answers) = answer ≡ Silent → ⊥
 
--- what is put for these answers, one line behind the other, and whether no memory was found for one of them
+-- what is put for these answers, one line behind the other, and whether no memory was found for one
+-- of them
 abbrev pub StandForAll : Bool → List Answer → List ℕ → Type 0
 StandForAll missed [] text = (missed ≡ false) × (text ≡ [])
 StandForAll missed (answer ∷ answers) text = (here behind : Bool) × (line rest : List ℕ)
-    × StandsFor here answer line × StandForAll behind answers rest × (missed ≡ here || behind) × (text ≡ line ++ rest)
+    × StandsFor here answer line × StandForAll behind answers rest × (missed ≡ here || behind)
+    × (text ≡ line ++ rest)
 
--- the lines of the first answers were taken whole, and a write fault came in what was put for the next ones
-pub record IsCut (missed : Bool) (cause : WriteFault) (answers : List Answer) (old new : StreamFacts) : Type 0 where
+-- the lines of the first answers were taken whole, and a write fault came in what was put for the
+-- next ones
+pub record IsCut (missed : Bool) (cause : WriteFault) (answers : List Answer)
+    (old new : StreamFacts) : Type 0 where
   pub first : List Answer
   pub next : List Answer
   pub others : List Answer

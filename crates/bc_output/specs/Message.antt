@@ -16,7 +16,8 @@ origin_text Source = codes "source"
 abbrev pub words_of : Message → List ℕ
 words_of Usage = codes "usage"
 words_of (Trace line why) = codes "trace " ++ decimal line ++ codes " " ++ decimal why
-words_of (Superblock device number) = codes "superblock " ++ device_text device ++ codes " " ++ decimal number
+words_of (Superblock device number) =
+    codes "superblock " ++ device_text device ++ codes " " ++ decimal number
 words_of (Image number) = codes "image " ++ decimal number
 words_of Unserved = codes "unserved"
 words_of (Fault origin) = codes "fault " ++ origin_text origin

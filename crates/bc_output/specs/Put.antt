@@ -13,10 +13,13 @@ pub record Takes (bytes : List ℕ) (old new : StreamFacts) : Type 0 where
 
 -- a put of this piece that ends the putting: it failed, or it took nothing
 abbrev pub IsLastPut : WriteFault → List ℕ → StreamFacts → StreamFacts → Type 0
-IsLastPut Failed piece old new = (e : Failure) × (let answer : Result ℕ Failure = Err e in IsPut answer piece old new)
-IsLastPut TookNothing piece old new = let answer : Result ℕ Failure = Ok 0 in IsPut answer piece old new
+IsLastPut Failed piece old new = (e : Failure)
+    × (let answer : Result ℕ Failure = Err e in IsPut answer piece old new)
+IsLastPut TookNothing piece old new =
+    let answer : Result ℕ Failure = Ok 0 in IsPut answer piece old new
 
--- the front of the text was taken; the last put was of the rest, which isn't empty, and failed or took nothing
+-- the front of the text was taken; the last put was of the rest, which isn't empty, and failed or
+-- took nothing
 pub record IsWriteFault (cause : WriteFault) (text : List ℕ) (old new : StreamFacts) : Type 0 where
   pub front : List ℕ
   pub rest : List ℕ

@@ -31,10 +31,12 @@ struct Batch {
 // The lines of answers are gathered up to at least so many bytes before they are put.
 const GATHERED: usize = 4096;
 
-// Prints the line of an answer behind these bytes, which stay as they were where there is no memory.
+// Prints the line of an answer behind these bytes, which stay as they were where there is no
+// memory.
 fn print_line(answer: &Answer, lines: &mut Vec<u8>) -> Result<(), AllocError>
     requires { IsPrintable answer.now }
-    ensures ok { OnOk result ((line : List ℕ) × IsLineOf answer.now line × (lines.new.items ≡ lines.old.items ++ line)) }
+    ensures ok { OnOk result ((line : List ℕ) × IsLineOf answer.now line
+        × (lines.new.items ≡ lines.old.items ++ line)) }
     ensures err { OnErr result (lines.new.items ≡ lines.old.items) }
     ensures loud { OnErr result (answer.now ≡ Answer.Silent → ⊥) }
 {
@@ -50,8 +52,8 @@ fn print_line(answer: &Answer, lines: &mut Vec<u8>) -> Result<(), AllocError>
     Ok(())
 }
 
-// Prints the lines of the first answers in place of these bytes, and answers how many: none only where
-// there are none, or no memory was found for the first.
+// Prints the lines of the first answers in place of these bytes, and answers how many: none only
+// where there are none, or no memory was found for the first.
 fn gather(answers: &[Answer], lines: &mut Vec<u8>) -> usize
     requires { All IsPrintable answers.now }
     ensures count { result ≤ length answers.now }
@@ -75,7 +77,8 @@ fn put_some<K: Sink>(answers: &[Answer], lines: &mut Vec<u8>, out: &mut K) -> Ba
     requires printable { All IsPrintable answers.now }
     requires some { 0 < length answers.now }
     ensures count { (0 < result.count) × (result.count ≤ length answers.now) }
-    ensures put { (text : List ℕ) × StandForAll result.printed.memory_missed (take result.count answers.now) text
+    ensures put { (text : List ℕ)
+        × StandForAll result.printed.memory_missed (take result.count answers.now) text
         × MatchResult result.printed.put
         (λ _. Takes text (K.facts out.old) (K.facts out.new))
         (λ cause. IsWriteFault cause text (K.facts out.old) (K.facts out.new)) }
@@ -102,9 +105,9 @@ fn put_some<K: Sink>(answers: &[Answer], lines: &mut Vec<u8>, out: &mut K) -> Ba
     }
 }
 
-/// Puts the line of each answer in order: its text and a newline, and nothing for one that is silent. Where no memory is found for a
-/// text its line is `memory`. Lines are put some at a time; the first write fault ends this, and the
-/// sink has then taken less than all lines up to there.
+/// Puts the line of each answer in order: its text and a newline, and nothing for one that is
+/// silent. Where no memory is found for a text its line is `memory`. Lines are put some at a time;
+/// the first write fault ends this, and the sink has then taken less than all lines up to there.
 pub fn put_answers<K: Sink>(alloc: Global, answers: &[Answer], out: &mut K) -> Printed
     requires { All IsPrintable answers.now }
 

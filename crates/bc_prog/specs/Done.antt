@@ -24,7 +24,8 @@ pub record IsDone (source left before after : StreamFacts) : Type 0 where
   pub printed : AreLines answers text
   pub taken : Takes text before after
 
--- the trace was read to its end and asks for nothing, and nothing was put: a pair was opened and closed
+-- the trace was read to its end and asks for nothing, and nothing was put: a pair was opened and
+-- closed
 abbrev pub HasAskedNothing : StreamFacts → StreamFacts → StreamFacts → StreamFacts → Type 0
 HasAskedNothing source left before after =
     WasReadAs AskNothing source left × (after ≡ before)

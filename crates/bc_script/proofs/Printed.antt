@@ -1,12 +1,12 @@
 -- The runs that were printed, and the one that goes on.
 use Rattle.std.proofs.Common.{◌≡◌, ◌⊎◌, inl, inr, ℕ, zero, suc, ◌+◌, ◌<◌, ◌≤◌, ◌^◌, Bool, true, false, List, [], ◌∷◌, ◌++◌, length, take, Some, refl, sym, ap, ◌∙◌, subst, arith, if◌then◌else◌, append_assoc, append-nil, length-append, get_or}
-use Rattle.std.specs.Prelude.{replicate, map, slice_get, Option, option_to_list, Result, Ok, Err, OnOk, All}
+use Rattle.std.specs.Prelude.{◌==◌, replicate, map, slice_get, Option, option_to_list, Result, Ok, Err, OnOk, All}
 use Rattle.std.proofs.Math.Seq.{drop-append_seam}
-use Rattle.std.proofs.lemmas.List.Elements.{All-drop}
+use Rattle.std.proofs.lemmas.List.Elements.{All-drop, All-head}
 use Rattle.std.specs.List.{join_with_byte}
-use Rattle.std.proofs.lemmas.Bool.{eqb-true}
+use Rattle.std.proofs.lemmas.Bool.{eqb-true, eq-eqb}
 use Rattle.std.proofs.lemmas.Grind.{flat_map-append}
-use Rattle.std.proofs.lemmas.List.{take_more, length-take-le, replicate-append-replicate, length-replicate}
+use Rattle.std.proofs.lemmas.List.{take_more, length-take-le, replicate-append-replicate, length-replicate, nil_from_length}
 use Rattle.std.proofs.lemmas.Option.{get_or_from_slice_get}
 use Rattle.bc_model.specs.Sector.{Value}
 use Rattle.bc_model.specs.Pattern.{zeros}
@@ -265,3 +265,57 @@ all_printed first next rest more values a b c s t u new none empty at is h then_
     let all = subst Q (sym (flat_map-append values_in rest more) ∙ is) (goes_then first (all_values rest) (all_values more) a b c s t u h (subst P at then_)) in
     let got = all.prints [] (subst R (sym empty) (prints_none a none)) in
     (got.0, got.1, end got.0 got.2)
+
+-- ---- all sectors of one run
+
+one_seen : (first n : ℕ) (x : Seen) (values : List Value) (old new : List ℕ) → 1 ≤ n → is_joined x x ≡ true
+    → AreSeen first values (replicate n x) → new ≡ old ++ seen_text x n
+    → (seen : List Seen) × AreSeen first values seen × (new ≡ old ++ runs_text seen)
+one_seen first n x values old new some joined seen is = (
+  replicate n x,
+  seen,
+  is ∙ ap (λ (bs : List ℕ). old ++ bs)
+      (sym (text_last n x (some, inr joined)) ∙ ap (λ (zs : List Seen). runs_text zs) (append-nil (replicate n x))),
+)
+
+-- the values of the only run
+only_run : (rest : List Kept) (last : Option Kept) (run : Kept) (values : List Value) → rest ≡ [] → last ≡ Some run
+    → all_values (rest ++ option_to_list last) ≡ values → values_in run ≡ values
+only_run rest last run values none is all =
+    sym (append-nil (values_in run))
+    ∙ ap (λ (o : Option Kept). all_values (option_to_list o)) (sym is)
+    ∙ ap (λ (rs : List Kept). all_values (rs ++ option_to_list last)) (sym none) ∙ all
+
+is_run : (rest : List Kept) (last : Option Kept) (run : Kept) → last ≡ Some run
+    → All IsRun (rest ++ option_to_list last) → IsRun run
+is_run rest last run is all =
+    let Q : Option Kept → Type 0 = λ o. All IsRun (option_to_list o) in
+    All-head IsRun run [] (subst Q is (option_run rest last all))
+
+pub one_stamp : {T E : Type 0} (r : Result T E) (first own n stamp : ℕ) (rest : List Kept) (last : Option Kept)
+    (values : List Value) (old new : List ℕ) → rest ≡ [] → last ≡ Some (Pattern stamp own n) → own ≡ first → 1 ≤ n
+    → stamp < 2 ^ 64 → All IsRun (rest ++ option_to_list last) → all_values (rest ++ option_to_list last) ≡ values
+    → OnOk r (new ≡ old ++ seen_text (Stamp stamp) n)
+    → OnOk r ((seen : List Seen) × AreSeen first values seen × (new ≡ old ++ runs_text seen))
+one_stamp (Err e) first own n stamp rest last values old new none is at some fits runs all text = tt
+one_stamp (Ok x) first own n stamp rest last values old new none is at some fits runs all text =
+    let run : Kept = Pattern stamp own n in
+    let P : List Value → Type 0 = λ vs. AreSeen first vs (replicate n (Stamp stamp)) in
+    let Q : ℕ → Type 0 = λ m. AreSeen first (patterns stamp m n) (replicate n (Stamp stamp)) in
+    one_seen first n (Stamp stamp) values old new some (eq-eqb stamp stamp refl)
+    (subst P (only_run rest last run values none is all)
+    (subst Q (sym at) (patterns_seen n stamp first (is_run rest last run is runs).0 fits))) text
+
+pub one_zero : {T E : Type 0} (r : Result T E) (first n : ℕ) (rest : List Kept) (last : Option Kept)
+    (values : List Value) (old new : List ℕ) → rest ≡ [] → last ≡ Some (Zeros n) → 1 ≤ n
+    → all_values (rest ++ option_to_list last) ≡ values → OnOk r (new ≡ old ++ seen_text Zero n)
+    → OnOk r ((seen : List Seen) × AreSeen first values seen × (new ≡ old ++ runs_text seen))
+one_zero (Err e) first n rest last values old new none is some all text = tt
+one_zero (Ok x) first n rest last values old new none is some all text =
+    let P : List Value → Type 0 = λ vs. AreSeen first vs (replicate n Zero) in
+    one_seen first n Zero values old new some refl
+    (subst P (only_run rest last (Zeros n) values none is all) (zeros_seen n first)) text
+
+-- nothing is in a list that is empty
+pub none_in : (rs : List Kept) (n : ℕ) (b : Bool) → n ≡ length rs → b ≡ (n == 0) → b ≡ true → rs ≡ []
+none_in rs n b long is on = nil_from_length rs (sym long ∙ eqb-true n 0 (sym is ∙ on))

@@ -50,3 +50,7 @@ IsPrintable (Refused refusal) = Unit {0}
 -- the new bytes are the old ones and the text of the answer
 abbrev pub AppendsText : Answer → List ℕ → List ℕ → Type 0
 AppendsText answer old new = (text : List ℕ) × IsText answer text × (new ≡ old ++ text)
+
+-- some bytes came behind the old ones, or none
+abbrev pub IsGrown : List ℕ → List ℕ → Type 0
+IsGrown old new = (more : List ℕ) × (new ≡ old ++ more)

@@ -3,13 +3,14 @@ ghost use Rattle.std.specs.Prelude.{◌≡◌, ◌+◌, ◌<◌, ◌≤◌, ◌^
 ghost use Rattle.std.specs.Char.{digit_char};
 ghost use Rattle.std.specs.Fmt.{decimal};
 ghost use Rattle.bc_script.specs.Runs.{AreSeen, hex, seen_text, runs_text};
-ghost use Rattle.bc_script.specs.Answer.{asked_text, device_text, numbers_text, refusal_text, IsPrintable, AppendsText};
+ghost use Rattle.bc_script.specs.Answer.{asked_text, device_text, numbers_text, refusal_text, IsGrown, IsPrintable, AppendsText};
 ghost use Rattle.bc_script.specs.declared.seen.Seen.{Seen};
 
 use crate::answer::{Answer, Asked, Refusal};
 use crate::last::Last;
 use crate::seen::Seen;
 use bc_disk::disk::Device;
+use bc_model::run::Run;
 use bc_model::values::Values;
 use itoa::Buffer;
 use std::alloc::{AllocError, Global};
@@ -39,10 +40,31 @@ fn push_hex(text: &mut Vec<u8>, bytes: &[u8]) -> Result<(), AllocError>
 
 // A number in decimal digits.
 pub(crate) fn push_number(text: &mut Vec<u8>, number: u64) -> Result<(), AllocError>
-    ensures { OnOk result (text.new.items ≡ text.old.items ++ decimal number) }
+    ensures ok { OnOk result (text.new.items ≡ text.old.items ++ decimal number) }
+    ensures err { OnErr result (text.new.items ≡ text.old.items) }
 {
     let mut digits = Buffer::new();
     text.extend_from_slice(digits.format(number).as_bytes())
+}
+
+// So many sectors with the patterns of a stamp.
+fn push_stamp(text: &mut Vec<u8>, stamp: u64, count: u32) -> Result<(), AllocError>
+    ensures ok { OnOk result
+        (text.new.items ≡ text.old.items ++ seen_text (Seen.Stamp stamp) count) }
+    ensures err { OnErr result (IsGrown text.old.items text.new.items) }
+{
+    push_number(text, stamp)?;
+    text.extend_from_slice(b"x")?;
+    push_number(text, u64::from(count))
+}
+
+// So many sectors of zeros.
+fn push_zeros(text: &mut Vec<u8>, count: u32) -> Result<(), AllocError>
+    ensures ok { OnOk result (text.new.items ≡ text.old.items ++ seen_text Seen.Zero count) }
+    ensures err { OnErr result (IsGrown text.old.items text.new.items) }
+{
+    text.extend_from_slice(b"zerox")?;
+    push_number(text, u64::from(count))
 }
 
 /// So many sectors of one run.
@@ -50,15 +72,8 @@ pub(crate) fn push_seen(text: &mut Vec<u8>, seen: &Seen, count: u32) -> Result<(
     ensures { OnOk result (text.new.items ≡ text.old.items ++ seen_text seen.now count) }
 {
     match seen {
-        Seen::Stamp(stamp) => {
-            push_number(text, *stamp)?;
-            text.extend_from_slice(b"x")?;
-            push_number(text, count as u64)
-        }
-        Seen::Zero => {
-            text.extend_from_slice(b"zerox")?;
-            push_number(text, count as u64)
-        }
+        Seen::Stamp(stamp) => push_stamp(text, *stamp, count),
+        Seen::Zero => push_zeros(text, count),
         Seen::Other(value) => {
             text.extend_from_slice(b"raw:")?;
             push_hex(text, value)
@@ -79,6 +94,32 @@ fn runs_of(alloc: Global, first: u64, values: &Values) -> Result<Vec<u8>, AllocE
     last.push_option(next, &runs.last, &mut text)?;
     last.end(&mut text)?;
     Ok(text)
+}
+
+// The runs of the sectors from `first` on, behind these bytes. Where all sectors are of one run, as
+// most lines read, they take no text of their own.
+fn push_runs(first: u64, values: &Values, into: &mut Vec<u8>) -> Result<(), AllocError>
+    requires range { first + length values.now < 2 ^ 64 }
+    ensures ok { OnOk result ((seen : List Seen) × AreSeen first values.now seen
+        × (into.new.items ≡ into.old.items ++ runs_text seen)) }
+    ensures err { OnErr result (IsGrown into.old.items into.new.items) }
+{
+    let runs = values.runs();
+    if let Some(run) = &runs.last
+        && runs.rest.is_empty()
+    {
+        match run {
+            Run::Pattern {
+                stamp,
+                first: own,
+                count,
+            } if *own == first && *count > 0 => return push_stamp(into, *stamp, *count),
+            Run::Zero { count } if *count > 0 => return push_zeros(into, *count),
+            _ => {}
+        }
+    }
+    let text = runs_of(*into.allocator(), first, values)?;
+    into.extend_from_slice(&text)
 }
 
 fn device_of(device: Device) -> &'static [u8]
@@ -159,8 +200,12 @@ pub fn print_answer(answer: &Answer, into: &mut Vec<u8>) -> Result<(), AllocErro
         Answer::Silent => Ok(()),
         Answer::Done => into.extend_from_slice(b"done"),
         Answer::Runs { first, values } => {
-            let text = runs_of(*into.allocator(), *first, values)?;
-            into.extend_from_slice(&text)
+            let before = into.len();
+            if push_runs(*first, values, into).is_err() {
+                into.truncate(before);
+                return Err(AllocError);
+            }
+            Ok(())
         }
         Answer::Refused(refusal) => {
             let text = refusal_of(*into.allocator(), *refusal)?;

@@ -226,6 +226,22 @@ fn runs_are_printed(rt: HostRuntime) -> Result<(), Fail> {
 }
 
 #[test]
+fn single_runs_are_printed(rt: HostRuntime) -> Result<(), Fail> {
+    let alloc = rt.alloc();
+    let mut values = Values::new(alloc);
+    values.push_pattern(7, 0, 3)?;
+    assert!(rt; are_printed(alloc, values, b"7x3"));
+    let mut values = Values::new(alloc);
+    values.push(0, &[0; 512])?;
+    values.push(1, &[0; 512])?;
+    assert!(rt; are_printed(alloc, values, b"zerox2"));
+    let mut values = Values::new(alloc);
+    values.push_pattern(7, 1, 1)?;
+    assert!(rt; !are_printed(alloc, values, b"7x1"));
+    Ok(())
+}
+
+#[test]
 fn other_values_are_printed(rt: HostRuntime) -> Result<(), Fail> {
     let alloc = rt.alloc();
     let mut values = Values::new(alloc);

@@ -54,10 +54,10 @@ module _ {C B : Type 0} (cache_facts : C → DiskFacts) (backing_facts : B → D
     pub by_line : AreServedBy size v.first 1 lines answers v.seen w.seen
     pub calls : CallsBacking deeds
 
-  -- The pass tells the events of a run from the opening state over this device, and the device that is
-  -- left stands for the state that they leave. The answers and the history serve the lines, each line
-  -- by its own deeds, of the one seat that did anything by then, and behind the lines the run was
-  -- closed.
+  -- The pass tells the events of a run from the opening state over this device, and the device that
+  -- is left stands for the state that they leave. The answers and the history serve the lines, each
+  -- line by its own deeds, of the one seat that did anything by then, and behind the lines the run
+  -- was closed.
   pub record HasRun (backing left : BackingPart B) (lines : List Line) (answers : List Answer)
       (how : Closing) (events : List Event) (pass : Pass) : Type 0 where
     pub flight : InFlight

@@ -2,7 +2,7 @@
 ghost use Rattle.std.specs.Prelude.{◌≡◌, ◌<◌, ◌≤◌, ◌^◌, All, [], length, vec_capacity};
 ghost use Rattle.bc_machine.specs.Plain.{worker_of};
 ghost use Rattle.bc_deed.specs.Asked.{size_of};
-ghost use Rattle.bc_job.specs.Asked.{IsFor, IsIdle, IsRange};
+ghost use Rattle.bc_job.specs.Asked.{IsFor, IsIdle, IsRange, IsReady};
 ghost use Rattle.bc_script.specs.Answer.{IsPrintable};
 ghost use Rattle.bc_script.specs.Proper.{IsLine};
 ghost use Rattle.bc_serve.specs.Answered.{HasAnsweredFlush, HasAnsweredLine, HasAnsweredRead, HasAnsweredWrite};
@@ -14,6 +14,7 @@ use bc_job::error::RequestError;
 use bc_job::flush::flush;
 use bc_job::job::Job;
 use bc_job::read::read;
+use bc_job::stock::Stock;
 use bc_job::write::write;
 use bc_machine::machine::{CoreParts, CoreSeat};
 use bc_model::values::Values;
@@ -41,15 +42,16 @@ fn serve_write<C: Disk + Drop, B: Disk + Drop, R: Wait, G: Gate>(
     alloc: Global,
     parts: &CoreParts<C, B>,
     seat: &mut CoreSeat<C, B>,
+    stock: &mut Stock<C, B>,
     job: &Job,
     stamp: u64,
     gate: &G,
 ) -> Answer
-    requires idle { IsIdle C.facts B.facts parts.now seat.old }
+    requires ready { IsReady C.facts B.facts parts.now seat.old stock.old }
     requires range { IsRange job.now }
     requires its { IsFor C.facts B.facts job.now seat.old }
     requires stamp { 1 ≤ stamp }
-    ensures idle { IsIdle C.facts B.facts parts.now seat.new }
+    ensures ready { IsReady C.facts B.facts parts.now seat.new stock.new }
     ensures printable { IsPrintable result }
     ensures serves { HasAnsweredWrite C.facts B.facts job.now stamp result seat.old seat.new }
 {
@@ -60,7 +62,7 @@ fn serve_write<C: Disk + Drop, B: Disk + Drop, R: Wait, G: Gate>(
     let Ok(()) = values.push_pattern(stamp, job.first, job.count) else {
         return Answer::Refused(Refusal::Memory);
     };
-    match write(rt, alloc, parts, seat, job, &values, gate) {
+    match write(rt, alloc, parts, seat, stock, job, &values, gate) {
         Ok(()) => Answer::Done,
         Err(error) => refused(error),
     }
@@ -72,17 +74,18 @@ fn serve_read<C: Disk + Drop, B: Disk + Drop, R: Wait, G: Gate>(
     alloc: Global,
     parts: &CoreParts<C, B>,
     seat: &mut CoreSeat<C, B>,
+    stock: &mut Stock<C, B>,
     job: &Job,
     gate: &G,
 ) -> Answer
-    requires idle { IsIdle C.facts B.facts parts.now seat.old }
+    requires ready { IsReady C.facts B.facts parts.now seat.old stock.old }
     requires range { IsRange job.now }
     requires its { IsFor C.facts B.facts job.now seat.old }
-    ensures idle { IsIdle C.facts B.facts parts.now seat.new }
+    ensures ready { IsReady C.facts B.facts parts.now seat.new stock.new }
     ensures printable { IsPrintable result }
     ensures serves { HasAnsweredRead C.facts B.facts job.now result seat.old seat.new }
 {
-    match read(rt, alloc, parts, seat, job, gate) {
+    match read(rt, alloc, parts, seat, stock, job, gate) {
         Ok(values) => Answer::Runs {
             first: job.first,
             values,
@@ -96,16 +99,17 @@ fn serve_flush<C: Disk + Drop, B: Disk + Drop, R: Wait, G: Gate>(
     rt: &R,
     parts: &CoreParts<C, B>,
     seat: &mut CoreSeat<C, B>,
+    stock: &mut Stock<C, B>,
     job: &Job,
     gate: &G,
 ) -> Answer
-    requires idle { IsIdle C.facts B.facts parts.now seat.old }
+    requires ready { IsReady C.facts B.facts parts.now seat.old stock.old }
     requires its { IsFor C.facts B.facts job.now seat.old }
-    ensures idle { IsIdle C.facts B.facts parts.now seat.new }
+    ensures ready { IsReady C.facts B.facts parts.now seat.new stock.new }
     ensures printable { IsPrintable result }
     ensures serves { HasAnsweredFlush C.facts B.facts job.now result seat.old seat.new }
 {
-    match flush(rt, parts, seat, job, gate) {
+    match flush(rt, parts, seat, stock, job, gate) {
         Ok(()) => Answer::Done,
         Err(error) => refused(error),
     }
@@ -117,16 +121,17 @@ fn serve_line<C: Disk + Drop, B: Disk + Drop, R: Wait, G: Gate>(
     alloc: Global,
     parts: &CoreParts<C, B>,
     seat: &mut CoreSeat<C, B>,
+    stock: &mut Stock<C, B>,
     size: u64,
     number: u32,
     line: Line,
     gate: &G,
 ) -> Answer
-    requires idle { IsIdle C.facts B.facts parts.now seat.old }
+    requires ready { IsReady C.facts B.facts parts.now seat.old stock.old }
     requires size { size ≡ size_of C.facts B.facts seat.old.run.start }
     requires worker { worker_of seat.old.first ≡ 1 }
     requires line { IsLine line }
-    ensures idle { IsIdle C.facts B.facts parts.now seat.new }
+    ensures ready { IsReady C.facts B.facts parts.now seat.new stock.new }
     ensures printable { IsPrintable result }
     ensures serves { HasAnsweredLine C.facts B.facts size number line result seat.old seat.new }
 {
@@ -149,7 +154,7 @@ fn serve_line<C: Disk + Drop, B: Disk + Drop, R: Wait, G: Gate>(
         } => {
             job.first = first;
             job.count = count;
-            serve_write(rt, alloc, parts, seat, &job, stamp, gate)
+            serve_write(rt, alloc, parts, seat, stock, &job, stamp, gate)
         }
         Action::ForcedWrite {
             first,
@@ -159,14 +164,14 @@ fn serve_line<C: Disk + Drop, B: Disk + Drop, R: Wait, G: Gate>(
             job.first = first;
             job.count = count;
             job.force = true;
-            serve_write(rt, alloc, parts, seat, &job, stamp, gate)
+            serve_write(rt, alloc, parts, seat, stock, &job, stamp, gate)
         }
         Action::Read { first, count } => {
             job.first = first;
             job.count = count;
-            serve_read(rt, alloc, parts, seat, &job, gate)
+            serve_read(rt, alloc, parts, seat, stock, &job, gate)
         }
-        Action::Flush => serve_flush(rt, parts, seat, &job, gate),
+        Action::Flush => serve_flush(rt, parts, seat, stock, &job, gate),
         // Without a cache there is nothing that a round could do.
         Action::Round(_) => Answer::Done,
     }
@@ -193,10 +198,14 @@ pub fn serve_lines<C: Disk + Drop, B: Disk + Drop, R: Wait, G: Gate>(
     requires room { length lines.now ≤ vec_capacity answers.old }
     ensures idle { IsIdle C.facts B.facts parts.now seat.new }
     ensures printable { All IsPrintable answers.new.items }
-    ensures served { HaveAnswered C.facts B.facts size lines.now answers.new.items seat.old seat.new }
+    ensures served { HaveAnswered C.facts B.facts size lines.now answers.new.items
+        seat.old seat.new }
 {
+    let mut stock = Stock::empty();
     for (index, line) in lines.iter().enumerate() {
         let number = index as u32 + 1;
-        answers.push_reserved(serve_line(rt, alloc, parts, seat, size, number, *line, gate));
+        answers.push_reserved(serve_line(
+            rt, alloc, parts, seat, &mut stock, size, number, *line, gate,
+        ));
     }
 }

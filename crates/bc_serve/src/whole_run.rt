@@ -34,8 +34,9 @@ pub struct Outcome<B> {
     pub closing: Closing,
 }
 
-/// Serves the lines of a trace over a device of which a crash would leave exactly what it holds now,
-/// and closes the run. `Err` comes from want of memory to begin, and hands the device back as it was.
+/// Serves the lines of a trace over a device of which a crash would leave exactly what it holds
+/// now, and closes the run. `Err` comes from want of memory to begin, and hands the device back as
+/// it was.
 pub fn run_trace<C: Disk + Drop, B: Disk + Drop, R: Wait, G: Gate>(
     rt: &R,
     alloc: Global,

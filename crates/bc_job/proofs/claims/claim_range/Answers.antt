@@ -1,4 +1,4 @@
-use Rattle.std.proofs.Common.{refl, ap, ◌∙◌}
+use Rattle.std.proofs.Common.{refl, ap, ◌∙◌, arith}
 use Rattle.bc_hand.proofs.Knowing.{note_waited}
 use Rattle.bc_job.proofs.Holding.{still_empty}
 use Rattle.bc_job.proofs.Sequence.{none_yet, still_waiting, made_claim, has_claimed, has_waited}
@@ -41,3 +41,17 @@ returns-in-Err-clause-err g c = (
   ap (λ r. r.count) (note_waited g.C.Disk.facts g.B.Disk.facts c.loop.seat c.claim.new.seat
       c.loop.invariant.0.seat c.in-Err.ensures.err.1.is).range ∙ c.loop.invariant.4,
 )
+
+pub returns-in-Ok-true-clause-left : goal.returns-in-Ok-true-clause-left
+returns-in-Ok-true-clause-left g c =
+    let did = has_claimed g.C.Disk.facts g.B.Disk.facts c.in-Ok-true.field-0 c.loop.seat c.claim.new.seat
+    c.args.first c.args.count c.args.share c.in-Ok-true.field-0-test c.in-Ok-true.ensures.ok in
+    let used = did.is.promises in
+    let room = c.loop.invariant.3 in
+    omega arith
+
+pub returns-in-Err-clause-left : goal.returns-in-Err-clause-left
+returns-in-Err-clause-left g c =
+    let used = c.in-Err.ensures.err.1.is.promises in
+    let room = c.loop.invariant.3 in
+    omega arith

@@ -8,7 +8,7 @@ use Rattle.bc_job.proofs.read.read.Goals as goal
 
 pub returns-in_default-clause-err : goal.returns-in_default-clause-err
 returns-in_default-clause-err g c = read_short g.C.Disk.facts g.B.Disk.facts c.args.seat.now c.args.job.now
-    c.requires.idle.works.seat
+    c.requires.ready.works.seat
     (ltb-false c.args.job.now.size (c.args.job.now.first + c.args.job.now.count)
     (sym c.is_outside.ensures ∙ c.if-is_outside.false)) c.requires.range.some
 

@@ -37,7 +37,7 @@ pub loop-number-init : goal.loop-number-init
 loop-number-init g c =
     let start : 0 ≡ c.first_piece-number.result - c.args.job.now.first / 256 =
     let is = c.first_piece-number.ensures in omega arith in (
-      c.requires.idle,
+      c.requires.ready,
       c.requires.length,
       (
         [],
@@ -50,7 +50,7 @@ loop-number-init g c =
             (subst (λ n. AreReadDeeds (line_of c.args.job.now)
             (pieces_from c.args.job.now.first c.args.job.now.count (c.args.job.now.first / 256) n) [] [])
             start (refl, refl)),
-        done_none g.C.Disk.facts g.B.Disk.facts c.args.seat.now c.requires.idle.works.seat,
+        done_none g.C.Disk.facts g.B.Disk.facts c.args.seat.now c.requires.ready.works.seat,
       ),
       ap (λ n. sectors n c.args.bytes.now)
           (none_done c.args.job.now.first c.args.job.now.count c.first_piece-number.result
@@ -93,7 +93,7 @@ loop-number-preserved g c =
     (now_.1 ∙ c.piece-piece.ensures.count) in
     let more = one_more job.first job.count number (omega arith) in
     let these : List Deed = read_deeds (line_of job) p.first p.count own in (
-      c.read_at.ensures.idle,
+      c.read_at.ensures.ready,
       c.read_at.auto.bytes ∙ c.loop-number.invariant.1,
       (
         before.0 ++ these,

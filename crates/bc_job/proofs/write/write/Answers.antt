@@ -12,11 +12,11 @@ use Rattle.bc_job.proofs.write.write.Goals as goal
 
 pub loop-number-init : goal.loop-number-init
 loop-number-init g c = let job = c.args.job.now in (
-  c.requires.idle,
+  c.requires.ready,
   subst (λ n. HasDone g.C.Disk.facts g.B.Disk.facts (writes_deeds job.force (line_of job) job.first c.args.values.now
       (pieces_from job.first job.count (job.first / 256) n)) c.args.seat.now c.args.seat.now)
       (at_start c.first_piece-number.result (job.first / 256) c.first_piece-number.ensures)
-      (done_none g.C.Disk.facts g.B.Disk.facts c.args.seat.now c.requires.idle.works.seat),
+      (done_none g.C.Disk.facts g.B.Disk.facts c.args.seat.now c.requires.ready.works.seat),
 )
 
 -- the values of a piece
@@ -54,7 +54,7 @@ loop-number-preserved g c =
     c.piece-piece.result.count c.piece-piece.ensures.first c.piece-piece.ensures.count in
     let more = writes_more job.force (line_of job) job.first job.count c.loop-number.number
     c.piece-piece.result.first c.args.values.now own (omega arith) c.piece-piece.ensures.first part in (
-      c.write_at.ensures.idle,
+      c.write_at.ensures.ready,
       subst (λ (ds : List Deed). HasDone g.C.Disk.facts g.B.Disk.facts ds c.args.seat.now c.write_at.new.seat)
           (sym more)
           (done_both g.C.Disk.facts g.B.Disk.facts _ _ c.args.seat.now c.loop-number.seat c.write_at.new.seat

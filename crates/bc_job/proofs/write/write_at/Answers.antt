@@ -13,4 +13,4 @@ whole first at count n values long all low high =
 
 pub returns-in_default-clause-err : goal.returns-in_default-clause-err
 returns-in_default-clause-err g c =
-    (tt, ([], inl refl, done_none g.C.Disk.facts g.B.Disk.facts c.args.seat.now c.requires.idle.works.seat))
+    (tt, ([], inl refl, done_none g.C.Disk.facts g.B.Disk.facts c.args.seat.now c.requires.ready.works.seat))

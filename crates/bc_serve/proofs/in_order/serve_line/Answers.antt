@@ -10,7 +10,7 @@ use Rattle.bc_serve.proofs.in_order.serve_line.Goals as goal
 pub returns-in_default-clause-serves : goal.returns-in_default-clause-serves
 returns-in_default-clause-serves g c = record {
   deeds = [];
-  done = done_none g.C.Disk.facts g.B.Disk.facts c.args.seat.now c.requires.idle.works.seat;
+  done = done_none g.C.Disk.facts g.B.Disk.facts c.args.seat.now c.requires.ready.works.seat;
   did = subst (λ (l : Line). AreDeedsFor c.args.size c.args.number l Silent []) (sym c.in_default.is) refl;
   serves = subst (λ (l : Line). ServesLine c.args.size c.args.number l Silent []) (sym c.in_default.is) (refl, refl);
   caused = refl;
@@ -20,7 +20,7 @@ returns-in_default-clause-serves g c = record {
 pub returns-in-Round-clause-serves : goal.returns-in-Round-clause-serves
 returns-in-Round-clause-serves g c = record {
   deeds = [];
-  done = done_none g.C.Disk.facts g.B.Disk.facts c.args.seat.now c.requires.idle.works.seat;
+  done = done_none g.C.Disk.facts g.B.Disk.facts c.args.seat.now c.requires.ready.works.seat;
   did = subst (λ (l : Line). AreDeedsFor c.args.size c.args.number l Done []) (sym c.in-Request.is)
       (subst (λ (a : Action). AreActionDeeds c.args.size
       (record { worker = c.in-Request.worker; line = c.args.number }) a Done []) (sym c.in-Round.is) refl);

@@ -3,6 +3,7 @@ use Rattle.std.specs.Prelude.{All}
 use Rattle.std.proofs.lemmas.List.{length-take-le}
 use Rattle.std.proofs.lemmas.List.Elements.{All-nil, All-push}
 use Rattle.std.proofs.Math.Seq.{take-suc}
+use Rattle.bc_job.proofs.Ready.{idle_of, ready_begin}
 use Rattle.bc_script.specs.Answer.{IsPrintable}
 use Rattle.bc_script.specs.declared.answer.Answer.{Answer}
 use Rattle.bc_script.specs.declared.line.Line.{Line}
@@ -13,7 +14,8 @@ use Rattle.bc_serve.proofs.in_order.serve_lines.Goals as goal
 
 pub loop-index-init : goal.loop-index-init
 loop-index-init g c = (
-  c.requires.idle,
+  ready_begin g.C.Disk.facts g.B.Disk.facts c.args.parts.now c.args.seat.now c.empty-stock.result
+      c.empty-stock.ensures.hand c.empty-stock.ensures.room c.requires.idle,
   c.requires.room,
   ap (λ (answers : List Answer). length answers) c.requires.none,
   subst (All IsPrintable) (sym c.requires.none) (All-nil IsPrintable),
@@ -21,6 +23,10 @@ loop-index-init g c = (
       c.args.seat.now c.args.seat.now) (sym c.requires.none)
       (none_answered g.C.Disk.facts g.B.Disk.facts c.args.size c.args.seat.now c.requires.idle.works.seat),
 )
+
+pub returns-clause-idle : goal.returns-clause-idle
+returns-clause-idle g c = idle_of g.C.Disk.facts g.B.Disk.facts c.args.parts.now c.loop-index.seat
+    c.loop-index.stock c.loop-index.invariant.0
 
 pub loop-index-preserved : goal.loop-index-preserved
 loop-index-preserved g c =
@@ -36,7 +42,7 @@ loop-index-preserved g c =
     let served = more_answered g.C.Disk.facts g.B.Disk.facts c.args.size (i + 1) (take i lines)
     c.loop-index.answers.items line c.serve_line.result c.args.seat.now c.loop-index.seat c.serve_line.new.seat
     number h.4 c.serve_line.ensures.serves in (
-      c.serve_line.ensures.idle,
+      c.serve_line.ensures.ready,
       omega (arith, c.push_reserved.ensures.capacity, h.1),
       ap (λ (answers : List Answer). length answers) c.push_reserved.ensures.items
           ∙ length-append c.loop-index.answers.items (c.serve_line.result ∷ []) ∙ ap (λ n. n + 1) h.2,

@@ -1,13 +1,13 @@
 use Rattle.std.proofs.Common.{◌≡◌, ◌≤◌, length, take}
 use Rattle.std.specs.Prelude.{All, vec_capacity}
-use Rattle.bc_job.specs.Asked.{IsIdle}
+use Rattle.bc_job.specs.Asked.{IsReady}
 use Rattle.bc_script.specs.Answer.{IsPrintable}
 use Rattle.bc_serve.specs.Run.{HaveAnswered}
 use Rattle.bc_serve.proofs.in_order.serve_lines.Given as goal
 
 -- the lines so far are served
 abbrev pub invariant-loop-index : goal.invariant-loop-index
-invariant-loop-index g l = IsIdle g.C.Disk.facts g.B.Disk.facts l.parts l.seat
+invariant-loop-index g l = IsReady g.C.Disk.facts g.B.Disk.facts l.parts l.seat l.stock
     × (length l.lines ≤ vec_capacity l.answers) × (length l.answers.items ≡ l.index)
     × All IsPrintable l.answers.items
     × HaveAnswered g.C.Disk.facts g.B.Disk.facts l.size (take l.index l.lines) l.answers.items l.initial.seat l.seat

@@ -12,4 +12,4 @@ pub returns-in-Err-clause-serves : goal.returns-in-Err-clause-serves
 returns-in-Err-clause-serves g c = subst (λ (a : Answer). HasAnsweredRead g.C.Disk.facts g.B.Disk.facts c.args.job.now a
     c.args.seat.now c.read.new.seat) (sym c.refused.ensures)
     (read_refused g.C.Disk.facts g.B.Disk.facts c.args.seat.now c.read.new.seat c.args.job.now c.in-Err.error
-    c.requires.idle.works.seat c.in-Err.ensures.err)
+    c.requires.ready.works.seat c.in-Err.ensures.err)

@@ -10,13 +10,13 @@ use Rattle.bc_serve.proofs.in_order.serve_write.Goals as goal
 
 pub returns-then-is_outside-clause-serves : goal.returns-then-is_outside-clause-serves
 returns-then-is_outside-clause-serves g c = outside_writing g.C.Disk.facts g.B.Disk.facts c.args.seat.now
-    c.args.job.now c.args.stamp c.requires.idle.works.seat
+    c.args.job.now c.args.stamp c.requires.ready.works.seat
     (ltb-true c.args.job.now.size (c.args.job.now.first + c.args.job.now.count)
     (sym c.is_outside.ensures ∙ c.if-is_outside.true))
 
 pub returns-in_default-clause-serves : goal.returns-in_default-clause-serves
 returns-in_default-clause-serves g c = write_short g.C.Disk.facts g.B.Disk.facts c.args.seat.now c.args.job.now
-    c.args.stamp c.requires.idle.works.seat
+    c.args.stamp c.requires.ready.works.seat
     (ltb-false c.args.job.now.size (c.args.job.now.first + c.args.job.now.count)
     (sym c.is_outside.ensures ∙ c.if-is_outside.false)) c.requires.range.some
 
@@ -34,5 +34,5 @@ pub returns-clause-serves : goal.returns-clause-serves
 returns-clause-serves g c = subst (λ (a : Answer). HasAnsweredWrite g.C.Disk.facts g.B.Disk.facts c.args.job.now
     c.args.stamp a c.args.seat.now c.write.new.seat) (sym c.refused.ensures)
     (write_refused g.C.Disk.facts g.B.Disk.facts c.args.seat.now c.write.new.seat c.args.job.now c.args.stamp
-    c.push_pattern.new.self c.in-Err.error c.requires.idle.works.seat (c.in-Ok.ensures.ok ∙ ap (λ (vs : List Value). vs ++ patterns c.args.stamp c.args.job.now.first
+    c.push_pattern.new.self c.in-Err.error c.requires.ready.works.seat (c.in-Ok.ensures.ok ∙ ap (λ (vs : List Value). vs ++ patterns c.args.stamp c.args.job.now.first
     c.args.job.now.count) c.new-values.ensures) c.in-Err.ensures.err)
