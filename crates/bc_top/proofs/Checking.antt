@@ -1,5 +1,5 @@
 -- What the status of a check tells.
-use Rattle.std.proofs.Common.{◌≡◌, ◌⊎◌, inl, inr, ℕ, sym, subst, arith}
+use Rattle.std.proofs.Common.{◌≡◌, ◌⊎◌, inl, inr, sym, subst}
 use Rattle.std.specs.Prelude.{Result, Ok, Err, IfErr}
 use Rattle.bc_disk.specs.Device.{HasRisen}
 use Rattle.bc_disk.specs.Disk.{DiskFacts}

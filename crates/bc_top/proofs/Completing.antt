@@ -20,7 +20,6 @@ use Rattle.bc_super.proofs.Told.{same_bytes, super_before}
 use Rattle.bc_super.specs.Division.{IsPassThrough}
 use Rattle.bc_replay.specs.declared.error.OpenError.{OpenError}
 use Rattle.bc_replay.specs.declared.error.OpenError.TheVariants as opening
-use Rattle.bc_output.specs.declared.status.Status.{Status}
 use Rattle.bc_output.specs.declared.status.Status.TheVariants as statuses
 use Rattle.bc_top.specs.Opened.{IsLoneCause, IsOpeningCause, IsPairCause, IsSameDevice, AsksForNone}
 use Rattle.bc_top.specs.Stops.{open_stop, status_of, trace_stop}

@@ -12,9 +12,7 @@ use Rattle.bc_entered.specs.Laws.{IsSameImage}
 use Rattle.bc_image.specs.Pair.{Pair}
 use Rattle.bc_image.specs.Sound.{ServesAlone}
 use Rattle.bc_open.specs.Left.{IsStill, LeavesThePair, ShowsOn}
-use Rattle.bc_open.specs.Open.{IsAsBefore, IsOpenStop}
 use Rattle.bc_open.proofs.Odd.{needs_first}
-use Rattle.bc_output.specs.Message.{message_text}
 use Rattle.bc_output.specs.declared.status.Status.{Status}
 use Rattle.bc_output.specs.declared.status.Status.TheVariants as statuses
 use Rattle.bc_pair.specs.Found.{pair_of}
@@ -29,13 +27,13 @@ use Rattle.bc_replay.proofs.Once.{never_both}
 use Rattle.bc_replay.proofs.Pairs.{of_both}
 use Rattle.bc_script.specs.Trace.{IsWhole}
 use Rattle.bc_script.specs.declared.line.Line.{Line}
+use Rattle.bc_session.specs.Idle.{IsIdleStop, IsUnwritten}
 use Rattle.bc_super.specs.Division.{IsPassThrough}
 use Rattle.bc_super.specs.declared.backing.BackingSuper.{BackingSuper}
 use Rattle.bc_super.proofs.Told.{reads_after, reads_before}
-use Rattle.bc_top.specs.Ended.{IsPutOf}
-use Rattle.bc_top.specs.Idle.{EndsOpening, IsTested}
+use Rattle.bc_top.specs.Idle.{EndsOpening, IsTested, left_with}
 use Rattle.bc_top.specs.Opened.{AreQuiet, AreStill, AsksForNone, IsOpened, IsReadAgain, IsSameDevice, SameImage, StandsStill}
-use Rattle.bc_top.specs.Stops.{IsRefusal, message_of, open_stop, status_of}
+use Rattle.bc_top.specs.Stops.{IsRefusal, open_stop, status_of}
 use Rattle.bc_top.specs.Top.{AnswersPair, AreSame, AskNothing, AskSomething, EndsAnswering, NeedsFirst, OneHasRisen}
 use Rattle.bc_top.specs.Ready.{IsCached}
 use Rattle.bc_top.specs.declared.serve.Opening.{Opening}
@@ -174,14 +172,16 @@ module _ {C B : Type 0} (cache_facts : C → DiskFacts) (facts : B → DiskFacts
     | inr failed ↦ never_sink failed.0 (sym failed.2 ∙ eight)
   ]
 
-  as_before : IsAsBefore facts s 5 d d' backing backing'
-      → AreSame d d' (facts backing) (facts backing')
-  as_before is = (
-    same_kept d d' is.0.kept,
-    subst (λ (x : B). IsSameDevice (facts backing) (facts x)) (sym is.1) (same_self (facts backing)),
+  as_before : (e : OpenError) → IsUnwritten cache_facts facts s cache backing
+      (left_with e cache' backing') → AreSame d d' (facts backing) (facts backing')
+  as_before e is = (
+    same_kept d d' is.kept,
+    subst (λ (x : B). IsSameDevice (facts backing) (facts x)) (sym is.backing_same)
+        (same_self (facts backing)),
   )
 
-  stop_same : (e : OpenError) → IsOpenStop facts s 5 d d' backing backing' e
+  stop_same : (e : OpenError)
+      → IsIdleStop cache_facts facts s cache backing (left_with e cache' backing') e
       → IsRefusal (status_of (open_stop e)) → AreSame d d' (facts backing) (facts backing')
   stop_same (errors.Fault device.Cache) stop refused =
       absurd (not_refusal statuses.Device (inr (inl refl)) refused)
@@ -189,8 +189,8 @@ module _ {C B : Type 0} (cache_facts : C → DiskFacts) (facts : B → DiskFacts
       absurd (not_refusal statuses.Device (inr (inl refl)) refused)
   stop_same errors.Memory stop refused =
       absurd (not_refusal statuses.Memory (inr (inr refl)) refused)
-  stop_same (errors.JournalEnd seq) stop refused = as_before stop.1
-  stop_same e stop refused = as_before stop.1
+  stop_same (errors.JournalEnd seq) stop refused = as_before (errors.JournalEnd seq) stop.1
+  stop_same e stop refused = as_before e stop.1
 
   pub unwritten : IsRefusal status → AreSame d d' (facts backing) (facts backing')
   unwritten refused = elim ends [
@@ -198,7 +198,8 @@ module _ {C B : Type 0} (cache_facts : C → DiskFacts) (facts : B → DiskFacts
     | inr failed ↦ stop_same failed.0 failed.1 (subst IsRefusal failed.2 refused)
   ]
 
-  stop_rose : (e : OpenError) → IsOpenStop facts s 5 d d' backing backing' e
+  stop_rose : (e : OpenError)
+      → IsIdleStop cache_facts facts s cache backing (left_with e cache' backing') e
       → status_of (open_stop e) ≡ statuses.Device
       → OneHasRisen d d' (facts backing) (facts backing')
   stop_rose (errors.Fault device.Cache) stop six = inl (next_risen d.faults d'.faults stop.0)
@@ -304,7 +305,7 @@ module _ {C B : Type 0} (cache_facts : C → DiskFacts) (facts : B → DiskFacts
           Answers lines = EndsAnswering pair lines status old new
 
           failed : (lines : List Line) → AskNothing lines → (e : OpenError)
-              → IsOpenStop facts s 5 tested_cache cache' tested_backing backing' e
+              → IsIdleStop cache_facts facts s tested tested_backing (left_with e left backing') e
               → status ≡ status_of (open_stop e) → Answers lines
           failed lines nothing (errors.Fault device.Cache) stop at = absurd (never_rose (inl
               (subst (λ n. HasRisen n cache'.faults) is.quiet.0

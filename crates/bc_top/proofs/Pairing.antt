@@ -1,5 +1,5 @@
 -- What the status of a command on a pair tells.
-use Rattle.std.proofs.Common.{◌≡◌, ◌≢◌, ◌⊎◌, inl, inr, ℕ, Option, Some, None, refl, sym, subst, arith}
+use Rattle.std.proofs.Common.{◌≡◌, ◌≢◌, ◌⊎◌, inl, inr, ℕ, Option, Some, None, refl, sym, subst}
 use Rattle.std.specs.Prelude.{Result, Ok, Err, IfErr, String}
 use Rattle.std.specs.declared.alloc.Global.{Global}
 use Rattle.bc_model.specs.Sector.{Image}

@@ -3,8 +3,7 @@ use Rattle.std.proofs.Common.{◌≡◌, ◌≢◌, inl, inr, ℕ, ◌<◌, ◌�
 use Rattle.std.specs.Prelude.{Ok, Err, option_map}
 use Rattle.bc_model.specs.Sector.{Image}
 use Rattle.bc_disk.specs.Device.{HasRisen, next_count, quiet}
-use Rattle.bc_disk.specs.Stands.{settled_model}
-use Rattle.bc_disk.specs.Disk.{Allows, DiskFacts, BothTold, IfTold, IsCounted, IsKept, IsSettled, StandsFor}
+use Rattle.bc_disk.specs.Disk.{Allows, DiskFacts, BothTold, IfTold, IsCounted, IsKept, IsSettled}
 use Rattle.bc_disk.specs.declared.disk.Device.TheVariants as device
 use Rattle.bc_disk.specs.declared.disk.Failed.{Failed}
 use Rattle.bc_super.specs.Reading.{IsCause, ReadsSuper, call_of}

@@ -72,8 +72,8 @@ module _ {C B : Type 0} (cache_facts : C → DiskFacts) (backing_facts : B → D
       → (HasStopped old new → ⊥)
       → (it.status ≡ statuses.Done) ⊎ (it.status ≡ statuses.Memory)
 
-  -- A pair that needs its cache is answered by its first refusal, or that it isn't served, or, where
-  -- the trace asks for nothing, it is opened and closed.
+  -- A pair that needs its cache is answered by its first refusal, or that it isn't served, or,
+  -- where the trace asks for nothing, it is opened and closed.
   abbrev pub IsJudged : StreamFacts → StreamFacts → StreamFacts → StreamFacts → Type 0
   IsJudged source left old new = AnswersPair source left (cache_facts cache) (cache_facts it.cache)
       (backing_facts backing) (backing_facts it.backing) it.status old new
@@ -86,8 +86,8 @@ module _ {C B : Type 0} (cache_facts : C → DiskFacts) (backing_facts : B → D
       ⊎ (it.status ≡ statuses.Superblock) ⊎ (it.status ≡ statuses.Memory))
       ⊎ ((it.status ≡ statuses.Image) × IsCheck words)
 
-  -- What every command promises: what it refuses it refuses before anything is written, and a status
-  -- that names a device, the source or the sink has its cause there.
+  -- What every command promises: what it refuses it refuses before anything is written, and a
+  -- status that names a device, the source or the sink has its cause there.
   pub record HasCause (source left old new : StreamFacts) : Type 0 where
     pub unwritten : KeepsWhatItRefuses
     pub by_device : it.status ≡ statuses.Device → DeviceRose
@@ -99,7 +99,8 @@ module _ {C B : Type 0} (cache_facts : C → DiskFacts) (backing_facts : B → D
     -- a run is one over the backing device alone: the cache device isn't touched
     pub untouched : IfSome it.pass (λ _. it.cache ≡ cache)
     -- Where no run began the status has its cause, the message was put, and no sector was written;
-    -- or a pair with a cache was opened and closed, and whatever a crash leaves shows what it showed.
+    -- or a pair with a cache was opened and closed, and whatever a crash leaves shows what it
+    -- showed.
     pub stopped : HasNotBegun source left old new
     -- The pass is that of a run whose answers serve the trace, and which give the status, the lines
     -- and the message; whatever a crash leaves shows for each sector a value no older than the last

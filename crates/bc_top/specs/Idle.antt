@@ -1,10 +1,9 @@
 -- A trace that asks for nothing, over a pair with a cache: it is opened and closed.
-use Rattle.std.specs.Prelude.{◌≡◌, ◌⊎◌, ◌*◌, ◌≤◌}
+use Rattle.std.specs.Prelude.{◌≡◌, ◌⊎◌, ◌*◌, ◌≤◌, Err}
 use Rattle.bc_disk.specs.Disk.{DiskFacts}
 use Rattle.bc_disk.specs.Stream.{StreamFacts}
 use Rattle.bc_open.specs.Idle.{HasIdled}
 use Rattle.bc_open.specs.Left.{ShowsOn}
-use Rattle.bc_open.specs.Open.{IsOpenStop}
 use Rattle.bc_output.specs.Message.{message_text}
 use Rattle.bc_output.specs.declared.status.Status.{Status}
 use Rattle.bc_output.specs.declared.status.Status.TheVariants as statuses
@@ -13,6 +12,8 @@ use Rattle.bc_replay.specs.Causes.{OfHeld}
 use Rattle.bc_replay.specs.Survey.{CanBeOpened}
 use Rattle.bc_replay.specs.declared.error.OpenError.{OpenError}
 use Rattle.bc_replay.specs.declared.held.Survey.{Survey}
+use Rattle.bc_session.specs.Idle.{IsIdleStop}
+use Rattle.bc_session.specs.declared.idle.Idled.{Idled}
 use Rattle.bc_super.specs.Division.{IsPassThrough}
 use Rattle.bc_super.specs.Reading.{ReadsSuper}
 use Rattle.bc_super.specs.declared.backing.BackingSuper.{BackingSuper}
@@ -29,7 +30,8 @@ pub record IsTested (b : BackingSuper) (s : Survey) (cache cache' backing backin
   pub asks : IsPassThrough b → ⊥
   pub can : OfHeld CanBeOpened cache backing
   pub quiet : AreQuiet cache cache' backing backing'
-  pub again : IsReadAgain cache cache' backing backing' (opening_calls cache cache' backing backing')
+  pub again : IsReadAgain cache cache' backing backing'
+      (opening_calls cache cache' backing backing')
   pub still : AreStill cache' backing'
   pub cache_same : IsSameDevice cache cache'
   pub backing_same : IsSameDevice backing backing'
@@ -38,6 +40,11 @@ pub record IsTested (b : BackingSuper) (s : Survey) (cache cache' backing backin
   pub room : s.supers.geometry.bucket * s.supers.geometry.nbuckets ≤ cache'.sectors
   pub read : OfHeld (IsReadOf s) cache' backing'
 
+-- what a pair that wasn't opened and closed leaves
+abbrev pub left_with : {C B : Type 0} → OpenError → C → B → Idled C B
+left_with error cache backing =
+    record { cache = cache; backing = backing; result = Err error }
+
 module _ {C B : Type 0} (cache_facts : C → DiskFacts) (facts : B → DiskFacts) (b : BackingSuper)
     (s : Survey) (cache cache' : C) (backing backing' : B) where
   -- it was opened and closed, and nothing was put; or this is why not, and the message was put
@@ -45,13 +52,14 @@ module _ {C B : Type 0} (cache_facts : C → DiskFacts) (facts : B → DiskFacts
   EndsOpening status old new =
       ((status ≡ statuses.Done) × (new ≡ old)
       × HasIdled cache_facts s b cache cache' (facts backing) (facts backing'))
-      ⊎ ((error : OpenError) × IsOpenStop facts s 5 (cache_facts cache) (cache_facts cache') backing
-      backing' error
+      ⊎ ((error : OpenError)
+      × IsIdleStop cache_facts facts s cache backing (left_with error cache' backing') error
       × (status ≡ status_of (open_stop error))
       × IsPutOf (message_text (message_of (open_stop error))) old new)
 
--- The trace was read and asks for nothing, the pair was tested, and then it was opened and closed, or
--- not. Whatever a crash leaves is a sound pair that shows what the pair showed, where that was sound.
+-- The trace was read and asks for nothing, the pair was tested, and then it was opened and closed,
+-- or not. Whatever a crash leaves is a sound pair that shows what the pair showed, where that was
+-- sound.
 pub record HasOpened {C B : Type 0} (cache_facts : C → DiskFacts) (facts : B → DiskFacts)
     (status : Status) (source left : StreamFacts) (cache cache' : C) (backing backing' : B)
     (old new : StreamFacts) : Type 0 where

@@ -1,5 +1,5 @@
 -- What the commands that make and show a pair leave.
-use Rattle.std.specs.Prelude.{◌≡◌, ◌⊎◌, ℕ, Bool, Result, Ok, Err, OnOk, IfOk, IfErr, String, string_bytes}
+use Rattle.std.specs.Prelude.{◌≡◌, ◌⊎◌, Bool, Result, Ok, Err, OnOk, IfOk, IfErr, String, string_bytes}
 use Rattle.std.specs.declared.alloc.Global.{Global}
 use Rattle.bc_disk.specs.Disk.{DiskFacts, IsCounted}
 use Rattle.bc_disk.specs.Stream.{StreamFacts}
@@ -11,7 +11,6 @@ use Rattle.bc_output.specs.declared.put.WriteFault.{WriteFault}
 use Rattle.bc_pair.specs.Causes.{AdoptLeaves, Adopts, AreKept, BackingFirst, FaultRose, Formats, IsAdoptCause, IsFormatCause, IsShowCause, KeepsOthers, UnlessFault, good}
 use Rattle.bc_pair.specs.Found.{FindsAdopted, FindsNew}
 use Rattle.bc_pair.specs.declared.error.PairError.{PairError}
-use Rattle.bc_pair.specs.declared.error.PairError.TheVariants as errors
 use Rattle.bc_pair.specs.declared.pair.NewPair.{NewPair}
 use Rattle.bc_check.specs.Calls.{BothKept, CountsFault, EndsAlone, EndsAtSuper, NoneFailed}
 use Rattle.bc_check.specs.Text.{Reports}
@@ -21,13 +20,11 @@ use Rattle.bc_check.specs.declared.verdict.CheckError.{CheckError}
 use Rattle.bc_replay.specs.Causes.{OfHeld}
 use Rattle.bc_super.specs.Reading.{ReadsCache, ReadsSuper}
 use Rattle.bc_super.specs.Show.{IsShown}
-use Rattle.bc_super.specs.Super.{data_sectors, number_of}
+use Rattle.bc_super.specs.Super.{data_sectors}
 use Rattle.bc_super.specs.declared.backing.BackingSuper.{BackingSuper}
 use Rattle.bc_super.specs.declared.cache.CacheSuper.{CacheSuper}
 use Rattle.bc_top.specs.Ended.{IsPutOf}
 use Rattle.bc_top.specs.Stops.{check_stop, message_of, pair_stop, status_of, verdict_status}
-use Rattle.bc_top.specs.declared.stop.Stop.{Stop}
-use Rattle.bc_top.specs.declared.stop.Stop.TheVariants as stop
 
 -- ---- how they end
 

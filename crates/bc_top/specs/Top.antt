@@ -150,6 +150,7 @@ EndsAnswering p lines status old new = (status ≡ statuses.Memory)
 -- devices hold is so answered, if it isn't served by the backing device alone.
 abbrev pub AnswersPair : StreamFacts → StreamFacts → DiskFacts → DiskFacts → DiskFacts → DiskFacts
     → Status → StreamFacts → StreamFacts → Type 0
-AnswersPair source left cache cache' backing backing' status old new = (spelled : SpellsTrace source)
+AnswersPair source left cache cache' backing backing' status old new =
+    (spelled : SpellsTrace source)
     → (HasRisen source.faults left.faults → ⊥) → (OneHasRisen cache cache' backing backing' → ⊥)
     → OfHeld (λ p. (ServesAlone p → ⊥) → EndsAnswering p spelled.2.0 status old new) cache backing

@@ -6,7 +6,7 @@ ghost use Rattle.bc_open.specs.Left.{LeavesThePair};
 ghost use Rattle.bc_recover.specs.Read.{HasParts, IsReadOf};
 ghost use Rattle.bc_replay.specs.Causes.{OfHeld};
 ghost use Rattle.bc_super.specs.Reading.{ReadsSuper};
-ghost use Rattle.bc_top.specs.Opened.{IsOpeningCause};
+ghost use Rattle.bc_top.specs.Opened.{AreStill, IsOpeningCause};
 ghost use Rattle.bc_top.specs.Idle.{EndsOpening};
 ghost use Rattle.bc_top.specs.Ready.{IsCached, IsReady};
 ghost use Rattle.bc_top.specs.Call.{HasCause, ServesOver};
@@ -19,16 +19,19 @@ use crate::stop::{Stop, tell};
 use bc_disk::disk::Disk;
 use bc_disk::stream::{Sink, Source};
 use bc_machine::part::BackingPart;
-use bc_open::open_and_close;
 use bc_output::status::Status;
 use bc_replay::Survey;
 use bc_script::line::Line;
 use bc_script::trace::read_trace;
 use bc_serve::whole_run::run_trace;
+use bc_session::{Idled, open_and_close};
 use bc_super::backing::BackingSuper;
 use bc_worker::gate::NoGate;
 use std::alloc::Global;
 use std::sync::Wait;
+
+// How many parts the leaves of a pair are kept in of which nothing is asked: there is one seat.
+const PARTS: u32 = 1;
 
 // What stands ready of a pair.
 #[derive(Drop)]
@@ -111,29 +114,36 @@ fn prepare<C: Disk, B: Disk, S: Source>(
     Ok(Prepared { lines, opening })
 }
 
-// Opens a pair that was tested, closes it, and answers the status; where that fails the message is
-// put.
-fn open_idle<C: Disk, B: Disk, K: Sink>(
+// Opens a pair that was tested, for a run of which nothing is asked, closes it, and answers the
+// status with both devices; where that fails the message is put.
+fn open_idle<R: Wait, C: Disk + Drop, B: Disk + Drop, K: Sink>(
+    rt: &R,
     alloc: Global,
-    cache: &mut C,
-    backing: &mut B,
+    cache: C,
+    backing: B,
     superblock: &BackingSuper,
     survey: &Survey,
     out: &mut K,
-) -> Status
-    requires reads { ReadsSuper (B.facts backing.old) superblock.now }
+) -> (Status, C, B)
+    requires reads { ReadsSuper (B.facts backing) superblock.now }
     requires parts { HasParts survey.now }
     requires room { survey.now.supers.geometry.bucket * survey.now.supers.geometry.nbuckets
-        ≤ (C.facts cache.old).sectors }
-    requires read { OfHeld (IsReadOf survey.now) (C.facts cache.old) (B.facts backing.old) }
-    ensures ends { EndsOpening C.facts B.facts superblock.now survey.now cache.old cache.new
-        backing.old backing.new result (K.facts out.old) (K.facts out.new) }
-    ensures left { LeavesThePair (C.facts cache.old) (C.facts cache.new)
-        (B.facts backing.old) (B.facts backing.new) }
+        ≤ (C.facts cache).sectors }
+    requires read { OfHeld (IsReadOf survey.now) (C.facts cache) (B.facts backing) }
+    requires still { AreStill (C.facts cache) (B.facts backing) }
+    ensures ends { EndsOpening C.facts B.facts superblock.now survey.now cache result.1 backing
+        result.2 result.0 (K.facts out.old) (K.facts out.new) }
+    ensures left { LeavesThePair (C.facts cache) (C.facts result.1) (B.facts backing)
+        (B.facts result.2) }
 {
-    match open_and_close(alloc, cache, backing, superblock, survey) {
-        Ok(()) => Status::Done,
-        Err(error) => tell(&Stop::from(error), out),
+    let Idled {
+        cache,
+        backing,
+        result,
+    } = open_and_close(rt, alloc, survey, superblock, PARTS, cache, backing);
+    match result {
+        Ok(()) => (Status::Done, cache, backing),
+        Err(error) => (tell(&Stop::from(error), out), cache, backing),
     }
 }
 
@@ -142,8 +152,8 @@ fn open_idle<C: Disk, B: Disk, K: Sink>(
 ///
 /// The whole trace is read first, then the superblock of the backing device and, where it asks for
 /// a cache, all of the pair but its data; the first of these that is refused ends the call with a
-/// message, as does a cache of which a line asks something, which isn't served yet, and no sector is
-/// written. Then each line is served in order, a last barrier is made, and the answers are put in
+/// message, as does a cache of which a line asks something, which isn't served yet, and no sector
+/// is written. Then each line is served in order, a last barrier is made, and the answers are put in
 /// order. A pair with a cache of which no line asks anything is opened and closed.
 pub fn serve<R: Wait, C: Disk + Drop, B: Disk + Drop, S: Source, K: Sink>(
     rt: &R,
@@ -176,7 +186,15 @@ pub fn serve<R: Wait, C: Disk + Drop, B: Disk + Drop, S: Source, K: Sink>(
     let superblock = match opening {
         Opening::Alone(superblock) => superblock,
         Opening::Cached(superblock, survey) => {
-            let status = open_idle(alloc, &mut cache, &mut backing, &superblock, &survey, out);
+            let (status, cache, backing) = open_idle(
+                rt,
+                alloc,
+                cache,
+                backing,
+                &superblock,
+                &survey,
+                out,
+            );
             return Exit {
                 status,
                 cache,

@@ -3,7 +3,6 @@ use Rattle.bc_replay.proofs.Opens.{survey_opens}
 use Rattle.bc_replay.proofs.Pairs.{passed_on}
 use Rattle.bc_top.specs.Opened.{IsPairCause}
 use Rattle.bc_top.proofs.Judging.{held_settled, survey_cause}
-use Rattle.std.proofs.Common.{inl}
 use Rattle.bc_top.proofs.Settled.{same_kept, same_settled, still_kept, stands}
 use Rattle.bc_recover.specs.Read.{IsReadOf}
 use Rattle.bc_top.proofs.Idle.{held_after}

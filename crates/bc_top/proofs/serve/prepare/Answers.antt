@@ -6,7 +6,7 @@ use Rattle.bc_top.specs.Top.{IsServeCause}
 use Rattle.bc_top.specs.declared.stop.Stop.{Stop}
 use Rattle.bc_top.proofs.Completing.{unread}
 use Rattle.bc_top.proofs.Judging.{turned}
-use Rattle.bc_top.proofs.Settled.{open_cause, same_self}
+use Rattle.bc_top.proofs.Settled.{open_cause}
 use Rattle.bc_top.proofs.serve.prepare.Goals as goal
 
 pub returns-in_err-script-clause-cause : goal.returns-in_err-script-clause-cause

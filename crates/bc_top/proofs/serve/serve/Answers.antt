@@ -3,7 +3,6 @@ use Rattle.bc_disk.specs.Device.{HasRisen}
 use Rattle.bc_disk.specs.Disk.{DiskFacts, IfTold}
 use Rattle.bc_machine.specs.declared.part.BackingPart.{BackingPart}
 use Rattle.bc_plain_laws.specs.Promises.{LeavesLastWrites, IsUntouched, Survives}
-use Rattle.bc_script.specs.declared.line.Line.{Line}
 use Rattle.bc_script.specs.declared.answer.Answer.{Answer}
 use Rattle.bc_super.specs.Super.{data_sectors}
 use Rattle.bc_super.proofs.Told.{reads_before}
@@ -74,8 +73,8 @@ returns-in-Cached-clause-serves g c = record {
         is_tested = ready;
         ends = c.open_idle-status.ensures.ends;
         shows = shows g.C.Disk.facts g.B.Disk.facts c.in-Cached.superblock c.in-Cached.survey c.args.cache
-            c.prepare.new.cache c.open_idle-status.new.cache c.args.backing c.prepare.new.backing
-            c.open_idle-status.new.backing c.open_idle-status.result (g.K.Sink.facts c.args.out.now)
+            c.prepare.new.cache c.open_idle-status.result.1 c.args.backing c.prepare.new.backing
+            c.open_idle-status.result.2 c.open_idle-status.result.0 (g.K.Sink.facts c.args.out.now)
             (g.K.Sink.facts c.open_idle-status.new.out) ready c.open_idle-status.ensures.ends c.open_idle-status.ensures.left;
       });
   run = tt;
@@ -83,15 +82,15 @@ returns-in-Cached-clause-serves g c = record {
       let ready = subst (λ (o : Opening). IsReady g.C.Disk.facts g.B.Disk.facts c.args.cache
       c.prepare.new.cache c.args.backing c.prepare.new.backing o) c.in-Cached.is c.in-Ok.ensures.ready in
       absurd (asks_none g.C.Disk.facts g.B.Disk.facts c.in-Cached.superblock c.in-Cached.survey c.args.cache
-      c.prepare.new.cache c.open_idle-status.new.cache c.args.backing c.prepare.new.backing
-      c.open_idle-status.new.backing c.open_idle-status.result (g.K.Sink.facts c.args.out.now)
+      c.prepare.new.cache c.open_idle-status.result.1 c.args.backing c.prepare.new.backing
+      c.open_idle-status.result.2 c.open_idle-status.result.0 (g.K.Sink.facts c.args.out.now)
       (g.K.Sink.facts c.open_idle-status.new.out) ready c.open_idle-status.ensures.ends asks);
   judged = let ready = subst (λ (o : Opening). IsReady g.C.Disk.facts g.B.Disk.facts c.args.cache
       c.prepare.new.cache c.args.backing c.prepare.new.backing o) c.in-Cached.is c.in-Ok.ensures.ready in
       let lines = c.in-Ok.prepared.lines.items in
       answers g.C.Disk.facts g.B.Disk.facts c.in-Cached.superblock c.in-Cached.survey c.args.cache
-      c.prepare.new.cache c.open_idle-status.new.cache c.args.backing c.prepare.new.backing
-      c.open_idle-status.new.backing c.open_idle-status.result (g.K.Sink.facts c.args.out.now)
+      c.prepare.new.cache c.open_idle-status.result.1 c.args.backing c.prepare.new.backing
+      c.open_idle-status.result.2 c.open_idle-status.result.0 (g.K.Sink.facts c.args.out.now)
       (g.K.Sink.facts c.open_idle-status.new.out) ready c.open_idle-status.ensures.ends
       (g.S.Source.facts c.args.trace.now) (g.S.Source.facts c.prepare.new.trace) lines
       c.in-Ok.ensures.lines.1 (nothing_if_cached (AskNothing lines) c.in-Ok.prepared.opening c.in-Cached.superblock
@@ -103,22 +102,22 @@ returns-in-Cached-clause-cause g c = record {
   unwritten = let ready = subst (λ (o : Opening). IsReady g.C.Disk.facts g.B.Disk.facts c.args.cache
       c.prepare.new.cache c.args.backing c.prepare.new.backing o) c.in-Cached.is c.in-Ok.ensures.ready in
       all_unwritten g.C.Disk.facts g.B.Disk.facts c.in-Cached.superblock c.in-Cached.survey c.args.cache
-      c.prepare.new.cache c.open_idle-status.new.cache c.args.backing c.prepare.new.backing
-      c.open_idle-status.new.backing c.open_idle-status.result (g.K.Sink.facts c.args.out.now)
+      c.prepare.new.cache c.open_idle-status.result.1 c.args.backing c.prepare.new.backing
+      c.open_idle-status.result.2 c.open_idle-status.result.0 (g.K.Sink.facts c.args.out.now)
       (g.K.Sink.facts c.open_idle-status.new.out) ready c.open_idle-status.ensures.ends;
   by_device = let ready = subst (λ (o : Opening). IsReady g.C.Disk.facts g.B.Disk.facts c.args.cache
       c.prepare.new.cache c.args.backing c.prepare.new.backing o) c.in-Cached.is c.in-Ok.ensures.ready in
       all_rose g.C.Disk.facts g.B.Disk.facts c.in-Cached.superblock c.in-Cached.survey c.args.cache
-      c.prepare.new.cache c.open_idle-status.new.cache c.args.backing c.prepare.new.backing
-      c.open_idle-status.new.backing c.open_idle-status.result (g.K.Sink.facts c.args.out.now)
+      c.prepare.new.cache c.open_idle-status.result.1 c.args.backing c.prepare.new.backing
+      c.open_idle-status.result.2 c.open_idle-status.result.0 (g.K.Sink.facts c.args.out.now)
       (g.K.Sink.facts c.open_idle-status.new.out) ready c.open_idle-status.ensures.ends;
   by_source = λ is. absurd (not_source g.C.Disk.facts g.B.Disk.facts c.in-Cached.superblock c.in-Cached.survey
-      c.prepare.new.cache c.open_idle-status.new.cache c.prepare.new.backing c.open_idle-status.new.backing
-      c.open_idle-status.result (g.K.Sink.facts c.args.out.now) (g.K.Sink.facts c.open_idle-status.new.out)
+      c.prepare.new.cache c.open_idle-status.result.1 c.prepare.new.backing c.open_idle-status.result.2
+      c.open_idle-status.result.0 (g.K.Sink.facts c.args.out.now) (g.K.Sink.facts c.open_idle-status.new.out)
       c.open_idle-status.ensures.ends is);
   by_sink = λ is. absurd (not_sink g.C.Disk.facts g.B.Disk.facts c.in-Cached.superblock c.in-Cached.survey
-      c.prepare.new.cache c.open_idle-status.new.cache c.prepare.new.backing c.open_idle-status.new.backing
-      c.open_idle-status.result (g.K.Sink.facts c.args.out.now) (g.K.Sink.facts c.open_idle-status.new.out)
+      c.prepare.new.cache c.open_idle-status.result.1 c.prepare.new.backing c.open_idle-status.result.2
+      c.open_idle-status.result.0 (g.K.Sink.facts c.args.out.now) (g.K.Sink.facts c.open_idle-status.new.out)
       c.open_idle-status.ensures.ends is);
 }
 
