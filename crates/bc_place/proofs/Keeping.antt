@@ -248,14 +248,14 @@ module _ (o : Origin) (st : core.State) (i at count : ℕ) where
 -- ---- what a seat knows
 
 -- a fact of a seat and its state that goes on while others act
-abbrev Lasts : (ℕ → Origin → core.State → Type 0) → Type 0
+abbrev pub Lasts : (ℕ → Origin → core.State → Type 0) → Type 0
 Lasts P = (x : World) (e : Event) (i : ℕ) → e.seat ≢ i → FromEach x (P i)
     → FromEach (after x e) (P i)
 
-own_lasts : (p : Placed) → Lasts (λ i. IsOwn i p)
+pub own_lasts : (p : Placed) → Lasts (λ i. IsOwn i p)
 own_lasts p x e i = law_own x e i p
 
-written_lasts : (known : ℕ → Option Value) → Lasts (λ i. HasWritten i known)
+pub written_lasts : (known : ℕ → Option Value) → Lasts (λ i. HasWritten i known)
 written_lasts known x e i = law_written x e i known
 
 -- a place of the seat beside another one
@@ -268,11 +268,11 @@ beside_lasts other p x e i ne h o is course = (
   law_own x e i p ne (λ o is course. (h o is course).1) o is course,
 )
 
-opening_lasts : (K : Origin → Type 0) → Lasts (λ i o st. K o)
+pub opening_lasts : (K : Origin → Type 0) → Lasts (λ i o st. K o)
 opening_lasts K x e i ne h o is course = h o (origin_before x e o is) course.2
 
 module _ {C B : Type 0} (cache_facts : C → DiskFacts) (backing_facts : B → DiskFacts) where
-  since_by : (P : ℕ → Origin → core.State → Type 0) → Lasts P
+  pub since_by : (P : ℕ → Origin → core.State → Type 0) → Lasts P
       → (v : View cache_facts backing_facts) (x : World) → IsCoreSeat cache_facts backing_facts v
       → Since (m cache_facts backing_facts) v x
       → FromEach (world cache_facts backing_facts v) (P v.first) → FromEach x (P v.first)
@@ -285,7 +285,7 @@ module _ {C B : Type 0} (cache_facts : C → DiskFacts) (backing_facts : B → D
       → FromEach (world cache_facts backing_facts v) (IsOwn v.first p) → FromEach x (IsOwn v.first p)
   own_since v x seat since p h = since_by (λ i. IsOwn i p) (own_lasts p) v x seat since h
 
-  waited_by : (P : ℕ → Origin → core.State → Type 0) → Lasts P
+  pub waited_by : (P : ℕ → Origin → core.State → Type 0) → Lasts P
       → (v w : View cache_facts backing_facts) → IsCoreSeat cache_facts backing_facts v
       → Waited (m cache_facts backing_facts) v w
       → FromEach (world cache_facts backing_facts v) (P v.first)
@@ -295,7 +295,7 @@ module _ {C B : Type 0} (cache_facts : C → DiskFacts) (backing_facts : B → D
       (since_by P lasts v (world cache_facts backing_facts w) seat waited.since h)
 
   -- a deed of the seat makes Q of what it knew
-  made_by : (P Q : ℕ → Origin → core.State → Type 0) → Lasts P
+  pub made_by : (P Q : ℕ → Origin → core.State → Type 0) → Lasts P
       → (v w : View cache_facts backing_facts) (d : Deed) → IsCoreSeat cache_facts backing_facts v
       → Did cache_facts backing_facts (Some d) v w
       → ((o : Origin) (st : core.State) → core.IsEnabled o.opening st (by v.first d)
@@ -308,7 +308,7 @@ module _ {C B : Type 0} (cache_facts : C → DiskFacts) (backing_facts : B → D
       (λ o is course on before. makes o (replay o did.is.before.log) on before)
       (since_by P lasts v did.is.before seat did.is.since h))
 
-  opening_waited : (v w : View cache_facts backing_facts) → IsCoreSeat cache_facts backing_facts v
+  pub opening_waited : (v w : View cache_facts backing_facts) → IsCoreSeat cache_facts backing_facts v
       → Waited (m cache_facts backing_facts) v w → KeepsOpening cache_facts backing_facts v w
   opening_waited v w seat waited = record {
     apart = λ p q. waited_by (λ i. AreApart p q) (opening_lasts (λ o. IsApart p q)) v w seat waited;
@@ -316,7 +316,7 @@ module _ {C B : Type 0} (cache_facts : C → DiskFacts) (backing_facts : B → D
         (opening_lasts (λ o. o.opening.machine.before ≡ n)) v w seat waited;
   }
 
-  opening_deed : (v w : View cache_facts backing_facts) (d : Deed)
+  pub opening_deed : (v w : View cache_facts backing_facts) (d : Deed)
       → IsCoreSeat cache_facts backing_facts v → Did cache_facts backing_facts (Some d) v w
       → KeepsOpening cache_facts backing_facts v w
   opening_deed v w d seat did = record {

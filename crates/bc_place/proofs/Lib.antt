@@ -15,5 +15,5 @@ mod Placing
 mod Storing
 mod Naming
 pub mod Inserting
-mod Marking
-mod Saying
+pub mod Marking
+pub mod Saying

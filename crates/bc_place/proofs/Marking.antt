@@ -292,7 +292,7 @@ module _ (w : whole.Opening) (fs : List Open) (r : Reserves) (i : ℕ) (k : Book
 
 -- ---- all of them
 
-abbrev named_owner : (ℕ → Owner) → List Placed → ℕ → Owner
+abbrev pub named_owner : (ℕ → Owner) → List Placed → ℕ → Owner
 named_owner owner [] = owner
 named_owner owner (p ∷ ps) = named_owner (put_run owner p.ptr.offset p.count Spent) ps
 
@@ -377,10 +377,10 @@ touches_append bucket (x ∷ xs) ys q = ap (λ b. if_points x.kind (bucket x.pla
     (touches_append bucket xs ys q) ∙ or_both _ (touches bucket xs q) (touches bucket ys q)
 
 module _ (bucket version : ℕ → ℕ) where
-  abbrev listed : ℕ → List Placed → List index.Key
+  abbrev pub listed : ℕ → List Placed → List index.Key
   listed n ps = reverse (books_for bucket version n ps)
 
-  owner_is : (ps : List Placed) (n : ℕ) (owner : ℕ → Owner) (t : ℕ)
+  pub owner_is : (ps : List Placed) (n : ℕ) (owner : ℕ → Owner) (t : ℕ)
       → (if names (listed n ps) t then Spent else owner t) ≡ named_owner owner ps t
   owner_is [] n owner t = refl
   owner_is (p ∷ ps) n owner t =
@@ -419,7 +419,7 @@ pins_same f g same place (suc m) =
     let rest = pins_same f g same place m in omega (arith, one, rest)
 
 -- keys have the form that books have
-keys_listed : (w : whole.Opening) (i : ℕ) (k : Books) (n : ℕ) (ps : List Placed) (keys : List Key)
+pub keys_listed : (w : whole.Opening) (i : ℕ) (k : Books) (n : ℕ) (ps : List Placed) (keys : List Key)
     → AreKeysFor n ps keys → AreOwnIn w i k ps
     → book_keys w.flow.books.bucket k.generations.version keys
     ≡ books_for w.flow.books.bucket k.generations.version n ps
