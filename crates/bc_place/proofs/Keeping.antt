@@ -78,15 +78,20 @@ law_written_kept x e known on = kept_event x e (HasWritten e.seat known) (HasWri
 
 -- ---- events of others
 
-pub law_written : LawWritten
-law_written x e i known ne = kept_event x e (HasWritten i known) (HasWritten i known)
-    (λ o is course on h t v at. let was = h t v at in record {
+pub law_written_at : (x : World) (e : Event) (i t : ℕ) (v : Value) → e.seat ≢ i
+    → FromEach x (λ o st. IsWrittenAt i t v st) → FromEach (after x e) (λ o st. IsWrittenAt i t v st)
+law_written_at x e i t v ne = kept_event x e (λ o st. IsWrittenAt i t v st)
+    (λ o st. IsWrittenAt i t v st) (λ o is course on was. record {
       own = subst (λ (st : core.State). (books_of st.machine).owner t ≡ Own i
           → (books_of (core.after o.opening st e).machine).owner t ≡ Own i)
           (sym (replay_is o x.log)) (λ own. (law_pinned o.opening o.parts o.next_seq
           (oldest_first x.log) e (happens x o e is course on) i ne t own).owner) was.own;
       placed = other_placed o.opening (replay o x.log) e i (λ same. ne (sym same)) t ∙ was.placed;
     })
+
+pub law_written : LawWritten
+law_written x e i known ne h o is course t v at =
+    law_written_at x e i t v ne (λ o is course. h o is course t v at) o is course
 
 -- ---- a pin of more places
 

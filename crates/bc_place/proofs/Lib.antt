@@ -12,7 +12,7 @@ mod Cutting
 mod Fitting
 mod Steps
 mod Placing
-mod Storing
+pub mod Storing
 mod Naming
 pub mod Inserting
 pub mod Marking
