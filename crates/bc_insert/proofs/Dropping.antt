@@ -61,6 +61,7 @@ use Rattle.bc_keyed.specs.Parts.{PointNowhere}
 use Rattle.bc_keyed.proofs.Nowhere.{names_none}
 use Rattle.bc_insert.specs.Drop.{IsGone, MayDrop}
 use Rattle.bc_insert.specs.Insert.{CanPutIn}
+use Rattle.bc_insert.proofs.InHand.{ComesInto, all_in_leaf, buckets_in_hand, has_buckets, has_journal, has_leaves, journal_in_hand, leaves_in, role_there, says, slot_is}
 use Rattle.bc_insert.proofs.Putting.{all_reversed}
 
 -- ---- keys without pointers, as the books have them
@@ -175,83 +176,6 @@ is_backed leaf s (Some r) is (inr (ref, at, clean)) =
     dirty_of : (a : Option Ref) (b : Ref) → a ≡ Some b → dirty_in a ≡ b.dirty
     dirty_of a b e = ap dirty_in e
 
--- ---- parts in hand
-
-behind : {A : Type 0} (n : ℕ) (o : Option A) (ks : List ℕ) (k : ℕ) → Holds ks k
-    → Holds (with_part n o ks) k
-behind n None ks k h = h
-behind n (Some a) ks k h = inr h
-
-here : {A : Type 0} (n : ℕ) (o : Option A) (a : A) (ks : List ℕ) → o ≡ Some a
-    → Holds (with_part n o ks) n
-here n None a ks is = absurd (cc)
-here n (Some b) a ks is = inl refl
-
-here_leaves : (o : Option LeafHand) (l : LeafHand) (ks : List ℕ) → o ≡ Some l
-    → Holds (with_leaves o ks) l.part
-here_leaves None l ks is = absurd (cc)
-here_leaves (Some x) l ks is = let e : x ≡ l = cc in inl (ap (λ (y : LeafHand). y.part) (sym e))
-
-pub holds_leaves : {C B : Type 0} (h : Hand C B) (l : LeafHand) → h.leaves ≡ Some l
-    → Holds (numbers h) l.part
-holds_leaves h l is = behind 5 h.backing _ l.part (behind 4 h.cache _ l.part
-    (behind 3 h.journal _ l.part (behind 2 h.buckets _ l.part (behind 1 h.flight _ l.part
-    (here_leaves h.leaves l (with_part 0 h.spine []) is)))))
-
-pub holds_journal : {C B : Type 0} (h : Hand C B) (j : Journal) → h.journal ≡ Some j
-    → Holds (numbers h) 3
-holds_journal h j is = behind 5 h.backing _ 3 (behind 4 h.cache _ 3 (here 3 h.journal j
-    (with_part 2 h.buckets (with_part 1 h.flight (with_leaves h.leaves (with_part 0 h.spine []))))
-    is))
-
--- the parts that keys change
-by_number : (k a : ℕ) (b rest : Bool) → (if k == a then b else rest) ≡ true
-    → ((k ≡ a) × (b ≡ true)) ⊎ ((k ≢ a) × (rest ≡ true))
-by_number k a b rest = by_test k a (λ t. (if t then b else rest) ≡ true
-    → ((k ≡ a) × (b ≡ true)) ⊎ ((k ≢ a) × (rest ≡ true)))
-    (λ is on. inl (is, on)) (λ ne on. inr (ne, on))
-
-off_is_not_on : false ≡ true → ⊥
-off_is_not_on on = cc
-
-above : (k : ℕ) → k ≢ 0 → k ≢ 1 → k ≢ 2 → k ≢ 3 → k ≢ 4 → k ≢ 5 → 6 ≤ k
-above zero a b c d e f = absurd (a refl)
-above (suc zero) a b c d e f = absurd (b refl)
-above (suc (suc zero)) a b c d e f = absurd (c refl)
-above (suc (suc (suc zero))) a b c d e f = absurd (d refl)
-above (suc (suc (suc (suc zero)))) a b c d e f = absurd (e refl)
-above (suc (suc (suc (suc (suc zero))))) a b c d e f = absurd (f refl)
-above (suc (suc (suc (suc (suc (suc k)))))) a b c d e f = omega arith
-
-abbrev Changed : (n number k : ℕ) → Type 0
-Changed n number k = (k ≡ 2) ⊎ ((k ≡ 3) ⊎ ((6 ≤ k) × (number % (n - 6) ≡ k - 6)))
-
-pub changed_parts : (n number i : ℕ) (keys : List Key) (k : ℕ)
-    → changes n (by i (deed.Insert number keys form.Drop)) k ≡ true → Changed n number k
-changed_parts n number i keys k on = elim (by_number k 0 false _ on) [
-  | inl a ↦ absurd (off_is_not_on a.1)
-  | inr a ↦ elim (by_number k 1 false _ a.1) [
-    | inl b ↦ absurd (off_is_not_on b.1)
-    | inr b ↦ elim (by_number k 2 true _ b.1) [
-      | inl c ↦ inl c.0
-      | inr c ↦ elim (by_number k 3 true _ c.1) [
-        | inl d ↦ inr (inl d.0)
-        | inr d ↦ elim (by_number k 4 false _ d.1) [
-          | inl e ↦ absurd (off_is_not_on e.1)
-          | inr e ↦ elim (by_number k 5 false _ e.1) [
-            | inl f ↦ absurd (off_is_not_on f.1)
-            | inr f ↦ inr (inr (above k a.0 b.0 c.0 d.0 e.0 f.0, its_rest f.1))
-          ]
-        ]
-      ]
-    ]
-  ]
-]
-  where
-    its_rest : (number % (n - 6) == k - 6) ≡ true → number % (n - 6) ≡ k - 6
-    its_rest = by_test (number % (n - 6)) (k - 6) (λ b. b ≡ true → number % (n - 6) ≡ k - 6)
-        (λ same _. same) (λ _ off. absurd (off_is_not_on off))
-
 -- ---- when they may come in
 
 -- the sectors below a device's buckets, and its first bucket
@@ -280,36 +204,15 @@ low_bucket w g layout laid some bucket is order p low =
     below b zero p f some low is = absurd (omega (arith, some))
     below b (suc n) p f some low is = grind (arith, common_steps)
 
-pub free_role : (a : parts.State) (count part : ℕ) (w : whole.Opening) (cache : NodeCache)
-    (slot number : ℕ) (cached : Cached) → AreLeavesOf w a count part cache
-    → slice_get cache.slots slot ≡ Some (Some cached) → cached.number ≡ number
-    → IsSlotOf cache.slots number slot → cached.held ≡ false
-    → (a.leaves cached.number).role ≡ Free
-free_role a count part w cache slot number cached h there is only free =
-    go (a.leaves cached.number).role refl (h.leaves slot cached there).at.role
-  where
-    unheld : (i : ℕ) (c : Cached) → slice_get cache.slots i ≡ Some (Some c)
-        → c.number ≡ cached.number → c.held ≡ true → ⊥
-    unheld i c at same held =
-        let e = only.only i (record { cached = c; there = at; number_is = same ∙ is }) in
-        one c (slice_get cache.slots slot)
-        (subst (λ m. slice_get cache.slots m ≡ Some (Some c)) e at) there held
-      where
-        one : (c : Cached) (o : Option (Option Cached)) → o ≡ Some (Some c)
-            → o ≡ Some (Some cached) → c.held ≡ true → ⊥
-        one c o a b held = let same : c ≡ cached = cc in
-            let off : cached.held ≡ true = ap (λ (x : Cached). x.held) (sym same) ∙ held in
-            let both : true ≡ false = sym off ∙ free in cc
-
-    go : (r : Role) → (a.leaves cached.number).role ≡ r
-        → IsInTree (a.leaves cached.number).role → (a.leaves cached.number).role ≡ Free
-    go NoNode e tree = absurd (subst IsInTree e tree)
-    go Draft e tree = absurd (subst IsInTree e tree)
-    go Coming e tree = absurd (subst IsInTree e tree)
-    go Free e tree = e
-    go Leaving e tree =
-        let one = h.leaving cached.number (h.rest slot cached there) e in
-        absurd (unheld one.0 one.1 one.2 one.3 one.4)
+pub drop_into : (number : ℕ) (keys : List Key)
+    → ComesInto number (deed.Insert number keys form.Drop)
+drop_into number keys = record {
+  spine = refl;
+  flight = refl;
+  cache = refl;
+  backing = refl;
+  leaves = λ count part. refl;
+}
 
 module _ {C B : Type 0} (cache_facts : C → DiskFacts) (backing_facts : B → DiskFacts)
     (p : PartsView (CorePart C B)) (v : View cache_facts backing_facts) (h : Hand C B)
@@ -341,45 +244,6 @@ module _ {C B : Type 0} (cache_facts : C → DiskFacts) (backing_facts : B → D
   pub within : AreWithin cached.leaf.from cached.leaf.end turned
   within = all_reversed (LiesWithin 0 cached.leaf.from cached.leaf.end) keys can.can.within
 
-  pub leaves_in : (6 ≤ can.leaves.part)
-      × AreLeaves (can.leaves.part - 6) can.leaves.cache (world cache_facts backing_facts v)
-  leaves_in = some_of (λ l. (6 ≤ l.part)
-      × AreLeaves (l.part - 6) l.cache (world cache_facts backing_facts v)) h.leaves can.leaves
-      can.is works.stand.leaves
-
-  pub buckets_in_hand : AreBuckets can.buckets (world cache_facts backing_facts v)
-  buckets_in_hand = some_of (λ b. AreBuckets b (world cache_facts backing_facts v)) h.buckets
-      can.buckets can.are_buckets works.stand.buckets
-
-  pub journal_in_hand : IsJournal can.journal (world cache_facts backing_facts v)
-  journal_in_hand = some_of (λ j. IsJournal j (world cache_facts backing_facts v)) h.journal
-      can.journal can.is_journal works.stand.journal
-
-  pub has_leaves : Holds v.parts can.leaves.part
-  has_leaves = subst (λ ks. Holds ks can.leaves.part) (sym works.parts)
-      (holds_leaves h can.leaves can.is)
-
-  pub has_buckets : Holds v.parts 2
-  has_buckets = subst (λ ks. Holds ks 2) (sym works.parts)
-      (holds_buckets h can.buckets can.are_buckets)
-
-  pub has_journal : Holds v.parts 3
-  has_journal = subst (λ ks. Holds ks 3) (sym works.parts)
-      (holds_journal h can.journal can.is_journal)
-
-  pub holds_changed : (n : ℕ) → n ≡ length p.run.start → (k : ℕ)
-      → changes n (by v.first e) k ≡ true → Holds v.parts k
-  holds_changed n is k on = elim (changed_parts n number v.first keys k on) [
-    | inl two ↦ subst (λ m. Holds v.parts m) (sym two) has_buckets
-    | inr (inl three) ↦ subst (λ m. Holds v.parts m) (sym three) has_journal
-    | inr (inr at) ↦ subst (λ m. Holds v.parts m) (its_part at.0 at.1) has_leaves
-  ]
-    where
-      its_part : 6 ≤ k → number % (n - 6) ≡ k - 6 → can.leaves.part ≡ k
-      its_part low at = let part = can.its_part in
-          let same = ap (λ m. number % (m - 6)) is in
-          omega (arith, part, low, at, same)
-
   -- in a state in which it may be committed
   module _ (x : World) (o : Origin) (origin : IsOrigin x o) (course : IsCourseOf o x.log)
       (leaves : AreLeaves (can.leaves.part - 6) can.leaves.cache x)
@@ -389,13 +253,6 @@ module _ {C B : Type 0} (cache_facts : C → DiskFacts) (backing_facts : B → D
 
     abbrev st : known.State
     st = (replay o x.log).machine
-
-    abbrev own : AreLeavesOf w st.whole.parts x.begun.leaf_parts (can.leaves.part - 6)
-        can.leaves.cache
-    own = leaves o origin course
-
-    abbrev leaf : IsLeafFor w (leaf_share st.whole.parts cached.number) cached.leaf
-    leaf = own.leaves slot cached can.can.there
 
     abbrev version : ℕ → ℕ
     version = st.whole.flow.books.generations.version
@@ -413,29 +270,6 @@ module _ {C B : Type 0} (cache_facts : C → DiskFacts) (backing_facts : B → D
         let long = ring.layout.bucket_sectors in
         low_bucket w g ring.layout origin.sound.laid (omega (arith, next)) bucket refl
         origin.order t (omega (arith, low, sectors, long))
-
-    pub role : (st.whole.parts.leaves cached.number).role ≡ Free
-    role = free_role st.whole.parts x.begun.leaf_parts (can.leaves.part - 6) w can.leaves.cache
-        slot number cached own can.can.there can.can.number_is only can.free
-
-    in_leaf : (s : ℕ) → cached.leaf.from ≤ s → s < cached.leaf.end
-        → parts.InRange (st.whole.parts.leaves cached.number) s
-    in_leaf s low high =
-        let first = leaf.at.first in
-        let end = leaf.at.end_is in (omega (arith, first, low), omega (arith, end, high))
-
-    slot_is : (s : ℕ) → cached.leaf.from ≤ s → s < cached.leaf.end
-        → (books_of st).index.leaf s ≡ number
-    slot_is s low high = law_slots x o origin course cached.number s leaf.at.role
-        (in_leaf s low high) ∙ can.can.number_is
-
-    says : (s : ℕ) → cached.leaf.from ≤ s → s < cached.leaf.end
-        → ref_of (latest (books_of st).index s) ≡ said_in cached.leaf s
-    says s low high = sym (law_keys x o origin course cached.number s leaf.at.role
-        (in_leaf s low high)) ∙ sym (leaf.keys s low high)
-
-    ks : List index.Key
-    ks = book_keys bucket version turned
 
     pub ks_are : book_keys bucket version turned ≡ bares turned
     ks_are = all_bare r cached.leaf size bucket version turned gone
@@ -468,11 +302,12 @@ module _ {C B : Type 0} (cache_facts : C → DiskFacts) (backing_facts : B → D
           (bares turned)
       can_put = record {
         whole = are_whole r cached.leaf size bucket same_bucket turned gone;
-        inside = λ s q at. (let x = at_hit s q at in
-            let high = (claim_in s q x).1 in
-            let both = low_in s q x in (
+        inside = λ s q at. (let its = at_hit s q at in
+            let high = (claim_in s q its).1 in
+            let both = low_in s q its in (
               omega (arith, high, inside, sectors),
-              slot_is s both.0 both.1,
+              slot_is cache_facts backing_facts p v h works number slot cached keys can only x o
+                  origin course leaves s both.0 both.1,
             ));
         lawful = λ s q at. subst (λ n. IsLawful bucket version (books_of st).owner
             (latest (books_of st).index s) n) (sym (at_hit s q at).none) tt;
@@ -486,9 +321,9 @@ module _ {C B : Type 0} (cache_facts : C → DiskFacts) (backing_facts : B → D
       can_drop : CanInsert w.flow st.whole.flow v.first DropKeys (bares turned)
       can_drop = record {
         using = λ t on. absurd (no_name t on);
-        hits = λ s q at. (let x = at_hit s q at in
-            let both = claim_in s q x in
-            let inside = low_in s q x in
+        hits = λ s q at. (let its = at_hit s q at in
+            let both = claim_in s q its in
+            let inside = low_in s q its in
             let low = both.0 in
             let high = both.1 in
             let first = ap (λ (z : Range). z.first) claim in
@@ -496,9 +331,10 @@ module _ {C B : Type 0} (cache_facts : C → DiskFacts) (backing_facts : B → D
             record {
               exclusive = ap (λ (z : Range). z.exclusive) claim ∙ may.alone;
               covers = (omega (arith, low, first), omega (arith, high, first, count));
-              is = x.none;
-              backed = is_backed cached.leaf s (index_of st.whole.flow s) (says s inside.0 inside.1)
-                  (x.gone.backed s x.covers);
+              is = its.none;
+              backed = is_backed cached.leaf s (index_of st.whole.flow s) (says cache_facts backing_facts p v h works number slot cached keys can only
+                  x o origin course leaves s inside.0 inside.1)
+                  (its.gone.backed s its.covers);
             });
         not_plain = origin.cached;
       }
@@ -529,32 +365,23 @@ module _ {C B : Type 0} (cache_facts : C → DiskFacts) (backing_facts : B → D
             same_keys bucket version turned
                 (plain r cached.leaf size bucket version turned gone),
           ),
-          subst (λ n. (st.whole.parts.leaves n).role ≡ Free) can.can.number_is role,
-          subst (λ n. AllWithin st.whole.parts n turned) can.can.number_is
-              (all_in_leaf turned within),
+          role_there cache_facts backing_facts p v h works number slot cached keys can
+              only x o origin course leaves,
+          all_in_leaf cache_facts backing_facts p v h works number slot cached keys can
+              only x o origin course leaves turned within,
         );
       }
-        where
-          all_in_leaf : (xs : List Key) → AreWithin cached.leaf.from cached.leaf.end xs
-              → AllWithin st.whole.parts cached.number xs
-          all_in_leaf [] all = tt
-          all_in_leaf (k ∷ xs) all =
-              let first = leaf.at.first in
-              let end = leaf.at.end_is in
-              let here = All-head (LiesWithin 0 cached.leaf.from cached.leaf.end) k xs all in
-              let low = here.0 in
-              let high = here.1 in (
-                (omega (arith, first, low), omega (arith, end, high)),
-                all_in_leaf xs (All-tail (LiesWithin 0 cached.leaf.from cached.leaf.end) k xs all),
-              )
 
   pub may_drop : MayDo cache_facts backing_facts v e
   may_drop x y at told =
       let seen = at.from (is_plain_at cache_facts backing_facts v x at.since ∙ cached_run) in
       go x y seen.0 seen.1
-      (at.stand can.leaves.part (part.Leaves can.leaves.cache) has_leaves leaves_in).1
-      (at.stand 2 (part.Buckets can.buckets) has_buckets (refl, buckets_in_hand)).1
-      (at.stand 3 (part.Journal can.journal) has_journal (refl, journal_in_hand)).1
+      (at.stand can.leaves.part (part.Leaves can.leaves.cache)
+      (has_leaves cache_facts backing_facts p v h works number slot cached keys can) (leaves_in cache_facts backing_facts p v h works number slot cached keys can)).1
+      (at.stand 2 (part.Buckets can.buckets) (has_buckets cache_facts backing_facts p v h works number slot cached keys can)
+      (refl, buckets_in_hand cache_facts backing_facts p v h works number slot cached keys can)).1
+      (at.stand 3 (part.Journal can.journal) (has_journal cache_facts backing_facts p v h works number slot cached keys can)
+      (refl, journal_in_hand cache_facts backing_facts p v h works number slot cached keys can)).1
       (size_at cache_facts backing_facts v e x y at) at.note.range (at.running refl)
     where
       go : (x y : World) (o : Origin) → IsSeenFrom o x y

@@ -1,4 +1,8 @@
 pub mod Putting
 pub mod Finding
+pub mod InHand
+pub mod Behind
 pub mod Dropping
 pub mod Dropped
+pub mod Writing
+pub mod Written

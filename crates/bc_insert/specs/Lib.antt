@@ -1,2 +1,3 @@
 pub mod Insert
 pub mod Drop
+pub mod Write

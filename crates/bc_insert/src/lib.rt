@@ -6,11 +6,14 @@
 //! memory but that of its own record. The buckets are in hand too, since a key may change what is
 //! known of the one that it points into.
 //!
-//! Keys without pointers take away what a range had in the cache. They are enough where the backing
-//! device has what it shows, and only there: data that is all that there is of it stays.
+//! A write through the cache is such an event: its keys name the places that the seat filled, and with
+//! them the write stands in the history. Keys without pointers take away what a range had in the cache.
+//! They are enough where the backing device has what it shows, and only there: data that is all that
+//! there is of it stays.
 //!
-//! Read `specs/` in this order: Insert, Drop.
+//! Read `specs/` in this order: Insert, Write, Drop.
 #![tactic(auto)]
 
 pub mod drop;
 mod put;
+pub mod write;

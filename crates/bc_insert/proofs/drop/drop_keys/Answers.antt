@@ -11,9 +11,10 @@ use Rattle.bc_machine.specs.World.{are_plain, changes}
 use Rattle.bc_machine.specs.declared.part.CorePart.{CorePart}
 use Rattle.bc_parts.specs.Seat.{Run}
 use Rattle.bc_seats.specs.Seats.{Kept}
-use Rattle.bc_insert.proofs.Dropped.{works_behind}
-use Rattle.bc_insert.proofs.Dropping.{holds_changed, may_drop}
+use Rattle.bc_insert.proofs.Dropped.{drop_works}
+use Rattle.bc_insert.proofs.Dropping.{drop_into, may_drop}
 use Rattle.bc_insert.proofs.Finding.{can_there, only_slot, put_here}
+use Rattle.bc_insert.proofs.InHand.{holds_changed}
 use Rattle.bc_insert.proofs.drop.drop_keys.Goals as goal
 
 pub returns-in-Some-clause-err : goal.returns-in-Some-clause-err
@@ -52,12 +53,9 @@ commit-requires-clause-holds g c =
     let can = c.requires.can.2 in
     let keys = c.from_vec.ensures ∙ c.in-Ok.ensures.items
     ∙ ap (λ (l : List Key). l ++ c.args.keys.now) c.new-own.ensures.items in
-    λ k on. holds_changed cf bf c.args.parts.now v c.args.hand.now c.requires.works
-    (ap (λ (r : Run (CorePart g.row.C.Denot g.row.B.Denot)). are_plain cf bf r.start)
-    c.requires.works.run ∙ c.requires.cached) c.args.leaf slot cached c.args.keys.now can
-    (only_slot c.args.hand.now c.args.leaf c.slot_in-slot.result c.slot_in-slot.ensures
-    (length c.args.parts.now.run.start) slot cached c.args.keys.now can)
-    (c.next_entry-entry.ensures can.journal can.is_journal).0 c.requires.can.3 c.requires.inside
+    λ k on. holds_changed cf bf c.args.parts.now v c.args.hand.now c.requires.works c.args.leaf slot
+    cached c.args.keys.now can (deed.Insert c.args.leaf c.args.keys.now form.Drop)
+    (drop_into c.args.leaf c.args.keys.now)
     (length v.run.start)
     (ap (λ (r : Run (CorePart g.row.C.Denot g.row.B.Denot)). length r.start) c.requires.works.run) k
     (subst (λ (l : List Key). changes (length v.run.start)
@@ -110,7 +108,7 @@ returns-clause-works g c =
     let n = length c.args.parts.now.run.start in
     let keys = c.from_vec.ensures ∙ c.in-Ok.ensures.items
     ∙ ap (λ (l : List Key). l ++ c.args.keys.now) c.new-own.ensures.items in
-    works_behind cf bf c.args.parts.now v c.args.hand.now c.requires.works
+    drop_works cf bf c.args.parts.now v c.args.hand.now c.requires.works
     (ap (λ (r : Run (CorePart g.row.C.Denot g.row.B.Denot)). are_plain cf bf r.start)
     c.requires.works.run ∙ c.requires.cached) c.args.leaf slot cached c.args.keys.now can
     (only_slot c.args.hand.now c.args.leaf c.slot_in-slot.result c.slot_in-slot.ensures n slot
