@@ -1,5 +1,5 @@
 -- Taking a bucket and pinning a place, one behind the other.
-use Rattle.std.proofs.Common.{◌≡◌, ◌≢◌, inl, inr, ℕ, ◌-◌, ◌<◌, ◌≤◌, Bool, true, false, List, [], ◌∷◌, ◌++◌, Option, Some, None, refl, sym, ap, ◌∙◌, subst, arith}
+use Rattle.std.proofs.Common.{◌≡◌, ◌≢◌, inl, inr, ℕ, ◌+◌, ◌-◌, ◌<◌, ◌≤◌, Bool, true, false, List, [], ◌∷◌, ◌++◌, Option, Some, None, refl, sym, ap, ◌∙◌, subst, arith}
 use Rattle.std.specs.Prelude.{◌==◌, Result, Ok, Err, if◌then◌else◌}
 use Rattle.std.proofs.lemmas.List.{append-nil}
 use Rattle.bc_alloc.specs.declared.purpose.NoBucket.{NoBucket}
@@ -26,7 +26,7 @@ use Rattle.bc_parts.specs.Seat.{Holds}
 use Rattle.bc_seats.specs.Seats.{Kept, Waited}
 use Rattle.bc_seats.proofs.Between.{same_both, seen_alike}
 use Rattle.bc_seats.proofs.Knowing.{waited}
-use Rattle.bc_place.specs.Place.{HasGiven, HasHalted, HasNoBucket, HasPinned, HasPlaced, IsOwn, IsUpTo, taken_by, taking}
+use Rattle.bc_place.specs.Place.{HasGiven, HasHalted, HasNoBucket, HasOpened, HasPinned, HasPlaced, IsOwn, IsUpTo, taken_by, taking}
 
 -- which bucket was opened for a place, is nothing that its seat has to know of it
 pub own_opened : (i : ℕ) (x : Option ℕ) (p : Placed) (o : Origin) (st : core.State) → IsOwn i p o st
@@ -98,6 +98,14 @@ module _ {C B : Type 0} (cache_facts : C → DiskFacts) (backing_facts : B → D
       → Did cache_facts backing_facts (taking before opened) v w → 2 ≤ v.promises → 0 < w.promises
   promise_left before None v w did two = let left = did.is.promises in omega (arith, left, two)
   promise_left before (Some k) v w did two = let left = did.is.promises in omega (arith, left, two)
+
+  -- a bucket takes at most one deed
+  pub opened_left : (before : ℕ) (r : Result (Option ℕ) NoBucket)
+      (v w : View cache_facts backing_facts) → HasOpened cache_facts backing_facts before r v w
+      → v.promises ≤ w.promises + 1
+  opened_left before (Ok None) v w h = let same = h.is.promises in omega (arith, same)
+  opened_left before (Ok (Some k)) v w h = let same = h.is.promises in omega (arith, same)
+  opened_left before (Err none) v w h = let same = h.1.is.promises in omega (arith, same)
 
   pub given_place : (before count : ℕ) (opened : Option ℕ) (p : Placed)
       (u v w : View cache_facts backing_facts)

@@ -56,6 +56,7 @@ pub fn pin<C: Disk + Drop, B: Disk + Drop, R: Wait>(
     ensures apart { IfOk result (λ answer. IfOk answer (λ p.
         IsNew C.facts B.facts p seat.old seat.new)) }
     ensures err { IfErr result (λ error. HasHalted C.facts B.facts error seat.old seat.new) }
+    ensures left { seat.old.promises ≤ seat.new.promises + 2 }
     ensures keeps { KeepsPlaces C.facts B.facts seat.old seat.new }
 {
     if let Some(device) = seat.heard() {
@@ -94,6 +95,7 @@ fn pin_in<C: Disk, B: Disk, R: Wait>(
     ensures apart { IfOk result (λ answer. IfOk answer (λ p.
         IsNew C.facts B.facts p seat.old seat.new)) }
     ensures err { IfErr result (λ error. HasHalted C.facts B.facts error seat.old seat.new) }
+    ensures left { seat.old.promises ≤ seat.new.promises + 2 }
     ensures keeps { KeepsPlaces C.facts B.facts seat.old seat.new }
 {
     let opened = match open_in(rt, parts, seat, part, before) {

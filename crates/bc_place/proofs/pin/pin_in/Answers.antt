@@ -1,7 +1,7 @@
-use Rattle.std.proofs.Common.{subst}
+use Rattle.std.proofs.Common.{subst, arith}
 use Rattle.bc_place.specs.Place.{HasOpened}
 use Rattle.bc_place.proofs.Keeping.{keeps_both}
-use Rattle.bc_place.proofs.Placing.{given_place, halted_behind, own_given}
+use Rattle.bc_place.proofs.Placing.{given_place, halted_behind, opened_left, own_given}
 use Rattle.bc_place.proofs.pin.pin_in.Goals as goal
 
 pub returns-in-Ok-clause-ok : goal.returns-in-Ok-clause-ok
@@ -32,3 +32,15 @@ returns-in-Err-cut_in-clause-err g c = halted_behind g.C.Disk.facts g.B.Disk.fac
 pub returns-in-Err-cut_in-clause-keeps : goal.returns-in-Err-cut_in-clause-keeps
 returns-in-Err-cut_in-clause-keeps g c = keeps_both g.C.Disk.facts g.B.Disk.facts c.args.seat.now
     c.open_in.new.seat c.cut_in.new.seat c.open_in.ensures.keeps c.cut_in.ensures.keeps
+
+pub returns-in-Ok-clause-left : goal.returns-in-Ok-clause-left
+returns-in-Ok-clause-left g c =
+    let opened = opened_left g.C.Disk.facts g.B.Disk.facts c.args.before _ c.args.seat.now
+    c.open_in.new.seat c.in-Ok-Ok.ensures.ok in
+    let pinned = c.in-Ok.ensures.ok.did.is.promises in omega (arith, opened, pinned)
+
+pub returns-in-Err-cut_in-clause-left : goal.returns-in-Err-cut_in-clause-left
+returns-in-Err-cut_in-clause-left g c =
+    let opened = opened_left g.C.Disk.facts g.B.Disk.facts c.args.before _ c.args.seat.now
+    c.open_in.new.seat c.in-Ok-Ok.ensures.ok in
+    let none = c.in-Err-cut_in.ensures.err.is.promises in omega (arith, opened, none)
