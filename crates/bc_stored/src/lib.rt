@@ -1,0 +1,11 @@
+//! Values of a write on the cache device, before any key names them.
+//!
+//! A write through the cache puts its values to fresh places first, and only then into the index: so
+//! nobody finds them before all of them are there. A place lies in one bucket, so values may need
+//! more than one. What comes between, a call that fails or want of memory, gives the place back.
+//!
+//! Read `specs/` in this order: Stored.
+#![tactic(auto)]
+
+pub mod error;
+pub mod one;
