@@ -1,5 +1,5 @@
 //! What a line of a trace asks for.
-ghost use Rattle.std.specs.Prelude.{◌≡◌, ◌+◌, ◌/◌, ◌<◌, ◌≤◌, ◌^◌, nat_lt};
+ghost use Rattle.std.specs.Prelude.{◌≡◌, ◌+◌, ◌-◌, ◌/◌, ◌<◌, ◌≤◌, ◌^◌, nat_lt};
 ghost use Rattle.bc_model.specs.Pieces.{piece_in, piece_sectors};
 ghost use Rattle.bc_job.specs.Asked.{line_of};
 
@@ -61,7 +61,7 @@ impl Job {
     pub fn end_piece(&self) -> u64
         requires some { 1 ≤ self.now.count }
         requires range { self.now.first + self.now.count < 2 ^ 64 }
-        ensures { result ≡ (self.now.first + self.now.count + 255) / piece_sectors }
+        ensures { result ≡ (self.now.first + self.now.count + (piece_sectors - 1)) / piece_sectors }
     {
         (self.first + u64::from(self.count) - 1) / PIECE + 1
     }
@@ -71,7 +71,7 @@ impl Job {
         requires some { 1 ≤ self.now.count }
         requires range { self.now.first + self.now.count < 2 ^ 64 }
         requires number { (self.now.first / piece_sectors ≤ number)
-            × (number < (self.now.first + self.now.count + 255) / piece_sectors) }
+            × (number < (self.now.first + self.now.count + (piece_sectors - 1)) / piece_sectors) }
         ensures first { result.first ≡ (piece_in self.now.first self.now.count number).first }
         ensures count { result.count ≡ (piece_in self.now.first self.now.count number).count }
         ensures some { (1 ≤ result.count) × (self.now.first ≤ result.first)

@@ -153,8 +153,8 @@ fn open_idle<R: Wait, C: Disk + Drop, B: Disk + Drop, K: Sink>(
 /// The whole trace is read first, then the superblock of the backing device and, where it asks for
 /// a cache, all of the pair but its data; the first of these that is refused ends the call with a
 /// message, as does a cache of which a line asks something, which isn't served yet, and no sector
-/// is written. Then each line is served in order, a last barrier is made, and the answers are put in
-/// order. A pair with a cache of which no line asks anything is opened and closed.
+/// is written. Then each line is served in order, a last barrier is made, and the answers are put
+/// in order. A pair with a cache of which no line asks anything is opened and closed.
 pub fn serve<R: Wait, C: Disk + Drop, B: Disk + Drop, S: Source, K: Sink>(
     rt: &R,
     alloc: Global,
