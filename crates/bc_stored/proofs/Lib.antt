@@ -1,1 +1,4 @@
 pub mod Storing
+pub mod Ready
+pub mod Letting
+pub mod Filling

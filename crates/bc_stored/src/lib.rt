@@ -4,8 +4,9 @@
 //! nobody finds them before all of them are there. A place lies in one bucket, so values may need
 //! more than one. What comes between, a call that fails or want of memory, gives the place back.
 //!
-//! Read `specs/` in this order: Stored.
+//! Read `specs/` in this order: Stored, All.
 #![tactic(auto)]
 
+pub mod all;
 pub mod error;
 pub mod one;

@@ -48,6 +48,7 @@ pub fn store_one<C: Disk + Drop, B: Disk + Drop, R: Wait>(
     ensures works { Works C.facts B.facts parts.now seat.new hand.new }
     ensures empty { hand.new ≡ empty }
     ensures left { seat.old.promises ≤ seat.new.promises + 4 }
+    ensures spared { OnOk result (seat.old.promises ≤ seat.new.promises + 3) }
     ensures ok { IfOk result (λ p. HasStoredAt C.facts B.facts before sectors p
         (drop from values.now) seat.old seat.new) }
     ensures err { IfErr result (λ error. HasNotStored C.facts B.facts before sectors error

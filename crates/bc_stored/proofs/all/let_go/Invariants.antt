@@ -1,0 +1,14 @@
+use Rattle.std.proofs.Common.{◌≡◌, ◌+◌, ◌≤◌, drop, length, take}
+use Rattle.bc_deed.specs.Flushed.{HasDone}
+use Rattle.bc_hand.specs.Seats.{Works, empty, world}
+use Rattle.bc_machine.specs.World.{FromEach}
+use Rattle.bc_stored.specs.All.{AreOwnApart, unpins}
+use Rattle.bc_stored.proofs.all.let_go.Given as goal
+
+abbrev pub invariant-loop-place : goal.invariant-loop-place
+invariant-loop-place g l = Works g.C.Disk.facts g.B.Disk.facts l.parts l.seat l.hand
+    × (l.hand ≡ empty) × (length l.places ≤ l.seat.promises + l.place-index)
+    × FromEach (world g.C.Disk.facts g.B.Disk.facts l.seat)
+    (AreOwnApart l.seat.first (drop l.place-index l.places))
+    × HasDone g.C.Disk.facts g.B.Disk.facts (unpins (take l.place-index l.places)) l.initial.seat
+    l.seat
