@@ -1,7 +1,7 @@
 -- The run of events up to the data that a write of a line puts into a raised bucket.
 use Rattle.std.proofs.Common.{◌≡◌, ◌==◌, ℕ, List, [], ◌∷◌, ◌++◌, take, drop, Some, None, refl, sym, ap, ◌∙◌, subst, arith, if◌then◌else◌, lit<}
 use Rattle.std.proofs.lemmas.List.{take-append-drop}
-use Rattle.bc_model.specs.Sector.{Value}
+use Rattle.bc_model.specs.Sector.{Value, at_run}
 use Rattle.bc_books.specs.Index.{run_place}
 use Rattle.bc_books.specs.Shelves.{Own}
 use Rattle.bc_events.specs.Run.{IsRun, State, after, run}
@@ -101,6 +101,34 @@ filled = record {
       (λ ne at none. absurd (none_some v none));
 }
 
+-- its first sector alone
+abbrev first : Placed
+first = record place { count = 1 }
+
+one : (P : ℕ → Type 0) → P 28 → (t : ℕ) → IsOf first t → P t
+one P a t of =
+    subst P (let low = of.0 in let high = of.1 in let e : 28 ≡ t = omega (arith, low, high) in e) a
+
+own_first : IsOwn 1 first origin there
+own_first = record {
+  some = omega arith;
+  own = one (λ t. (books_of there.machine).owner t ≡ Own 1) refl;
+  bucket = one (λ t. opening.machine.flow.books.bucket t ≡ opening.machine.flow.books.bucket 28)
+      refl;
+  lies = record { bucket = omega arith; low = omega arith; high = omega arith };
+  generation = refl;
+}
+
+first_filled : IsFilled 1 0 (at_run 0 (nine ∷ [])) first origin there
+first_filled = record {
+  own = own_first;
+  holds = λ s t v. by_test 0 s (λ c. (if c then Some 28 else None) ≡ Some t
+      → (if c then Some nine else None) ≡ Some v → IsWrittenAt 1 t v there)
+      (λ is at some. subst (λ u. IsWrittenAt 1 u v there) (same_place 28 t at)
+      (subst (λ x. IsWrittenAt 1 28 x there) (same_value nine v some) first_written))
+      (λ ne at none. absurd (none_some v none));
+}
+
 has_place : HasPlace origin there
 has_place = record {
   seat = 1;
@@ -110,6 +138,7 @@ has_place = record {
   value = nine;
   written = written;
   filled = filled;
+  ready = record { filled = (first_filled, tt); apart = (tt, tt) };
 }
 
 pub has_example : HasExample
