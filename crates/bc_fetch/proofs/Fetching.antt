@@ -1,5 +1,5 @@
 -- A leaf that is fetched stands for the core's.
-use Rattle.std.proofs.Common.{◌≡◌, inl, inr, [], ℕ, ◌+◌, ◌-◌, ◌≤◌, ◌%◌, List, Option, Some, None, length, refl, sym, ap, subst, ◌∙◌, arith}
+use Rattle.std.proofs.Common.{◌≡◌, inl, inr, [], ℕ, ◌+◌, ◌-◌, ◌/◌, ◌≤◌, ◌%◌, List, Option, Some, None, length, refl, sym, ap, subst, ◌∙◌, arith}
 use Rattle.std.specs.Prelude.{Contains, IfOk, IfSome, OnErr, Result, Ok, Err, is_some}
 use Rattle.bc_cache.specs.Fetch.{IsUsed}
 use Rattle.bc_cache.specs.Slots.{Misses, NodeCache}
@@ -212,15 +212,18 @@ always_err (Err e) p = p
 
 module _ {C B : Type 0} (cache_facts : C → DiskFacts) (backing_facts : B → DiskFacts) where
   pub no_leaf : (h : Hand C B) (range : LeafRange) (v : View cache_facts backing_facts)
-      (l : LeafHand) (key : Key) (bytes : List ℕ) → h.leaves ≡ Some l → NamesLeaf range key
-      → MayStandAt cache_facts backing_facts v range.ptr.offset (values_of bytes) → (e : NodeError)
+      (l : LeafHand) (key : Key) (bytes : List ℕ) (bucket : ℕ) → h.leaves ≡ Some l
+      → NamesLeaf range key
+      → MayStandAt cache_facts backing_facts v range.ptr.offset (values_of bytes)
+      → bucket ≡ range.ptr.offset / l.cache.geometry.bucket → (e : NodeError)
       → IsNotDecoded l.cache.geometry key range.from bytes e
-      → IsNoLeaf cache_facts backing_facts h range (refusal e) v
-  no_leaf h range v l key bytes is names stand nodes.Memory cause = tt
-  no_leaf h range v l key bytes is names stand (nodes.First why) cause = (
+      → IsNoLeaf cache_facts backing_facts h range (refusal bucket e) v
+  no_leaf h range v l key bytes bucket is names stand at nodes.Memory cause = tt
+  no_leaf h range v l key bytes bucket is names stand at (nodes.First why) cause = (
     l,
     is,
     record {
+      bucket_is = at;
       key = key;
       names = names;
       bytes = bytes;
@@ -229,10 +232,11 @@ module _ {C B : Type 0} (cache_facts : C → DiskFacts) (backing_facts : B → D
       not_memory = λ same. cc;
     },
   )
-  no_leaf h range v l key bytes is names stand nodes.Ranges cause = (
+  no_leaf h range v l key bytes bucket is names stand at nodes.Ranges cause = (
     l,
     is,
     record {
+      bucket_is = at;
       key = key;
       names = names;
       bytes = bytes;
@@ -241,7 +245,7 @@ module _ {C B : Type 0} (cache_facts : C → DiskFacts) (backing_facts : B → D
       not_memory = λ same. cc;
     },
   )
-  no_leaf h range v l key bytes is names stand nodes.Fault cause = absurd cause
+  no_leaf h range v l key bytes bucket is names stand at nodes.Fault cause = absurd cause
 
   -- what a step refuses where the bytes were no leaf
   pub stopped_by : (h : Hand C B) (range : LeafRange) (sectors : ℕ)
@@ -255,7 +259,7 @@ module _ {C B : Type 0} (cache_facts : C → DiskFacts) (backing_facts : B → D
   stopped_by h range sectors v w errors.Busy none did = absurd none
   stopped_by h range sectors v w errors.Outside none did = absurd none
   stopped_by h range sectors v w errors.Missing none did = absurd none
-  stopped_by h range sectors v w (errors.Node e) none did = (none, did)
+  stopped_by h range sectors v w (errors.Node b e) none did = (none, did)
 
   -- it is no leaf of the part in hand before either
   pub no_leaf_before : (a b : Hand C B) (range : LeafRange) (v : View cache_facts backing_facts)
@@ -267,7 +271,7 @@ module _ {C B : Type 0} (cache_facts : C → DiskFacts) (backing_facts : B → D
   no_leaf_before a b range v same errors.Busy none = none
   no_leaf_before a b range v same errors.Outside none = none
   no_leaf_before a b range v same errors.Missing none = none
-  no_leaf_before a b range v same (errors.Node e) none =
+  no_leaf_before a b range v same (errors.Node q e) none =
       (none.0, sym (leaves_after a b same) ∙ none.1, none.2)
 
   -- a read that failed is a step that did
@@ -322,7 +326,7 @@ module _ {C B : Type 0} (cache_facts : C → DiskFacts) (backing_facts : B → D
   stop_before range sectors errors.Outside w stop =
       ((stop.0.0, sym (leaves_after a b same) ∙ stop.0.1, stop.0.2), did_before None w stop.1)
   stop_before range sectors errors.Missing w stop = absurd stop
-  stop_before range sectors (errors.Node e) w stop = (
+  stop_before range sectors (errors.Node q e) w stop = (
     (stop.0.0, sym (leaves_after a b same) ∙ stop.0.1, stop.0.2),
     did_before (Some (node_read range.ptr.offset)) w stop.1,
   )

@@ -1,6 +1,6 @@
 -- The way to a leaf, from an empty hand to the part with the leaf in it.
-use Rattle.std.proofs.Common.{◌≡◌, inl, inr, ℕ, ◌+◌, ◌-◌, ◌≤◌, [], ◌∷◌, false, Option, Some, None, refl, sym, ap, ◌∙◌, subst, arith}
-use Rattle.std.specs.Prelude.{is_some, slice_get}
+use Rattle.std.proofs.Common.{◌≡◌, inl, inr, ℕ, ◌+◌, ◌-◌, ◌%◌, ◌≤◌, [], ◌∷◌, false, Option, Some, None, refl, sym, ap, ◌∙◌, subst, arith}
+use Rattle.std.specs.Prelude.{is_some, length, slice_get}
 use Rattle.bc_cache.specs.Slots.{HasLeaf, IsOccupied, NodeCache}
 use Rattle.bc_cache.specs.declared.slots.Cached.{Cached}
 use Rattle.bc_deed.proofs.Sequence.{done_both, done_one, one_of}
@@ -15,15 +15,15 @@ use Rattle.bc_hand.specs.Seats.{Did, IsCoreSeat, Kinds, Works, empty, part_of, w
 use Rattle.bc_hand.specs.declared.error.StepError.TheVariants as steps
 use Rattle.bc_hand.specs.declared.hand.Hand.{Hand}
 use Rattle.bc_hand.specs.declared.hand.LeafHand.{LeafHand}
-use Rattle.bc_machine.specs.World.{AreLeaves}
+use Rattle.bc_machine.specs.World.{AreLeaves, cache_among}
 use Rattle.bc_machine.specs.declared.part.CorePart.{CorePart}
-use Rattle.bc_parts.specs.Seat.{PartsView}
+use Rattle.bc_parts.specs.Seat.{PartsView, Run}
 use Rattle.bc_seats.specs.Seats.{Waited}
 use Rattle.bc_spine.specs.declared.leaf.LeafRange.{LeafRange}
-use Rattle.bc_fetch.specs.Fetch.{HasFetched, HasLeafFor, HasPart, HasReadOne, HasStoppedAt, HasTaken, HasTakenIn, IsInSpine, IsLeafStop, IsSameButLeaves, OfBoth, OfLeaves, node_read}
+use Rattle.bc_fetch.specs.Fetch.{HasFetched, HasHad, HasLeafFor, HasPart, HasReadOne, HasShortLeaf, HasStoppedAt, HasTaken, HasTakenIn, IsInSpine, IsLeafStop, IsSameButLeaves, LiesOutside, OfBoth, OfLeaves, node_read}
 use Rattle.bc_fetch.specs.declared.error.LeafError.{LeafError}
 use Rattle.bc_fetch.specs.declared.error.LeafError.TheVariants as errors
-use Rattle.bc_fetch.proofs.Fetching.{in_hand, its_number}
+use Rattle.bc_fetch.proofs.Fetching.{in_hand, its_number, its_part, leaf_count, spine_in_hand}
 
 -- ---- the hand
 
@@ -49,15 +49,31 @@ with_part_of None n is = absurd (cc)
 with_part_of (Some l) n is = (l, refl, cc)
 
 -- the part in hand is the same one still
-pub part_given : {C B : Type 0} (a b c : Hand C B) (part : ℕ) → HasPart a part
-    → IsSameButLeaves a b → c ≡ record b { spine = None } → HasPart c part
-part_given a b c part has same is =
+part_kept : {C B : Type 0} (a b : Hand C B) (part : ℕ) → HasPart a part → IsSameButLeaves a b
+    → HasPart b part
+part_kept a b part has same =
     let one = with_part_of b.leaves part (ap (λ (k : Kinds). k.leaves) same.kinds_are
     ∙ ap part_of has.is ∙ ap Some has.part_is) in record {
       hand = one.0;
-      is = ap (λ (h : Hand _ _). h.leaves) is ∙ one.1;
+      is = one.1;
       part_is = one.2;
     }
+
+pub part_given : {C B : Type 0} (a b c : Hand C B) (part : ℕ) → HasPart a part
+    → IsSameButLeaves a b → c ≡ record b { spine = None } → HasPart c part
+part_given a b c part has same is = let one = part_kept a b part has same in record {
+  hand = one.hand;
+  is = ap (λ (h : Hand _ _). h.leaves) is ∙ one.is;
+  part_is = one.part_is;
+}
+
+spine_kept : {C B : Type 0} (a b : Hand C B) (range : LeafRange) → IsInSpine a range
+    → IsSameButLeaves a b → IsInSpine b range
+spine_kept a b range there same = record {
+  spine = there.spine;
+  is = ap (λ (h : Hand _ _). h.spine) same.rest ∙ there.is;
+  range_in = there.range_in;
+}
 
 none_there : {A : Type 0} (o : Option A) → is_some o ≡ false → o ≡ None
 none_there None is = refl
@@ -173,35 +189,117 @@ module _ {C B : Type 0} (cache_facts : C → DiskFacts) (backing_facts : B → D
     stopped_left sectors errors.Busy stop = let p = stop.1.is.promises in omega (arith, p)
     stopped_left sectors errors.Outside stop = let p = stop.1.is.promises in omega (arith, p)
     stopped_left sectors errors.Missing stop = absurd stop
-    stopped_left sectors (errors.Node e) stop = let p = stop.1.is.promises in omega (arith, p)
+    stopped_left sectors (errors.Node q e) stop = let p = stop.1.is.promises in omega (arith, p)
+
+  -- the leaf and its part are in hand
+  has_had : (p : PartsView (CorePart C B)) (v : View cache_facts backing_facts) (h : Hand C B)
+      (range : LeafRange) (l : LeafHand) → Works cache_facts backing_facts p v h → IsInSpine h range
+      → HasPart h (6 + range.number % (length p.run.start - 6)) → h.leaves ≡ Some l
+      → HasHad cache_facts backing_facts range l.cache v
+  has_had p v h range l works tree part is =
+      let count = ap (λ n. range.number % n) (sym (leaf_count cache_facts backing_facts v)) in
+      let its = its_part cache_facts backing_facts p v range.number l.part works.run
+      (its_number h (6 + range.number % (length p.run.start - 6)) l part is) in record {
+        spine = tree.spine;
+        tree = spine_in_hand cache_facts backing_facts p v h tree.spine works tree.is;
+        range_in = tree.range_in;
+        stood = subst (λ n. AreLeaves n l.cache (world cache_facts backing_facts v))
+            (sym (count ∙ its)) (in_hand cache_facts backing_facts p v h l works is).1;
+      }
 
   module _ (h : Hand C B) (range : LeafRange) (u v w x : View cache_facts backing_facts)
       (a : HasDone cache_facts backing_facts [] u v)
       (b : HasDone cache_facts backing_facts [] w x) where
+    fetched_to : HasFetched cache_facts backing_facts h range v w
+        → HasReadOne cache_facts backing_facts u w
+    fetched_to (inl there) = inl (then_done u v w a
+        (done_one cache_facts backing_facts None v w there.1))
+    fetched_to (inr missed) = inr (
+      range.ptr.offset,
+      done_both cache_facts backing_facts [] (node_read range.ptr.offset ∷ []) u v w a
+          (done_one cache_facts backing_facts (Some (node_read range.ptr.offset)) v w missed.1),
+    )
+
     pub fetched_way : HasFetched cache_facts backing_facts h range v w
         → HasReadOne cache_facts backing_facts u x
     fetched_way (inl there) = inl (around None u v w x a there.1 b)
     fetched_way (inr missed) =
         inr (range.ptr.offset, around (Some (node_read range.ptr.offset)) u v w x a missed.1 b)
 
-    pub stopped_way : (sectors : ℕ) (e : LeafError)
-        → IsLeafStop cache_facts backing_facts h range sectors e v w
-        → HasStoppedAt cache_facts backing_facts e u x
-    stopped_way sectors (errors.Step steps.Memory) (inl did) = inl (around None u v w x a did b)
-    stopped_way sectors (errors.Step steps.Memory) (inr did) =
-        inr (range.ptr.offset, around (Some (node_read range.ptr.offset)) u v w x a did b)
-    stopped_way sectors (errors.Step (steps.Fault d)) stop = (
-      stop.0,
-      around (Some (deed.DeviceFault (failure.Read device.Cache))) u v w x a stop.1 b,
-    )
-    stopped_way sectors (errors.Step (steps.Halted d)) stop = (
-      w,
-      then_done u v w a (done_one cache_facts backing_facts None v w stop.1),
-      stop.0,
-      b,
-    )
-    stopped_way sectors errors.Busy stop = around None u v w x a stop.1 b
-    stopped_way sectors errors.Outside stop = around None u v w x a stop.1 b
-    stopped_way sectors errors.Missing stop = absurd stop
-    stopped_way sectors (errors.Node e) stop =
-        (range.ptr.offset, around (Some (node_read range.ptr.offset)) u v w x a stop.1 b)
+    module _ (p : PartsView (CorePart C B)) (works : Works cache_facts backing_facts p v h)
+        (tree : IsInSpine h range)
+        (part : HasPart h (6 + range.number % (length p.run.start - 6))) where
+      pub stopped_way : (first count : ℕ) (e : LeafError)
+          → IsLeafStop cache_facts backing_facts h range
+          (cache_among cache_facts backing_facts p.run.start).sectors e v w
+          → HasStoppedAt cache_facts backing_facts first count e u x
+      stopped_way first count (errors.Step steps.Memory) (inl did) = inl (around None u v w x a did b)
+      stopped_way first count (errors.Step steps.Memory) (inr did) =
+          inr (range.ptr.offset, around (Some (node_read range.ptr.offset)) u v w x a did b)
+      stopped_way first count (errors.Step (steps.Fault d)) stop = (
+        stop.0,
+        around (Some (deed.DeviceFault (failure.Read device.Cache))) u v w x a stop.1 b,
+      )
+      stopped_way first count (errors.Step (steps.Halted d)) stop = (
+        w,
+        then_done u v w a (done_one cache_facts backing_facts None v w stop.1),
+        stop.0,
+        b,
+      )
+      stopped_way first count errors.Busy stop = record {
+        range = range;
+        leaves = stop.0.0.cache;
+        at = v;
+        way = a;
+        had = has_had p v h range stop.0.0 works tree part stop.0.1;
+        now = w;
+        did = done_one cache_facts backing_facts None v w stop.1;
+        so = stop.0.2;
+        then = b;
+      }
+      stopped_way first count errors.Outside stop = record {
+        range = range;
+        leaves = stop.0.0.cache;
+        at = v;
+        way = a;
+        had = has_had p v h range stop.0.0 works tree part stop.0.1;
+        now = w;
+        did = done_one cache_facts backing_facts None v w stop.1;
+        so = subst (λ (r : Run (CorePart C B)). LiesOutside stop.0.0.cache.geometry range.ptr.offset
+            (cache_among cache_facts backing_facts r.start).sectors)
+            (sym (stop.1.is.same.run ∙ works.run)) stop.0.2;
+        then = b;
+      }
+      stopped_way first count errors.Missing stop = absurd stop
+      stopped_way first count (errors.Node q e) stop = record {
+        range = range;
+        leaves = stop.0.0.cache;
+        at = v;
+        way = a;
+        had = has_had p v h range stop.0.0 works tree part stop.0.1;
+        now = w;
+        did = done_one cache_facts backing_facts (Some (node_read range.ptr.offset)) v w stop.1;
+        so = stop.0.2;
+        then = b;
+      }
+
+      -- the leaf of a slot hasn't all sectors, though the tree's has
+      pub short_way : (first count slot : ℕ) (k : Hand C B) → IsSameButLeaves h k
+          → Works cache_facts backing_facts p w k → HasFetched cache_facts backing_facts h range v w
+          → (range.from ≤ first) × (first + count ≤ range.end)
+          → (of : OfLeaves k (λ c. HasLeaf c.slots slot range.number))
+          → ((of.2.cached.leaf.from ≤ first) × (first + count ≤ of.2.cached.leaf.end) → ⊥)
+          → HasShortLeaf cache_facts backing_facts first count u x
+      short_way first count slot k same after did covers of short = record {
+        range = range;
+        covers = covers;
+        leaves = of.0.cache;
+        at = w;
+        read = fetched_to did;
+        had = has_had p w k range of.0 after (spine_kept h k range tree same)
+            (part_kept h k (6 + range.number % (length p.run.start - 6)) part same) of.1;
+        slot = slot;
+        has = of.2;
+        short = short;
+        then = b;
+      }

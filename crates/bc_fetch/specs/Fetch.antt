@@ -1,5 +1,5 @@
 -- What a step that fetches a leaf leaves, and why it refuses.
-use Rattle.std.specs.Prelude.{◌≡◌, ◌≢◌, ◌⊎◌, ℕ, ◌+◌, ◌-◌, ◌<◌, List, [], ◌∷◌, Contains, None, Some, is_some, slice_get}
+use Rattle.std.specs.Prelude.{◌≡◌, ◌≢◌, ◌⊎◌, ℕ, ◌+◌, ◌-◌, ◌/◌, ◌%◌, ◌<◌, ◌≤◌, List, [], ◌∷◌, Contains, None, Some, is_some, length, slice_get}
 use Rattle.bc_cache.specs.declared.slots.Cached.{Cached}
 use Rattle.bc_cache.specs.Fetch.{IsUsed}
 use Rattle.bc_cache.specs.Slots.{HasLeaf, IsOldest, Misses, NodeCache, NoneCanGo, coming, used_with, with_slot}
@@ -8,6 +8,7 @@ use Rattle.bc_disk.specs.Disk.{DiskFacts}
 use Rattle.bc_deed.specs.Flushed.{HasDone}
 use Rattle.bc_disk.specs.declared.disk.Device.{Device}
 use Rattle.bc_disk.specs.declared.disk.Device.TheVariants.{Cache}
+use Rattle.bc_disk.specs.declared.geometry.Geometry.{Geometry}
 use Rattle.bc_events.specs.Columns.{halt_of}
 use Rattle.bc_events.specs.declared.event.Deed.{Deed}
 use Rattle.bc_events.specs.declared.event.Deed.TheVariants as deed
@@ -17,7 +18,7 @@ use Rattle.bc_hand.specs.declared.error.StepError.TheVariants as steps
 use Rattle.bc_hand.specs.declared.hand.Hand.{Hand}
 use Rattle.bc_hand.specs.declared.hand.LeafHand.{LeafHand}
 use Rattle.bc_key.specs.declared.key.Key.{Key}
-use Rattle.bc_machine.specs.World.{AreLeaves, IsCourseOf, IsOrigin, Origin, World, replay}
+use Rattle.bc_machine.specs.World.{AreLeaves, IsCourseOf, IsOrigin, IsSpine, Origin, World, cache_among, replay}
 use Rattle.bc_model.specs.Sector.{Image, Value, values_of}
 use Rattle.bc_node.specs.Leaf.{Leaf}
 use Rattle.bc_node.specs.Loading.{IsNotDecoded}
@@ -25,6 +26,7 @@ use Rattle.bc_node.specs.declared.error.NodeError.{NodeError}
 use Rattle.bc_node.specs.declared.error.NodeError.TheVariants.{Memory}
 use Rattle.bc_record.specs.Sectors.{Has}
 use Rattle.bc_reload.specs.Reload.{NamesLeaf}
+use Rattle.bc_spine.specs.Leaves.{Spans}
 use Rattle.bc_spine.specs.declared.leaf.LeafRange.{LeafRange}
 use Rattle.bc_sight.specs.Asked.{HasFailedRead}
 use Rattle.bc_sight.specs.Sight.{HasLeaf as HasLeafOf}
@@ -90,10 +92,20 @@ OfBoth old new P = OfLeaves old (λ was. OfLeaves new (λ now. P was now))
 
 -- ---- refusals
 
--- want of memory is the step's, and all else the node's
-abbrev pub refusal : NodeError → LeafError
-refusal Memory = errors.Step steps.Memory
-refusal e = errors.Node e
+-- want of memory is the step's, and all else that of the node in a bucket
+abbrev pub refusal : ℕ → NodeError → LeafError
+refusal bucket Memory = errors.Step steps.Memory
+refusal bucket why = errors.Node bucket why
+
+-- A node from this sector on ends behind so many sectors of the device, or begins in none of its
+-- buckets.
+abbrev pub LiesOutside : Geometry → (at sectors : ℕ) → Type 0
+LiesOutside g at sectors = (sectors < at + g.node_sectors) ⊎ (g.nbuckets ≤ at / g.bucket)
+
+-- the tree ends by a sector, or its leaf of that one ends before another
+abbrev pub EndsWithin : Spine → (first end : ℕ) → Type 0
+EndsWithin spine first end = (spine.root.end ≤ first)
+    ⊎ ((range : LeafRange) × Contains spine.leaves range × Spans range first × (range.end < end))
 
 -- ---- reads
 
@@ -121,9 +133,10 @@ module _ {C B : Type 0} (cache_facts : C → DiskFacts) (backing_facts : B → D
       ⊎ (OfLeaves h (λ c. Misses c.slots range.number)
       × Did cache_facts backing_facts (Some (node_read range.ptr.offset)) v w)
 
-  -- The device gave bytes that are no leaf of the range.
-  pub record IsBadLeaf (c : NodeCache) (range : LeafRange) (e : NodeError)
+  -- The device gave bytes that are no leaf of the range, for a leaf that begins in this bucket.
+  pub record IsBadLeaf (c : NodeCache) (range : LeafRange) (bucket : ℕ) (e : NodeError)
       (v : View cache_facts backing_facts) : Type 0 where
+    pub bucket_is : bucket ≡ range.ptr.offset / c.geometry.bucket
     pub key : Key
     pub names : NamesLeaf range key
     pub bytes : List ℕ
@@ -134,7 +147,7 @@ module _ {C B : Type 0} (cache_facts : C → DiskFacts) (backing_facts : B → D
   -- why the bytes that were read didn't become a leaf
   abbrev pub IsNoLeaf : Hand C B → LeafRange → LeafError → View cache_facts backing_facts → Type 0
   IsNoLeaf h range (errors.Step steps.Memory) v = Unit {0}
-  IsNoLeaf h range (errors.Node e) v = OfLeaves h (λ c. IsBadLeaf c range e v)
+  IsNoLeaf h range (errors.Node bucket e) v = OfLeaves h (λ c. IsBadLeaf c range bucket e v)
   IsNoLeaf h range e v = ⊥
 
   -- Why a leaf that no slot has wasn't read into one.
@@ -147,10 +160,11 @@ module _ {C B : Type 0} (cache_facts : C → DiskFacts) (backing_facts : B → D
   IsLeafStop h range sectors errors.Busy v w =
       OfLeaves h (λ c. NoneCanGo c.slots) × Did cache_facts backing_facts None v w
   IsLeafStop h range sectors errors.Outside v w =
-      OfLeaves h (λ c. sectors < range.ptr.offset + c.geometry.node_sectors)
+      OfLeaves h (λ c. LiesOutside c.geometry range.ptr.offset sectors)
       × Did cache_facts backing_facts None v w
   IsLeafStop h range sectors errors.Missing v w = ⊥
-  IsLeafStop h range sectors (errors.Node e) v w = OfLeaves h (λ c. IsBadLeaf c range e w)
+  IsLeafStop h range sectors (errors.Node bucket e) v w =
+      OfLeaves h (λ c. IsBadLeaf c range bucket e w)
       × Did cache_facts backing_facts (Some (node_read range.ptr.offset)) v w
 
   -- What a seat did on its way to a leaf that it has: nothing, or one read of a node.
@@ -176,15 +190,71 @@ module _ {C B : Type 0} (cache_facts : C → DiskFacts) (backing_facts : B → D
       × HasDone cache_facts backing_facts [] v u × (halt_of u.seen ≡ Some device)
       × HasDone cache_facts backing_facts [] u w
 
-  -- what it did by the refusal, where it hasn't one
-  abbrev pub HasStoppedAt : LeafError → View cache_facts backing_facts
+  -- a leaf of the tree and the leaf's part, which stood for the run so
+  pub record HasHad (range : LeafRange) (leaves : NodeCache) (v : View cache_facts backing_facts)
+      : Type 0 where
+    pub spine : Spine
+    pub tree : IsSpine spine (world cache_facts backing_facts v)
+    pub range_in : Contains spine.leaves range
+    pub stood : AreLeaves (range.number % (length v.run.start - 6)) leaves
+        (world cache_facts backing_facts v)
+
+  -- These deeds were done for such a leaf, after which this was so of it and its part.
+  pub record HasComeTo (So : LeafRange → NodeCache → View cache_facts backing_facts → Type 0)
+      (deeds : LeafRange → List Deed) (v w : View cache_facts backing_facts) : Type 0 where
+    pub range : LeafRange
+    pub leaves : NodeCache
+    pub at : View cache_facts backing_facts
+    pub way : HasDone cache_facts backing_facts [] v at
+    pub had : HasHad range leaves at
+    pub now : View cache_facts backing_facts
+    pub did : HasDone cache_facts backing_facts (deeds range) at now
+    pub so : So range leaves now
+    pub then : HasDone cache_facts backing_facts [] now w
+
+  -- the tree, as the seat had it, has no leaf with so many sectors from the first one on
+  pub record HasShortTree (first count : ℕ) (v w : View cache_facts backing_facts) : Type 0 where
+    pub at : View cache_facts backing_facts
+    pub way : HasDone cache_facts backing_facts [] v at
+    pub spine : Spine
+    pub tree : IsSpine spine (world cache_facts backing_facts at)
+    pub ends : EndsWithin spine first (first + count)
+    pub then : HasDone cache_facts backing_facts [] at w
+
+  -- it has one, and the leaf that a slot of the part has for that doesn't have them
+  pub record HasShortLeaf (first count : ℕ) (v w : View cache_facts backing_facts) : Type 0 where
+    pub range : LeafRange
+    pub covers : (range.from ≤ first) × (first + count ≤ range.end)
+    pub leaves : NodeCache
+    pub at : View cache_facts backing_facts
+    pub read : HasReadOne v at
+    pub had : HasHad range leaves at
+    pub slot : ℕ
+    pub has : HasLeaf leaves.slots slot range.number
+    pub short : ¬ ((has.cached.leaf.from ≤ first) × (first + count ≤ has.cached.leaf.end))
+    pub then : HasDone cache_facts backing_facts [] at w
+
+  -- each slot of the part has a leaf that can't go
+  abbrev pub HasNoSlot : LeafRange → NodeCache → View cache_facts backing_facts → Type 0
+  HasNoSlot range leaves v = NoneCanGo leaves.slots
+
+  -- the leaf doesn't lie in a bucket of the device
+  abbrev pub IsElsewhere : LeafRange → NodeCache → View cache_facts backing_facts → Type 0
+  IsElsewhere range leaves v = LiesOutside leaves.geometry range.ptr.offset
+      (cache_among cache_facts backing_facts v.run.start).sectors
+
+  -- what it did by the refusal, where it hasn't one with so many sectors from the first one on, and
+  -- why
+  abbrev pub HasStoppedAt : (first count : ℕ) → LeafError → View cache_facts backing_facts
       → View cache_facts backing_facts → Type 0
-  HasStoppedAt (errors.Step steps.Memory) v w = HasReadOne v w
-  HasStoppedAt (errors.Step (steps.Fault device)) v w = (device ≡ Cache)
+  HasStoppedAt first count (errors.Step steps.Memory) v w = HasReadOne v w
+  HasStoppedAt first count (errors.Step (steps.Fault device)) v w = (device ≡ Cache)
       × HasDone cache_facts backing_facts (deed.DeviceFault (failure.Read Cache) ∷ []) v w
-  HasStoppedAt (errors.Step (steps.Halted device)) v w = HasHalted device v w
-  HasStoppedAt errors.Busy v w = HasDone cache_facts backing_facts [] v w
-  HasStoppedAt errors.Outside v w = HasDone cache_facts backing_facts [] v w
-  HasStoppedAt errors.Missing v w = HasReadOne v w
-  HasStoppedAt (errors.Node e) v w =
-      (at : ℕ) × HasDone cache_facts backing_facts (node_read at ∷ []) v w
+  HasStoppedAt first count (errors.Step (steps.Halted device)) v w = HasHalted device v w
+  HasStoppedAt first count errors.Busy v w = HasComeTo HasNoSlot (λ range. []) v w
+  HasStoppedAt first count errors.Outside v w = HasComeTo IsElsewhere (λ range. []) v w
+  HasStoppedAt first count errors.Missing v w =
+      HasShortTree first count v w ⊎ HasShortLeaf first count v w
+  HasStoppedAt first count (errors.Node bucket e) v w = HasComeTo
+      (λ range leaves u. IsBadLeaf leaves range bucket e u) (λ range. node_read range.ptr.offset ∷ [])
+      v w

@@ -9,10 +9,11 @@ pub enum LeafError {
     Step(StepError),
     /// Each slot of the part has a leaf that somebody holds, or of which some keys are pending.
     Busy,
-    /// The leaf doesn't lie on the cache device.
+    /// The leaf ends behind the cache device, or begins in none of its buckets.
     Outside,
     /// No leaf has all of the sectors.
     Missing,
-    /// What the device gave is no leaf of these sectors.
-    Node(NodeError),
+    /// What the device gave for the leaf, which begins in this bucket, is no leaf of its sectors;
+    /// `why` is `First` or `Ranges`.
+    Node { bucket: u32, why: NodeError },
 }

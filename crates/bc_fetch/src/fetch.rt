@@ -1,5 +1,5 @@
 //! The step that fetches a leaf.
-ghost use Rattle.std.specs.Prelude.{◌≡◌, ◌+◌, ◌-◌, ◌*◌, ◌%◌, ◌<◌, ℕ, false, None, Some, length, IfOk, IfErr, OnOk, OnErr};
+ghost use Rattle.std.specs.Prelude.{◌≡◌, ◌+◌, ◌-◌, ◌*◌, ◌/◌, ◌%◌, ◌<◌, ℕ, false, None, Some, length, IfOk, IfErr, OnOk, OnErr};
 ghost use Rattle.bc_cache.specs.Slots.{HasLeaf, Misses, NoneCanGo};
 ghost use Rattle.bc_deed.specs.Asked.{AreSectors};
 ghost use Rattle.bc_hand.specs.Seats.{HasNoneBehindCache, Works, Did};
@@ -27,7 +27,8 @@ use std::sync::Wait;
 /// a slot has it. Every other slot is as it was.
 ///
 /// `Busy` comes where no slot has the leaf and none has one that can go, `Outside` where it doesn't
-/// lie on the device; then nothing is done. `Node` comes where the device gave no leaf of the range.
+/// lie in a bucket of the device; then nothing is done. `Node` comes where the device gave no leaf
+/// of the range, and has the bucket in which the leaf begins.
 /// `Step` has `Fault` where the read failed, `Halted` where the seat was told of a halt, and `Memory`.
 /// After an error the slots are as they were.
 pub fn fetch<C: Disk + Drop, B: Disk + Drop, R: Wait, G: Gate>(
@@ -109,18 +110,25 @@ fn read_leaf<C: Disk + Drop, B: Disk + Drop, R: Wait, G: Gate>(
     let Some(leaves) = &hand.leaves else {
         unreachable!()
     };
-    let length = leaves.cache.geometry().node_sectors;
+    let g = *leaves.cache.geometry();
     let sectors = cache_sectors(rt, parts, seat, hand);
-    if sectors < range.ptr.offset + u64::from(length) {
+    if sectors < range.ptr.offset + u64::from(g.node_sectors) {
         return Err(LeafError::Outside);
     }
-    let Ok(mut bytes) = vec![in alloc; 0u8; 512 * length as usize] else {
+    let at = range.ptr.offset / u64::from(g.bucket);
+    if u64::from(g.nbuckets) <= at {
+        return Err(LeafError::Outside);
+    }
+    let Ok(mut bytes) = vec![in alloc; 0u8; 512 * g.node_sectors as usize] else {
         return Err(LeafError::Step(StepError::Memory));
     };
-    read_into(rt, alloc, parts, seat, hand, range, &mut bytes, gate)
+    let bucket = at as u32;
+    read_into(
+        rt, alloc, parts, seat, hand, range, bucket, &mut bytes, gate,
+    )
 }
 
-// The same with room for its bytes, where it lies on the device.
+// The same with room for its bytes, where it lies on the device, from this bucket on.
 fn read_into<C: Disk + Drop, B: Disk + Drop, R: Wait, G: Gate>(
     rt: &R,
     alloc: Global,
@@ -128,6 +136,7 @@ fn read_into<C: Disk + Drop, B: Disk + Drop, R: Wait, G: Gate>(
     seat: &mut CoreSeat<C, B>,
     hand: &mut Hand<C, B>,
     range: &LeafRange,
+    bucket: u32,
     bytes: &mut [u8],
     gate: &G,
 ) -> Result<u32, LeafError>
@@ -140,6 +149,7 @@ fn read_into<C: Disk + Drop, B: Disk + Drop, R: Wait, G: Gate>(
         (6 + range.now.number % (length parts.now.run.start - 6)) }
     requires new { OfLeaves hand.old (λ c. Misses c.slots range.now.number) }
     requires some { OfLeaves hand.old (λ c. ¬ (NoneCanGo c.slots)) }
+    requires begins { OfLeaves hand.old (λ c. bucket ≡ range.now.ptr.offset / c.geometry.bucket) }
     requires whole { OfLeaves hand.old (λ c. length bytes.old ≡ 512 * c.geometry.node_sectors) }
     requires sectors { AreSectors range.now.ptr.offset (length bytes.old)
         (cache_among C.facts B.facts parts.now.run.start).sectors }
@@ -156,18 +166,19 @@ fn read_into<C: Disk + Drop, B: Disk + Drop, R: Wait, G: Gate>(
     ensures kept { OnErr result (hand.new.leaves ≡ hand.old.leaves) }
 {
     match read_node(rt, alloc, parts, seat, hand, range.ptr.offset, bytes, gate) {
-        Ok(()) => take_in(alloc, parts, seat, hand, range, bytes),
+        Ok(()) => take_in(alloc, parts, seat, hand, range, bucket, bytes),
         Err(error) => Err(LeafError::Step(error)),
     }
 }
 
-// Puts a leaf into a slot, of the bytes that were read of it.
+// Puts a leaf, which begins in this bucket, into a slot, of the bytes that were read of it.
 fn take_in<C: Disk + Drop, B: Disk + Drop>(
     alloc: Global,
     parts: &CoreParts<C, B>,
     seat: &CoreSeat<C, B>,
     hand: &mut Hand<C, B>,
     range: &LeafRange,
+    bucket: u32,
     bytes: &[u8],
 ) -> Result<u32, LeafError>
     requires works { Works C.facts B.facts parts.now seat.now hand.old }
@@ -176,6 +187,7 @@ fn take_in<C: Disk + Drop, B: Disk + Drop>(
         (6 + range.now.number % (length parts.now.run.start - 6)) }
     requires new { OfLeaves hand.old (λ c. Misses c.slots range.now.number) }
     requires some { OfLeaves hand.old (λ c. ¬ (NoneCanGo c.slots)) }
+    requires begins { OfLeaves hand.old (λ c. bucket ≡ range.now.ptr.offset / c.geometry.bucket) }
     requires whole { OfLeaves hand.old (λ c. length bytes.now ≡ 512 * c.geometry.node_sectors) }
     requires stand { MayStandAt C.facts B.facts seat.now range.now.ptr.offset (values_of bytes.now) }
     ensures works { Works C.facts B.facts parts.now seat.now hand.new }
@@ -202,17 +214,17 @@ fn take_in<C: Disk + Drop, B: Disk + Drop>(
         }
         Err(error) => {
             hand.leaves = Some(leaves);
-            Err(refusal(error))
+            Err(refusal(bucket, error))
         }
     }
 }
 
-// Want of memory is the step's, and all else the node's.
-fn refusal(error: NodeError) -> LeafError
-    ensures { result ≡ refusal error }
+// Want of memory is the step's, and all else that of the node in a bucket.
+fn refusal(bucket: u32, error: NodeError) -> LeafError
+    ensures { result ≡ refusal bucket error }
 {
     match error {
         NodeError::Memory => LeafError::Step(StepError::Memory),
-        error => LeafError::Node(error),
+        why => LeafError::Node { bucket, why },
     }
 }

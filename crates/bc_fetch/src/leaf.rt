@@ -5,7 +5,7 @@ ghost use Rattle.bc_cache.specs.declared.slots.Cached.{Cached};
 ghost use Rattle.bc_hand.specs.Seats.{core, Works, HasNoneBehindSpine, HasNoneBehindLeaves, empty};
 ghost use Rattle.bc_machine.specs.World.{are_plain};
 ghost use Rattle.bc_seats.specs.Seats.{Waited};
-ghost use Rattle.bc_fetch.specs.Fetch.{HasLeafFor, HasPart, HasReadOne, HasStoppedAt, HasTakenIn, IsInSpine, OfLeaves};
+ghost use Rattle.bc_fetch.specs.Fetch.{HasLeafFor, HasPart, HasReadOne, HasShortTree, HasStoppedAt, HasTakenIn, IsInSpine, OfLeaves};
 
 use crate::error::LeafError;
 use crate::fetch::fetch;
@@ -39,6 +39,7 @@ fn take_spine<C: Disk + Drop, B: Disk + Drop, R: Wait>(
         × (first + count ≤ range.end)) }
     ensures hand { hand.new ≡ record empty { spine = hand.new.spine } }
     ensures none { IfNone result (hand.new ≡ empty) }
+    ensures missing { IfNone result (HasShortTree C.facts B.facts first count seat.old seat.new) }
 {
     let (spine, _) = borrow_spine(rt, parts, seat, hand);
     if spine.get().root().end() <= first {
@@ -118,9 +119,12 @@ pub fn give_leaves<C: Disk + Drop, B: Disk + Drop, R: Wait>(
 fn has_range<C, B>(hand: &Hand<C, B>, slot: u32, first: u64, count: u32) -> bool
     requires slot { OfLeaves hand.now (λ c. IsOccupied c.slots slot) }
     requires few { first + count < 2 ^ 64 }
-    ensures { IsTrue result → OfLeaves hand.now (λ c. (cached : Cached)
+    ensures all { IsTrue result → OfLeaves hand.now (λ c. (cached : Cached)
         × (slice_get c.slots slot ≡ Some (Some cached)) × (cached.leaf.from ≤ first)
         × (first + count ≤ cached.leaf.end)) }
+    ensures short { result ≡ false → ¬ (OfLeaves hand.now (λ c. (cached : Cached)
+        × (slice_get c.slots slot ≡ Some (Some cached)) × (cached.leaf.from ≤ first)
+        × (first + count ≤ cached.leaf.end))) }
 {
     let Some(leaves) = &hand.leaves else {
         unreachable!()
@@ -135,7 +139,9 @@ fn has_range<C, B>(hand: &Hand<C, B>, slot: u32, first: u64, count: u32) -> bool
 /// one of the seat's promises at most. Of the other slots of the part each is as it was when the part
 /// was taken; another leaf goes only where the device was called, by the rule of `fetch`.
 ///
-/// `Missing` comes where no leaf has all of them. After an error the hand is empty again.
+/// `Missing` comes where no leaf of the tree has all of them, or the one that a slot has for them
+/// doesn't. The other refusals are those of `fetch`, of the leaf that the tree has for them. After an
+/// error the hand is empty again.
 pub fn leaf_at<C: Disk + Drop, B: Disk + Drop, R: Wait, G: Gate>(
     rt: &R,
     alloc: Global,
@@ -161,7 +167,8 @@ pub fn leaf_at<C: Disk + Drop, B: Disk + Drop, R: Wait, G: Gate>(
     ensures err { OnErr result (hand.new ≡ empty) }
     ensures did { OnOk result (HasReadOne C.facts B.facts seat.old seat.new) }
     ensures left { seat.old.promises ≤ seat.new.promises + 1 }
-    ensures stopped { IfErr result (λ error. HasStoppedAt C.facts B.facts error seat.old seat.new) }
+    ensures stopped { IfErr result (λ error. HasStoppedAt C.facts B.facts first count error
+        seat.old seat.new) }
 {
     let Some(range) = take_spine(rt, parts, seat, hand, first, count) else {
         return Err(LeafError::Missing);

@@ -130,7 +130,7 @@ module _ {C B : Type 0} (h : Hand C B) (number first count : ℕ) (leaves : Leaf
     not_in sectors (error.Leaf errors.Busy) gone = absurd gone
     not_in sectors (error.Leaf errors.Outside) gone = absurd gone
     not_in sectors (error.Leaf errors.Missing) gone = absurd gone
-    not_in sectors (error.Leaf (errors.Node e)) gone = absurd gone
+    not_in sectors (error.Leaf (errors.Node q e)) gone = absurd gone
     not_in sectors error.Lost gone = record {
       both = this;
       lost = subst (λ (l : Leaf). IsLostBy l part.buckets first (first + count) sectors) same_leaf gone;

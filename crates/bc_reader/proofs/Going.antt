@@ -39,15 +39,21 @@ module _ {C B : Type 0} (cache_facts : C → DiskFacts) (backing_facts : B → D
   on_read v w (inl none) = ([], none)
   on_read v w (inr one) = (node_read one.0 ∷ [], one.1)
 
-  on_stopped : (e : LeafError) (v w : View cache_facts backing_facts)
-      → HasStoppedAt cache_facts backing_facts e v w → HasGoneOn v w
-  on_stopped (errors.Step step.Memory) v w h = on_read v w h
-  on_stopped (errors.Step (step.Fault d)) v w h = (deed.DeviceFault (failure.Read Cache) ∷ [], h.1)
-  on_stopped (errors.Step (step.Halted d)) v w h = on_both v h.0 w ([], h.1) ([], h.3)
-  on_stopped errors.Busy v w h = ([], h)
-  on_stopped errors.Outside v w h = ([], h)
-  on_stopped errors.Missing v w h = on_read v w h
-  on_stopped (errors.Node e) v w h = (node_read h.0 ∷ [], h.1)
+  on_stopped : (first count : ℕ) (e : LeafError) (v w : View cache_facts backing_facts)
+      → HasStoppedAt cache_facts backing_facts first count e v w → HasGoneOn v w
+  on_stopped first count (errors.Step step.Memory) v w h = on_read v w h
+  on_stopped first count (errors.Step (step.Fault d)) v w h =
+      (deed.DeviceFault (failure.Read Cache) ∷ [], h.1)
+  on_stopped first count (errors.Step (step.Halted d)) v w h = on_both v h.0 w ([], h.1) ([], h.3)
+  on_stopped first count errors.Busy v w h = on_both v h.at w ([], h.way)
+      (on_both h.at h.now w ([], h.did) ([], h.then))
+  on_stopped first count errors.Outside v w h = on_both v h.at w ([], h.way)
+      (on_both h.at h.now w ([], h.did) ([], h.then))
+  on_stopped first count errors.Missing v w (inl h) = on_both v h.at w ([], h.way) ([], h.then)
+  on_stopped first count errors.Missing v w (inr h) =
+      on_both v h.at w (on_read v h.at h.read) ([], h.then)
+  on_stopped first count (errors.Node q e) v w h = on_both v h.at w ([], h.way)
+      (on_both h.at h.now w (node_read h.range.ptr.offset ∷ [], h.did) ([], h.then))
 
   on_look_stop : (h : Hand C B) (number first count sectors : ℕ) (e : ReadError)
       (v w : View cache_facts backing_facts)
@@ -58,7 +64,7 @@ module _ {C B : Type 0} (cache_facts : C → DiskFacts) (backing_facts : B → D
   on_look_stop h number first count sectors (error.Leaf errors.Busy) v w s = absurd s
   on_look_stop h number first count sectors (error.Leaf errors.Outside) v w s = absurd s
   on_look_stop h number first count sectors (error.Leaf errors.Missing) v w s = absurd s
-  on_look_stop h number first count sectors (error.Leaf (errors.Node e)) v w s = absurd s
+  on_look_stop h number first count sectors (error.Leaf (errors.Node q e)) v w s = absurd s
   on_look_stop h number first count sectors error.Lost v w s = ([], s.1)
 
   module _ (p : PartsView (CorePart C B)) (first count : ℕ) where
@@ -70,7 +76,7 @@ module _ {C B : Type 0} (cache_facts : C → DiskFacts) (backing_facts : B → D
 
     on_not_seen : (e : ReadError) (v w : View cache_facts backing_facts)
         → NotSeen cache_facts backing_facts p first count e v w → HasGoneOn v w
-    on_not_seen (error.Leaf e) v w (inl h) = on_stopped e v w h
+    on_not_seen (error.Leaf e) v w (inl h) = on_stopped first count e v w h
     on_not_seen (error.Leaf e) v w (inr h) = on_stopped_in (error.Leaf e) v w h
     on_not_seen error.Lost v w h = on_stopped_in error.Lost v w h
 
@@ -113,7 +119,8 @@ module _ {C B : Type 0} (cache_facts : C → DiskFacts) (backing_facts : B → D
     on_read_stop (error.Leaf errors.Busy) v w h = on_not_seen (error.Leaf errors.Busy) v w h
     on_read_stop (error.Leaf errors.Outside) v w h = on_not_seen (error.Leaf errors.Outside) v w h
     on_read_stop (error.Leaf errors.Missing) v w h = on_not_seen (error.Leaf errors.Missing) v w h
-    on_read_stop (error.Leaf (errors.Node e)) v w h = on_not_seen (error.Leaf (errors.Node e)) v w h
+    on_read_stop (error.Leaf (errors.Node q e)) v w h =
+        on_not_seen (error.Leaf (errors.Node q e)) v w h
     on_read_stop error.Lost v w h = on_not_seen error.Lost v w h
 
     pub on_stopped_at_once : (e : ReadError) (v w : View cache_facts backing_facts)

@@ -157,7 +157,7 @@ module _ {C B : Type 0} (cache_facts : C → DiskFacts) (backing_facts : B → D
   look_lost h number first count sectors (error.Leaf errors.Busy) v w is done = absurd is
   look_lost h number first count sectors (error.Leaf errors.Outside) v w is done = absurd is
   look_lost h number first count sectors (error.Leaf errors.Missing) v w is done = absurd is
-  look_lost h number first count sectors (error.Leaf (errors.Node e)) v w is done = absurd is
+  look_lost h number first count sectors (error.Leaf (errors.Node q e)) v w is done = absurd is
   look_lost h number first count sectors error.Lost v w is done = (is, done)
 
   pub not_seen_in : (p : PartsView (CorePart C B)) (first count : ℕ) (e : ReadError)

@@ -327,7 +327,7 @@ module _ {C B : Type 0} (cache_facts : C → DiskFacts) (backing_facts : B → D
     stop_seen (error.Leaf leaf.Busy) v w h = h
     stop_seen (error.Leaf leaf.Outside) v w h = h
     stop_seen (error.Leaf leaf.Missing) v w h = h
-    stop_seen (error.Leaf (leaf.Node e)) v w h = h
+    stop_seen (error.Leaf (leaf.Node q e)) v w h = h
     stop_seen error.Lost v w h = h
 
     pub not_seen : (e : ReadError) (t w : View cache_facts backing_facts)

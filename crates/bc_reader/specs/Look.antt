@@ -132,6 +132,7 @@ module _ {C B : Type 0} (cache_facts : C → DiskFacts) (backing_facts : B → D
   -- why the claim wasn't looked up: its leaf wasn't had, or it was and a step in it stopped
   abbrev pub NotSeen : PartsView (CorePart C B) → (first count : ℕ) → ReadError
       → View cache_facts backing_facts → View cache_facts backing_facts → Type 0
-  NotSeen p first count (error.Leaf e) v w = HasStoppedAt cache_facts backing_facts e v w
+  NotSeen p first count (error.Leaf e) v w =
+      HasStoppedAt cache_facts backing_facts first count e v w
       ⊎ IsStoppedIn p first count (error.Leaf e) v w
   NotSeen p first count error.Lost v w = IsStoppedIn p first count error.Lost v w

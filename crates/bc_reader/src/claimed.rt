@@ -6,6 +6,7 @@ ghost use Rattle.bc_fetch.specs.declared.error.LeafError.{LeafError};
 ghost use Rattle.bc_hand.specs.Seats.{Did, View, Works, empty, note};
 ghost use Rattle.bc_machine.specs.Plain.{worker_of};
 ghost use Rattle.bc_machine.specs.World.{are_plain, cache_among};
+ghost use Rattle.bc_model.specs.Pieces.{piece_sectors};
 ghost use Rattle.bc_model.specs.Sector.{values_of};
 ghost use Rattle.bc_reader.specs.Claimed.{HasAnswered, HasAnsweredAtOnce, HasNotAnswered, HasLeft, HasReadSeen, HasStoppedAtOnce, HasTriedOnce, MayAnswerWith};
 ghost use Rattle.bc_reader.specs.Known.{IsSameButDevices};
@@ -97,7 +98,7 @@ fn answer_look<C: Disk + Drop, B: Disk + Drop, R: Wait, G: Gate>(
     requires length { length bytes.old ≡ 512 * count }
     requires inside { first + count ≤ size_of C.facts B.facts seat.old.run.start }
     requires few { first + count < 2 ^ 64 }
-    requires piece { count ≤ 256 }
+    requires piece { count ≤ piece_sectors }
     requires cache { LieWithin seen.now.runs.items
         (cache_among C.facts B.facts parts.now.run.start).sectors }
     requires saw { (t : View C.facts B.facts) × HasSeen C.facts B.facts parts.now first count
@@ -147,7 +148,7 @@ fn read_again<C: Disk + Drop, B: Disk + Drop, R: Wait, G: Gate>(
     requires length { length bytes.old ≡ 512 * count }
     requires inside { first + count ≤ size_of C.facts B.facts seat.old.run.start }
     requires few { first + count < 2 ^ 64 }
-    requires piece { count ≤ 256 }
+    requires piece { count ≤ piece_sectors }
     ensures works { Works C.facts B.facts parts.now seat.new hand.new }
     ensures empty { hand.new ≡ empty }
     ensures claim { (note C.facts B.facts seat.new).range ≡ (note C.facts B.facts seat.old).range }
@@ -193,7 +194,7 @@ fn read_seen<C: Disk + Drop, B: Disk + Drop, R: Wait, G: Gate>(
     requires length { length bytes.old ≡ 512 * count }
     requires inside { first + count ≤ size_of C.facts B.facts seat.old.run.start }
     requires few { first + count < 2 ^ 64 }
-    requires piece { count ≤ 256 }
+    requires piece { count ≤ piece_sectors }
     requires cache { LieWithin seen.now.runs.items
         (cache_among C.facts B.facts parts.now.run.start).sectors }
     requires saw { (t : View C.facts B.facts) × HasSeen C.facts B.facts parts.now first count
@@ -247,7 +248,7 @@ fn read_once<C: Disk + Drop, B: Disk + Drop, R: Wait, G: Gate>(
     requires length { length bytes.old ≡ 512 * count }
     requires inside { first + count ≤ size_of C.facts B.facts seat.old.run.start }
     requires few { first + count < 2 ^ 64 }
-    requires piece { count ≤ 256 }
+    requires piece { count ≤ piece_sectors }
     ensures works { Works C.facts B.facts parts.now seat.new hand.new }
     ensures empty { hand.new ≡ empty }
     ensures claim { (note C.facts B.facts seat.new).range ≡ (note C.facts B.facts seat.old).range }
@@ -305,7 +306,7 @@ pub fn read_claimed<C: Disk + Drop, B: Disk + Drop, R: Wait, G: Gate>(
     requires length { length bytes.old ≡ 512 * count }
     requires inside { first + count ≤ size_of C.facts B.facts seat.old.run.start }
     requires few { first + count < 2 ^ 64 }
-    requires piece { count ≤ 256 }
+    requires piece { count ≤ piece_sectors }
     ensures works { Works C.facts B.facts parts.now seat.new hand.new }
     ensures empty { hand.new ≡ empty }
     ensures claim { (note C.facts B.facts seat.new).range ≡ (note C.facts B.facts seat.old).range }

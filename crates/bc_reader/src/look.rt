@@ -5,6 +5,7 @@ ghost use Rattle.bc_events.specs.declared.event.Deed.{Deed};
 ghost use Rattle.bc_fetch.specs.Fetch.{HasPart, IsSameButCache};
 ghost use Rattle.bc_hand.specs.Seats.{HasNoneBehindBuckets, HasNoneBehindCache, Works, core, empty, note};
 ghost use Rattle.bc_machine.specs.World.{are_plain, cache_among};
+ghost use Rattle.bc_model.specs.Pieces.{piece_sectors};
 ghost use Rattle.bc_reads.specs.declared.runs.ReadRun.{ReadRun};
 ghost use Rattle.bc_seats.specs.Seats.{Waited};
 ghost use Rattle.bc_sight.specs.Sight.{HasLeaf, Knows, OfClaim};
@@ -186,7 +187,7 @@ fn look_in<C: Disk + Drop, B: Disk + Drop, R: Wait>(
     requires both { HasBoth hand.old number first count }
     requires range { IsOver first count (note C.facts B.facts seat.old).range }
     requires few { first + count < 2 ^ 64 }
-    requires piece { count ≤ 256 }
+    requires piece { count ≤ piece_sectors }
     ensures works { Works C.facts B.facts parts.now seat.new hand.new }
     ensures hand { IsSameButCache hand.old hand.new }
     ensures claim { (note C.facts B.facts seat.new).range ≡ (note C.facts B.facts seat.old).range }
@@ -238,7 +239,7 @@ pub fn look_at<C: Disk + Drop, B: Disk + Drop, R: Wait, G: Gate>(
     requires promise { 1 < seat.old.promises }
     requires range { IsOver first count (note C.facts B.facts seat.old).range }
     requires few { first + count < 2 ^ 64 }
-    requires piece { count ≤ 256 }
+    requires piece { count ≤ piece_sectors }
     ensures works { Works C.facts B.facts parts.now seat.new hand.new }
     ensures hand { OnOk result (hand.new ≡ record empty { buckets = hand.new.buckets }) }
     ensures empty { OnErr result (hand.new ≡ empty) }

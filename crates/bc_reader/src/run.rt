@@ -7,6 +7,7 @@ ghost use Rattle.bc_events.specs.declared.event.Deed.{Deed};
 ghost use Rattle.bc_hand.specs.declared.error.StepError.{StepError};
 ghost use Rattle.bc_hand.specs.Seats.{Did, HasNoneBehindCache, Works, kinds, note};
 ghost use Rattle.bc_machine.specs.World.{are_plain, cache_among};
+ghost use Rattle.bc_model.specs.Pieces.{piece_sectors};
 ghost use Rattle.bc_model.specs.Sector.{Value, values_of};
 ghost use Rattle.bc_node.specs.Leaf.{Leaf};
 ghost use Rattle.bc_reads.specs.Reads.{IsRun};
@@ -90,7 +91,7 @@ pub fn read_run<C: Disk + Drop, B: Disk + Drop, R: Wait, G: Gate>(
     requires order { hand.old.cache ≡ None → HasNoneBehindCache hand.old }
     requires promise { 1 < seat.old.promises }
     requires some { 0 < run.now.count }
-    requires piece { run.now.count ≤ 256 }
+    requires piece { run.now.count ≤ piece_sectors }
     requires length { length into.old ≡ 512 * run.now.count }
     requires cache { (at : ℕ) (dirty : Bool) → run.now.from ≡ ReadFrom.Cache at dirty
         → at + run.now.count ≤ (cache_among C.facts B.facts parts.now.run.start).sectors }

@@ -3,6 +3,7 @@ ghost use Rattle.std.specs.Prelude.{◌≡◌, ◌+◌, ◌*◌, ◌<◌, ◌≤
 ghost use Rattle.bc_deed.specs.Asked.{IsWithin, size_of};
 ghost use Rattle.bc_hand.specs.Seats.{HasNoneBehindCache, Works, note};
 ghost use Rattle.bc_machine.specs.World.{are_plain, cache_among};
+ghost use Rattle.bc_model.specs.Pieces.{piece_sectors};
 ghost use Rattle.bc_model.specs.Sector.{values_of};
 ghost use Rattle.bc_reads.specs.declared.source.ReadFrom.{ReadFrom};
 ghost use Rattle.bc_reader.specs.Deeds.{HasStoppedBy, RunStop, RunsStop};
@@ -36,7 +37,7 @@ fn read_at<C: Disk + Drop, B: Disk + Drop, R: Wait, G: Gate>(
     requires order { hand.old.cache ≡ None → HasNoneBehindCache hand.old }
     requires promise { 1 < seat.old.promises }
     requires some { 0 < run.now.count }
-    requires piece { run.now.count ≤ 256 }
+    requires piece { run.now.count ≤ piece_sectors }
     requires place { 512 * (place + run.now.count) ≤ length bytes.old }
     requires cache { (at : ℕ) (dirty : Bool) → run.now.from ≡ ReadFrom.Cache at dirty
         → at + run.now.count ≤ (cache_among C.facts B.facts parts.now.run.start).sectors }
@@ -80,7 +81,7 @@ pub fn read_runs<C: Disk + Drop, B: Disk + Drop, R: Wait, G: Gate>(
     requires cached { are_plain C.facts B.facts parts.now.run.start ≡ false }
     requires order { hand.old.cache ≡ None → HasNoneBehindCache hand.old }
     requires promise { 2 * length runs.now ≤ seat.old.promises }
-    requires piece { count ≤ 256 }
+    requires piece { count ≤ piece_sectors }
     requires length { length bytes.old ≡ 512 * count }
     requires cache { LieWithin runs.now (cache_among C.facts B.facts parts.now.run.start).sectors }
     requires backing { first + count ≤ size_of C.facts B.facts seat.old.run.start }

@@ -2,6 +2,7 @@
 ghost use Rattle.std.specs.Prelude.{◌≡◌, ◌+◌, ◌*◌, ◌<◌, ◌≤◌, ◌^◌, length, OnOk, IfErr};
 ghost use Rattle.bc_deed.specs.Asked.{size_of};
 ghost use Rattle.bc_machine.specs.Plain.{worker_of};
+ghost use Rattle.bc_model.specs.Pieces.{piece_sectors};
 ghost use Rattle.bc_model.specs.Sector.{values_of};
 ghost use Rattle.bc_request.specs.Asked.{IsIdle};
 ghost use Rattle.bc_request.specs.Piece.{HasNotReadPiece, HasReadPiece};
@@ -41,7 +42,7 @@ pub fn read_piece<C: Disk + Drop, B: Disk + Drop, R: Wait, G: Gate>(
     requires idle { IsIdle C.facts B.facts parts.now seat.old }
     requires line { worker_of seat.old.first ≡ of.worker }
     requires some { 1 ≤ count }
-    requires piece { count ≤ 256 }
+    requires piece { count ≤ piece_sectors }
     requires length { length into.old ≡ 512 * count }
     requires range { first + count < 2 ^ 64 }
     requires inside { first + count ≤ size_of C.facts B.facts seat.old.run.start }

@@ -82,10 +82,10 @@ fn tries<C: Disk + Drop, B: Disk + Drop, R: Abort + Wait>(
     Ok((tries, end(parts, seat)))
 }
 
-// A pair of which the cache has sectors 0 to 7, clean, 16 to 23, dirty, and 256 to 263, clean. Each of
-// the first 32 sectors of the backing device's data begins with its number, and what the cache has
-// with 100 and 140 more.
-fn pair_with_data(rt: &impl Abort, alloc: Global) -> Result<(MemDisk, MemDisk), Fail> {
+/// A pair of which the cache has sectors 0 to 7, clean, 16 to 23, dirty, and 256 to 263, clean. Each
+/// of the first 32 sectors of the backing device's data begins with its number, and what the cache
+/// has of these with 100 and 140 more.
+pub(crate) fn pair_with_data(rt: &impl Abort, alloc: Global) -> Result<(MemDisk, MemDisk), Fail> {
     let low = [(DATA, 8, 6400), (DIRTY, 24, 6464)];
     let high = [(DATA, 264, 6528)];
     let (cache, backing) = pair(rt, alloc, &low, &high)?;
@@ -95,9 +95,8 @@ fn pair_with_data(rt: &impl Abort, alloc: Global) -> Result<(MemDisk, MemDisk), 
     Ok((cache, backing))
 }
 
-// Of the sectors that are read first what the cache has, where it gives that, and else the backing
-// device.
-const LOW: [u8; 32] = [
+/// Of the first 32 sectors what the cache has, where it gives that, and else the backing device.
+pub(crate) const LOW: [u8; 32] = [
     100, 101, 102, 103, 104, 105, 106, 107, 8, 9, 10, 11, 12, 13, 14, 15, 140, 141, 142, 143, 144,
     145, 146, 147, 24, 25, 26, 27, 28, 29, 30, 31,
 ];
@@ -108,15 +107,26 @@ const BACKED: [u8; 32] = [
     24, 25, 26, 27, 28, 29, 30, 31,
 ];
 
-// The pair with a cache device that fails at one of its calls in the run: the first two are the
-// barrier of the opening and the read of the first leaf.
-fn failing_pair(rt: &impl Abort, alloc: Global, nth: u64) -> Result<(MemDisk, MemDisk), Fail> {
-    let (mut cache, mut backing) = pair_with_data(rt, alloc)?;
-    let s = survey(alloc, &mut cache, &mut backing)?;
-    let _tree = tree_of(alloc, &mut cache, &s)?;
+/// Makes the cache device fail at one of its calls in the run: the first two are the barrier of the
+/// opening and the read of the first leaf.
+pub(crate) fn fail_in_run(
+    alloc: Global,
+    cache: &mut MemDisk,
+    backing: &mut MemDisk,
+    nth: u64,
+) -> Result<(), Fail> {
+    let s = survey(alloc, cache, backing)?;
+    let _tree = tree_of(alloc, cache, &s)?;
     // What the opening calls it calls once more.
     let failing = cache.calls().saturating_mul(2).saturating_add(nth);
     cache.fail(failing)?;
+    Ok(())
+}
+
+// The pair with such a cache device.
+fn failing_pair(rt: &impl Abort, alloc: Global, nth: u64) -> Result<(MemDisk, MemDisk), Fail> {
+    let (mut cache, mut backing) = pair_with_data(rt, alloc)?;
+    fail_in_run(alloc, &mut cache, &mut backing, nth)?;
     Ok((cache, backing))
 }
 

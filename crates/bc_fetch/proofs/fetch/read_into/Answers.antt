@@ -1,4 +1,4 @@
-use Rattle.std.proofs.Common.{◌≡◌, ◌*◌, length, ◌∙◌}
+use Rattle.std.proofs.Common.{◌≡◌, ◌*◌, ◌/◌, length, ◌∙◌}
 use Rattle.bc_cache.specs.Slots.{Misses, NodeCache, NoneCanGo}
 use Rattle.bc_deed.proofs.May.{map_if_err}
 use Rattle.bc_machine.specs.World.{cache_among}
@@ -22,6 +22,11 @@ take_in-requires-clause-new g c = of_after c.args.hand.now c.read_node.new.hand
 pub take_in-requires-clause-some : goal.take_in-requires-clause-some
 take_in-requires-clause-some g c = of_after c.args.hand.now c.read_node.new.hand
     (λ (x : NodeCache). NoneCanGo x.slots → ⊥) c.read_node.ensures.hand c.requires.some
+
+pub take_in-requires-clause-begins : goal.take_in-requires-clause-begins
+take_in-requires-clause-begins g c = of_after c.args.hand.now c.read_node.new.hand
+    (λ (x : NodeCache). c.args.bucket ≡ c.args.range.now.ptr.offset / x.geometry.bucket)
+    c.read_node.ensures.hand c.requires.begins
 
 pub take_in-requires-clause-whole : goal.take_in-requires-clause-whole
 take_in-requires-clause-whole g c = of_after c.args.hand.now c.read_node.new.hand

@@ -1,4 +1,4 @@
-use Rattle.std.proofs.Common.{◌≡◌, ◌*◌, length, ap, ◌∙◌, arith, Some}
+use Rattle.std.proofs.Common.{◌≡◌, ◌*◌, ◌/◌, ◌≤◌, inl, inr, length, ap, ◌∙◌, subst, arith, Some}
 use Rattle.bc_cache.specs.Slots.{Misses, NodeCache, NoneCanGo}
 use Rattle.bc_deed.proofs.May.{map_if_err}
 use Rattle.bc_disk.specs.declared.geometry.Geometry.{Geometry}
@@ -13,9 +13,9 @@ returns-then-sectors-range-clause-err g c = (
   (
     c.in-Some.leaves,
     c.in-Some.is,
-    (let less = c.if-sectors-range.true in
+    inl (let less = c.if-sectors-range.true in
         let all = c.cache_sectors-sectors.ensures.sectors in
-        let long = c.from.ensures ∙ ap (λ (a : Geometry). a.node_sectors) c.geometry.ensures in
+        let long = c.from.ensures ∙ ap (λ (a : Geometry). a.node_sectors) c.geometry-g.ensures in
         omega (arith, less, all, long)),
   ),
   record {
@@ -23,6 +23,33 @@ returns-then-sectors-range-clause-err g c = (
     seat = c.cache_sectors-sectors.ensures.works.seat;
   },
 )
+
+pub returns-then-from-at-clause-err : goal.returns-then-from-at-clause-err
+returns-then-from-at-clause-err g c = (
+  (
+    c.in-Some.leaves,
+    c.in-Some.is,
+    inr (subst (λ (a : Geometry). a.nbuckets ≤ c.args.range.now.ptr.offset / a.bucket)
+        c.geometry-g.ensures
+        (subst (λ n. n ≤ c.args.range.now.ptr.offset / c.geometry-g.result.now.bucket) c.from-3.ensures
+        (subst (λ k. c.from-3.result ≤ c.args.range.now.ptr.offset / k) c.from-2.ensures
+        c.if-from-at.true))),
+  ),
+  record {
+    is = c.cache_sectors-sectors.ensures.waited;
+    seat = c.cache_sectors-sectors.ensures.works.seat;
+  },
+)
+
+pub read_into-requires-clause-begins : goal.read_into-requires-clause-begins
+read_into-requires-clause-begins g c = of_after c.args.hand.now c.cache_sectors-sectors.new.hand
+    (λ (x : NodeCache). c.args.range.now.ptr.offset / c.from-2.result
+    ≡ c.args.range.now.ptr.offset / x.geometry.bucket) c.cache_sectors-sectors.ensures.hand (
+      c.in-Some.leaves,
+      c.in-Some.is,
+      ap (λ k. c.args.range.now.ptr.offset / k)
+          (c.from-2.ensures ∙ ap (λ (a : Geometry). a.bucket) c.geometry-g.ensures),
+    )
 
 pub read_into-requires-clause-spine : goal.read_into-requires-clause-spine
 read_into-requires-clause-spine g c = spine_after c.args.hand.now c.cache_sectors-sectors.new.hand
@@ -48,7 +75,7 @@ read_into-requires-clause-whole g c = of_after c.args.hand.now c.cache_sectors-s
       c.in-Some.leaves,
       c.in-Some.is,
       c.deref_mut.ensures.len ∙ c.in-Ok.ensures.len
-          ∙ ap (λ (a : Geometry). 512 * a.node_sectors) c.geometry.ensures,
+          ∙ ap (λ (a : Geometry). 512 * a.node_sectors) c.geometry-g.ensures,
     )
 
 pub returns-clause-slots : goal.returns-clause-slots

@@ -1,4 +1,4 @@
-use Rattle.std.proofs.Common.{◌≡◌, ◌-◌, Some, refl, sym, ◌∙◌, subst}
+use Rattle.std.proofs.Common.{◌≡◌, ◌-◌, ◌/◌, Some, refl, sym, ◌∙◌, subst}
 use Rattle.bc_cache.specs.Slots.{Misses, NodeCache, NoneCanGo}
 use Rattle.bc_disk.specs.declared.geometry.Geometry.{Geometry}
 use Rattle.bc_fetch.specs.declared.error.LeafError.{LeafError}
@@ -86,11 +86,15 @@ pub returns-in-Err-clause-err : goal.returns-in-Err-clause-err
 returns-in-Err-clause-err g c =
     let h = c.args.hand.now in
     let v = c.args.seat.now in
+    let l = c.in-Some.leaves in
+    let is : h.leaves ≡ Some l = sym c.take.ensures.value ∙ c.in-Some.is in
     subst (λ (e : LeafError). IsNoLeaf g.C.Disk.facts g.B.Disk.facts h c.args.range.now e v)
     (sym c.refusal.ensures)
-    (no_leaf g.C.Disk.facts g.B.Disk.facts h c.args.range.now v c.in-Some.leaves
-    c.key_of-key.result c.args.bytes.now (sym c.take.ensures.value ∙ c.in-Some.is)
-    c.key_of-key.ensures.names c.requires.stand c.in-Err.error
+    (no_leaf g.C.Disk.facts g.B.Disk.facts h c.args.range.now v l
+    c.key_of-key.result c.args.bytes.now c.args.bucket is
+    c.key_of-key.ensures.names c.requires.stand
+    (of_leaves h (λ (x : NodeCache). c.args.bucket ≡ c.args.range.now.ptr.offset / x.geometry.bucket)
+    c.requires.begins l is) c.in-Err.error
     (subst (λ (a : Geometry).
     IsNotDecoded a c.key_of-key.result c.args.range.now.from c.args.bytes.now c.in-Err.error)
     c.geometry-2.ensures c.in-Err.ensures.refused))

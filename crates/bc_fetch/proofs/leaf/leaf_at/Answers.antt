@@ -1,10 +1,12 @@
-use Rattle.std.proofs.Common.{◌+◌, ◌-◌, ◌%◌, ◌≤◌, None, sym, ap, ◌∙◌, subst, arith}
+use Rattle.std.proofs.Common.{◌≡◌, ◌+◌, ◌-◌, ◌%◌, ◌≤◌, inl, inr, None, Some, sym, ap, ◌∙◌, subst, arith}
+use Rattle.std.specs.Prelude.{slice_get}
 use Rattle.bc_cache.specs.Slots.{IsOccupied, NodeCache}
+use Rattle.bc_cache.specs.declared.slots.Cached.{Cached}
 use Rattle.bc_hand.specs.declared.hand.Hand.{Hand}
 use Rattle.bc_machine.specs.World.{cache_among}
 use Rattle.bc_fetch.specs.Fetch.{HasPart, HasStoppedAt, HasTakenIn}
 use Rattle.bc_fetch.specs.declared.error.LeafError.{LeafError}
-use Rattle.bc_fetch.proofs.Ways.{fetched_left, fetched_way, leaf_for, occupied, of_given, part_given, rest_of, spine_leaves, stopped_left, stopped_way, taken_in, then_done, waited_done}
+use Rattle.bc_fetch.proofs.Ways.{fetched_left, fetched_way, leaf_for, occupied, of_given, part_given, rest_of, short_way, spine_leaves, stopped_left, stopped_way, taken_in, then_done, waited_done}
 use Rattle.bc_fetch.proofs.leaf.leaf_at.Goals as goal
 use Rattle.bc_fetch.proofs.leaf.leaf_at.Goals.{in-Ok-2, in-Err}
 
@@ -20,7 +22,7 @@ has_range-requires-clause-slot g c = of_given c.fetch-done.new.hand c.give_spine
 pub returns-in-Ok-clause-ok : goal.returns-in-Ok-clause-ok
 returns-in-Ok-clause-ok g c = leaf_for c.fetch-done.new.hand c.give_spine.new.hand c.in-Ok.slot
     c.in-Some.range.number c.args.first c.args.count c.give_spine.ensures.hand c.in-Ok.ensures.ok
-    (c.has_range.ensures c.if-has_range.true)
+    (c.has_range.ensures.all c.if-has_range.true)
     (rest_of c.take_spine.new.hand c.take_leaves.new.hand c.fetch-done.new.hand
     c.give_spine.new.hand c.take_spine.ensures.hand c.take_leaves.ensures.hand
     c.fetch-done.ensures.hand c.give_spine.ensures.hand)
@@ -97,15 +99,31 @@ returns-clause-stopped g c =
     c.give_spine.ensures.works.seat c.give_spine.ensures.waited)
     (waited_done g.C.Disk.facts g.B.Disk.facts c.give_spine.new.seat x
     c.give_leaves.ensures.works.seat c.give_leaves.ensures.waited) in
+    let tree = spine_leaves c.take_spine.new.hand c.take_leaves.new.hand c.in-Some.range
+    c.take_leaves.ensures.hand c.in-Some.ensures.some.0 in
+    let part = subst (λ k. HasPart c.take_leaves.new.hand (6 + c.in-Some.range.number % (k - 6)))
+    c.part_count.ensures c.take_leaves.ensures.has in
     elim c.match-done.branch [
-      | in-Ok-2 n ↦ subst (λ (e : LeafError). HasStoppedAt g.C.Disk.facts g.B.Disk.facts e u x)
-          (sym n.error-is)
-          (fetched_way g.C.Disk.facts g.B.Disk.facts c.take_leaves.new.hand c.in-Some.range u v w x
-          a b n.in-Ok.ensures.did)
-      | in-Err n ↦ subst (λ (e : LeafError). HasStoppedAt g.C.Disk.facts g.B.Disk.facts e u x)
-          (sym n.error-is)
+      | in-Ok-2 n ↦ subst (λ (e : LeafError). HasStoppedAt g.C.Disk.facts g.B.Disk.facts
+          c.args.first c.args.count e u x) (sym n.error-is)
+          (inr (short_way g.C.Disk.facts g.B.Disk.facts c.take_leaves.new.hand c.in-Some.range
+          u v w x a b c.args.parts.now c.take_leaves.ensures.works tree part c.args.first
+          c.args.count n.in-Ok.slot c.fetch-done.new.hand c.fetch-done.ensures.hand
+          c.fetch-done.ensures.works n.in-Ok.ensures.did
+          (c.in-Some.ensures.some.1, c.in-Some.ensures.some.2)
+          n.in-Ok.ensures.ok (λ fits. n.has_range.ensures.short n.if-has_range.false
+          (of_given c.fetch-done.new.hand c.give_spine.new.hand (λ (k : NodeCache).
+          (cached : Cached) × (slice_get k.slots n.in-Ok.slot ≡ Some (Some cached))
+          × (cached.leaf.from ≤ c.args.first)
+          × (c.args.first + c.args.count ≤ cached.leaf.end)) c.give_spine.ensures.hand (
+            n.in-Ok.ensures.ok.0,
+            n.in-Ok.ensures.ok.1,
+            (n.in-Ok.ensures.ok.2.cached, n.in-Ok.ensures.ok.2.there, fits.0, fits.1),
+          )))))
+      | in-Err n ↦ subst (λ (e : LeafError). HasStoppedAt g.C.Disk.facts g.B.Disk.facts
+          c.args.first c.args.count e u x) (sym n.error-is)
           (stopped_way g.C.Disk.facts g.B.Disk.facts c.take_leaves.new.hand c.in-Some.range u v w x
-          a b (cache_among g.C.Disk.facts g.B.Disk.facts c.args.parts.now.run.start).sectors
+          a b c.args.parts.now c.take_leaves.ensures.works tree part c.args.first c.args.count
           n.in-Err.error n.in-Err.ensures.err)
     ]
 
@@ -125,3 +143,6 @@ returns-clause-left g c =
           (cache_among g.C.Disk.facts g.B.Disk.facts c.args.parts.now.run.start).sectors
           n.in-Err.error n.in-Err.ensures.err
     ] in omega (arith, a, b, d, f, one)
+
+pub returns-in_default-clause-stopped : goal.returns-in_default-clause-stopped
+returns-in_default-clause-stopped g c = inl c.in_default.ensures.missing

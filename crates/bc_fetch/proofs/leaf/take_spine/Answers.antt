@@ -1,5 +1,7 @@
-use Rattle.std.proofs.Common.{None, Some, Bool, ap, ◌∙◌, subst, arith}
+use Rattle.std.proofs.Common.{inl, inr, None, Some, Bool, ap, ◌∙◌, subst, arith}
 use Rattle.std.specs.Prelude.{Contains, if◌then◌else◌}
+use Rattle.bc_fetch.proofs.Ways.{waited_done}
+use Rattle.bc_inner.specs.Inner.{Inner}
 use Rattle.bc_tree.specs.Spine.{Spine}
 use Rattle.std.proofs.lemmas.Bool.{le-ltb}
 use Rattle.bc_hand.proofs.Between.{did_between}
@@ -47,3 +49,39 @@ returns-else-missing-clause-some g c = (
   c.find-range.ensures.spans.0,
   (let few = c.if-missing.false in let same = c.from.ensures in omega (arith, few, same)),
 )
+
+pub returns-then-end-first-clause-missing : goal.returns-then-end-first-clause-missing
+returns-then-end-first-clause-missing g c = record {
+  at = c.borrow_spine-spine.new.seat;
+  way = waited_done g.C.Disk.facts g.B.Disk.facts c.args.seat.now c.borrow_spine-spine.new.seat
+      c.borrow_spine-spine.ensures.lent.seat c.borrow_spine-spine.ensures.waited;
+  spine = c.borrow_spine-spine.result.0;
+  tree = c.borrow_spine-spine.ensures.lent.stand.spine;
+  ends = inl (omega (
+    arith,
+    c.if-end-first.true,
+    c.end.ensures,
+    ap (λ (n : Inner). n.end) c.root.ensures.root,
+    ap (λ (s : Spine). s.root.end) c.get.ensures,
+  ));
+  then = waited_done g.C.Disk.facts g.B.Disk.facts c.borrow_spine-spine.new.seat
+      c.return_spine.new.seat c.return_spine.ensures.works.seat c.return_spine.ensures.waited;
+}
+
+pub returns-then-missing-clause-missing : goal.returns-then-missing-clause-missing
+returns-then-missing-clause-missing g c = record {
+  at = c.borrow_spine-spine.new.seat;
+  way = waited_done g.C.Disk.facts g.B.Disk.facts c.args.seat.now c.borrow_spine-spine.new.seat
+      c.borrow_spine-spine.ensures.lent.seat c.borrow_spine-spine.ensures.waited;
+  spine = c.borrow_spine-spine.result.0;
+  tree = c.borrow_spine-spine.ensures.lent.stand.spine;
+  ends = inr (
+    c.find-range.result,
+    subst (λ (s : Spine). Contains s.leaves c.find-range.result) c.get-2.ensures
+        c.find-range.ensures.held,
+    c.find-range.ensures.spans,
+    (let short = c.if-missing.true in let same = c.from.ensures in omega (arith, short, same)),
+  );
+  then = waited_done g.C.Disk.facts g.B.Disk.facts c.borrow_spine-spine.new.seat
+      c.return_spine-2.new.seat c.return_spine-2.ensures.works.seat c.return_spine-2.ensures.waited;
+}

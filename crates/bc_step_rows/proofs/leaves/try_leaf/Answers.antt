@@ -24,16 +24,29 @@ module _ {C B : Type 0} (cache_facts : C → DiskFacts) (backing_facts : B → D
   read_still v w seats (inl done) all = still v w seats done.same all
   read_still v w seats (inr one) all = still v w seats one.1.same all
 
-  stopped_still : (e : LeafError) (v w : View cache_facts backing_facts) (seats : ℕ)
-      → HasStoppedAt cache_facts backing_facts e v w → HasAll v seats → HasAll w seats
-  stopped_still (errors.Step steps.Memory) v w seats stop all = read_still v w seats stop all
-  stopped_still (errors.Step (steps.Fault d)) v w seats stop all = still v w seats stop.1.same all
-  stopped_still (errors.Step (steps.Halted d)) v w seats stop all =
+  stopped_still : (first count : ℕ) (e : LeafError) (v w : View cache_facts backing_facts)
+      (seats : ℕ) → HasStoppedAt cache_facts backing_facts first count e v w → HasAll v seats
+      → HasAll w seats
+  stopped_still first count (errors.Step steps.Memory) v w seats stop all =
+      read_still v w seats stop all
+  stopped_still first count (errors.Step (steps.Fault d)) v w seats stop all =
+      still v w seats stop.1.same all
+  stopped_still first count (errors.Step (steps.Halted d)) v w seats stop all =
       still stop.0 w seats stop.3.same (still v stop.0 seats stop.1.same all)
-  stopped_still errors.Busy v w seats stop all = still v w seats stop.same all
-  stopped_still errors.Outside v w seats stop all = still v w seats stop.same all
-  stopped_still errors.Missing v w seats stop all = read_still v w seats stop all
-  stopped_still (errors.Node e) v w seats stop all = still v w seats stop.1.same all
+  stopped_still first count errors.Busy v w seats stop all = still stop.now w seats stop.then.same
+      (still stop.at stop.now seats stop.did.same (still v stop.at seats stop.way.same all))
+  stopped_still first count errors.Outside v w seats stop all =
+      still stop.now w seats stop.then.same
+      (still stop.at stop.now seats stop.did.same (still v stop.at seats stop.way.same all))
+  stopped_still first count errors.Missing v w seats (inl stop) all =
+      still stop.at w seats stop.then.same
+      (still v stop.at seats stop.way.same all)
+  stopped_still first count errors.Missing v w seats (inr stop) all =
+      still stop.at w seats stop.then.same
+      (read_still v stop.at seats stop.read all)
+  stopped_still first count (errors.Node q e) v w seats stop all =
+      still stop.now w seats stop.then.same
+      (still stop.at stop.now seats stop.did.same (still v stop.at seats stop.way.same all))
 
 pub give_leaves-requires-clause-has : goal.give_leaves-requires-clause-has
 give_leaves-requires-clause-has g c = subst (λ n. HasPart c.leaf_at.new.hand n)
@@ -50,7 +63,7 @@ returns-in-Ok-clause-all g c =
 
 pub returns-in-Err-clause-all : goal.returns-in-Err-clause-all
 returns-in-Err-clause-all g c =
-    stopped_still g.C.Disk.facts g.B.Disk.facts c.in-Err.error c.promise.new.seat
+    stopped_still g.C.Disk.facts g.B.Disk.facts c.args.first 8 c.in-Err.error c.promise.new.seat
     c.leaf_at.new.seat c.args.parts.now.seats c.in-Err.ensures.stopped
     (still g.C.Disk.facts g.B.Disk.facts c.args.seat.now c.promise.new.seat
     c.args.parts.now.seats c.promise.ensures.done.same c.requires.all)
