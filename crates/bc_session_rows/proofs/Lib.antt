@@ -1,1 +1,3 @@
 pub mod Kept
+pub mod Running
+pub mod Placing

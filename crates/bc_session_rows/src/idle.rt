@@ -15,8 +15,8 @@ use std::process::Abort;
 use std::sync::Wait;
 use std::test::Fail;
 
-// Reads a pair, and opens and closes it by a run with two parts for leaves.
-fn opened<C: Disk + Drop, B: Disk + Drop, R: Abort + Wait>(
+/// Reads a pair, and opens and closes it by a run with two parts for leaves.
+pub(crate) fn opened<C: Disk + Drop, B: Disk + Drop, R: Abort + Wait>(
     rt: &R,
     alloc: Global,
     mut cache: C,
@@ -39,15 +39,15 @@ fn is_same(a: &[u8], b: &[u8], from: usize, to: usize) -> bool
     a[..from] == b[..from] && a[to..] == b[to..]
 }
 
-// Whether a pair has what it had, but for its journal's sectors, 64 to 575, and the superblock of its
-// backing device, sector 8.
-fn has_kept(before: &(MemDisk, MemDisk), cache: &MemDisk, backing: &MemDisk) -> bool {
+/// Whether a pair has what it had, but for its journal's sectors, 64 to 575, and the superblock of
+/// its backing device, sector 8.
+pub(crate) fn has_kept(before: &(MemDisk, MemDisk), cache: &MemDisk, backing: &MemDisk) -> bool {
     is_same(before.0.bytes(), cache.bytes(), 512 * 64, 512 * 576)
         && is_same(before.1.bytes(), backing.bytes(), 512 * 8, 512 * 9)
 }
 
-// The number of the newest entry of a pair, and what its backing device says.
-fn told(
+/// The number of the newest entry of a pair, and what its backing device says.
+pub(crate) fn told(
     rt: &impl Abort,
     alloc: Global,
     cache: &mut MemDisk,

@@ -7,6 +7,7 @@ use bc_keys::put_words;
 use bc_mode::Mode;
 use bc_pair::error::PairError;
 use bc_pair::format::{NewPair, format};
+use bc_plain_pair::layouts::{LAYOUTS, sound_pair};
 use std::alloc::{AllocError, Global};
 use std::process::Abort;
 use std::test::Fail;
@@ -69,6 +70,14 @@ fn put_entry(bytes: &mut [u8])
     put_u64(bytes, at, sum);
 }
 
+// Fills the data of that key with sevens.
+fn put_data(bytes: &mut [u8])
+    requires { 4194304 ≤ length bytes.old }
+    ensures { length bytes.new ≡ length bytes.old }
+{
+    bytes[512 * 6528..512 * 6536].fill(7);
+}
+
 /// A new pair with these keys: the journal has a dirty one, which is in no leaf.
 pub(crate) fn pair_with_keys(rt: &impl Abort, alloc: Global) -> Result<(MemDisk, MemDisk), Fail> {
     let (made, backing) = new_pair(alloc)?;
@@ -76,5 +85,16 @@ pub(crate) fn pair_with_keys(rt: &impl Abort, alloc: Global) -> Result<(MemDisk,
     assert_eq!(rt; bytes.len(), CACHE);
     put_leaf(&mut bytes);
     put_entry(&mut bytes);
+    put_data(&mut bytes);
     Ok((MemDisk::new(alloc, bytes, 1000)?, backing))
+}
+
+/// A pair of 320 sectors of data, of which the tree has two leaves below the root, with dirty keys
+/// in both and in the journal.
+pub(crate) fn pair_with_leaves(alloc: Global) -> Result<(MemDisk, MemDisk), PairError> {
+    let layout = LAYOUTS[1];
+    let (cache, backing) = sound_pair(alloc, &layout)?;
+    let cache = MemDisk::new(alloc, cache, 1000)?;
+    let backing = MemDisk::new(alloc, backing, 1000)?;
+    Ok((cache, backing))
 }

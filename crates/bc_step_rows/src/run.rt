@@ -27,7 +27,7 @@ use std::process::Abort;
 use std::test::Fail;
 
 /// A device of as many buckets.
-const GEOMETRY: Geometry = Geometry {
+pub(crate) const GEOMETRY: Geometry = Geometry {
     block: 1,
     bucket: 64,
     nbuckets: 128,
