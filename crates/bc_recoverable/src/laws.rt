@@ -1,0 +1,14 @@
+//! What holds of each run: each law is the contract of a function.
+ghost use Rattle.bc_recoverable.specs.Made.{LawBringsNothing};
+ghost use Rattle.bc_recoverable.specs.Runs.{LawRuns};
+
+/// What a deed brings is well made where it brings neither keys nor an entry.
+pub fn law_brings_nothing()
+    ensures { LawBringsNothing }
+{}
+
+/// Whatever a crash leaves of a run on a sound pair is a sound pair, which shows of each sector what
+/// the history allows.
+pub fn law_runs()
+    ensures { LawRuns }
+{}
