@@ -39,7 +39,8 @@ events_behind w st [] fs = refl
 events_behind w st (e ∷ es) fs =
     ap (λ (l : List known.Event). core.by e.seat (core.acts w st e) ++ l)
     (events_behind w (core.after w st e) es fs)
-    ∙ sym (append_assoc (core.by e.seat (core.acts w st e)) (machine_events w (core.after w st e) es)
+    ∙ sym (append_assoc (core.by e.seat (core.acts w st e))
+    (machine_events w (core.after w st e) es)
     (machine_events w (core.run w (core.after w st e) es) fs))
 
 made_behind : (f : Frame) (w : whole.Opening) (st : known.State) (some more : List known.Event)

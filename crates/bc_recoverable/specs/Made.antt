@@ -1,5 +1,5 @@
--- What the events of a run bring, as far as soundness asks it: of each event by itself, in the state
--- that it finds.
+-- What the events of a run bring, as far as soundness asks it: of each event by itself, in the
+-- state that it finds.
 use Rattle.std.specs.Prelude.{◌≡◌, Bool, true, false, List, [], ◌∷◌}
 use Rattle.bc_events.specs.Run.{machine_events}
 use Rattle.bc_events.specs.declared.event.Deed.{Deed}

@@ -19,8 +19,8 @@ use Rattle.bc_ranges.specs.Laws.{frame_of}
 use Rattle.bc_sound.specs.Laws.{IsLeftOf, view_with}
 use Rattle.bc_recoverable.specs.Made.{AreMade}
 
--- The events of a run on a sound pair, seen from an opening that stands for the parts that were read
--- of it; the last event comes first. No torn record matched by chance on the way, and what the
+-- The events of a run on a sound pair, seen from an opening that stands for the parts that were
+-- read of it; the last event comes first. No torn record matched by chance on the way, and what the
 -- events bring is well made.
 pub record IsRunFrom (p : Pair) (v : View) (layout : Layout) (x : Parts) (o : Origin)
     (es : List Event) : Type 0 where

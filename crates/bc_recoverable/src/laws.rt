@@ -7,8 +7,8 @@ pub fn law_brings_nothing()
     ensures { LawBringsNothing }
 {}
 
-/// Whatever a crash leaves of a run on a sound pair is a sound pair, which shows of each sector what
-/// the history allows.
+/// Whatever a crash leaves of a run on a sound pair is a sound pair, which shows of each sector
+/// what the history allows.
 pub fn law_runs()
     ensures { LawRuns }
 {}

@@ -1,8 +1,8 @@
 //! What a run with a cache leaves of the pair that it was opened on.
 //!
-//! A run is seen by its parts in memory and by its devices; soundness and what a pair shows are said
-//! of images. This crate joins both: wherever the devices of a run stop, what is left is a sound
-//! pair, and each sector of it is one that the run's own history allows.
+//! A run is seen by its parts in memory and by its devices; soundness and what a pair shows are
+//! said of images. This crate joins both: wherever the devices of a run stop, what is left is a
+//! sound pair, and each sector of it is one that the run's own history allows.
 //!
 //! Read `specs/` in this order: Made, Runs.
 #![tactic(auto)]
