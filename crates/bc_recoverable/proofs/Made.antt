@@ -92,8 +92,11 @@ module _ (f : Frame) (w : whole.Opening) (i : ℕ) where
 
   lists : (st : known.State) (xs : List Listing) → Made st (listed xs)
   lists st [] = tt
-  lists st (x ∷ xs) = (tt, lists (known.after w st i
-      (Alone (flow.Shelve (book.MakeReady x.bucket (list_of x.list))))) xs)
+  lists st (x ∷ xs) = (
+    tt,
+    lists (known.after w st i
+        (Alone (flow.Shelve (book.MakeReady x.bucket (list_of x.list))))) xs,
+  )
 
   reads : (st : known.State) (first : Option ℕ) (values : List Value)
       → Made st (read_for first values)

@@ -1,0 +1,4 @@
+pub mod Course
+pub mod Kept
+pub mod Made
+pub mod Closed

@@ -1,0 +1,11 @@
+//! What a run over a pair that was opened leaves of it, wherever its devices stop.
+//!
+//! A run's events are told by its parts, and its devices stand for what the events leave. The pair
+//! that was opened is known by what was read of it. So the laws here take all three together, and
+//! say of the images that a crash may leave that they are a sound pair again, and what each sector
+//! of it may show.
+//!
+//! Read `specs/` in this order: Events, Laws.
+#![tactic(auto)]
+
+pub mod laws;
