@@ -1,5 +1,5 @@
 -- A leaf that is fetched stands for the core's.
-use Rattle.std.proofs.Common.{◌≡◌, inl, inr, [], ℕ, ◌+◌, ◌-◌, ◌/◌, ◌≤◌, ◌%◌, List, Option, Some, None, length, refl, sym, ap, subst, ◌∙◌, arith}
+use Rattle.std.proofs.Common.{◌≡◌, inl, inr, [], ℕ, ◌+◌, ◌-◌, ◌*◌, ◌/◌, ◌≤◌, ◌%◌, List, Option, Some, None, length, refl, sym, ap, subst, ◌∙◌, arith}
 use Rattle.std.specs.Prelude.{Contains, IfOk, IfSome, OnErr, Result, Ok, Err, is_some}
 use Rattle.bc_cache.specs.Fetch.{IsUsed}
 use Rattle.bc_cache.specs.Slots.{Misses, NodeCache}
@@ -37,7 +37,7 @@ use Rattle.bc_shares.specs.Shares.{leaf_share, shape_of}
 use Rattle.bc_spine.specs.declared.leaf.LeafRange.{LeafRange}
 use Rattle.bc_sight.specs.Asked.{HasFailedRead}
 use Rattle.bc_tree.specs.Spine.{Spine}
-use Rattle.bc_fetch.specs.Fetch.{HasPart, IsInSpine, IsLeafStop, IsNoLeaf, IsPutInto, IsSameButCache, MayStandAt, MayStandIn, OfBoth, OfLeaves, node_read, refusal}
+use Rattle.bc_fetch.specs.Fetch.{HasPart, IsInSpine, IsInTree, IsLeafStop, IsNoLeaf, IsPutInto, IsSameButCache, MayStandAt, MayStandIn, OfBoth, OfLeaves, node_read, refusal}
 use Rattle.bc_fetch.specs.declared.error.LeafError.{LeafError}
 use Rattle.bc_fetch.specs.declared.error.LeafError.TheVariants as errors
 use Rattle.bc_fetch.proofs.Slots.{put_stands, use_stands}
@@ -213,39 +213,44 @@ always_err (Err e) p = p
 module _ {C B : Type 0} (cache_facts : C → DiskFacts) (backing_facts : B → DiskFacts) where
   pub no_leaf : (h : Hand C B) (range : LeafRange) (v : View cache_facts backing_facts)
       (l : LeafHand) (key : Key) (bytes : List ℕ) (bucket : ℕ) → h.leaves ≡ Some l
-      → NamesLeaf range key
+      → NamesLeaf range key → IsInTree cache_facts backing_facts range v
+      → length bytes ≡ 512 * l.cache.geometry.node_sectors
       → MayStandAt cache_facts backing_facts v range.ptr.offset (values_of bytes)
       → bucket ≡ range.ptr.offset / l.cache.geometry.bucket → (e : NodeError)
       → IsNotDecoded l.cache.geometry key range.from bytes e
       → IsNoLeaf cache_facts backing_facts h range (refusal bucket e) v
-  no_leaf h range v l key bytes bucket is names stand at nodes.Memory cause = tt
-  no_leaf h range v l key bytes bucket is names stand at (nodes.First why) cause = (
+  no_leaf h range v l key bytes bucket is names tree whole stand at nodes.Memory cause = tt
+  no_leaf h range v l key bytes bucket is names tree whole stand at (nodes.First why) cause = (
     l,
     is,
     record {
       bucket_is = at;
       key = key;
       names = names;
+      tree = tree;
       bytes = bytes;
+      whole = whole;
       stand = stand;
       cause = cause;
       not_memory = λ same. cc;
     },
   )
-  no_leaf h range v l key bytes bucket is names stand at nodes.Ranges cause = (
+  no_leaf h range v l key bytes bucket is names tree whole stand at nodes.Ranges cause = (
     l,
     is,
     record {
       bucket_is = at;
       key = key;
       names = names;
+      tree = tree;
       bytes = bytes;
+      whole = whole;
       stand = stand;
       cause = cause;
       not_memory = λ same. cc;
     },
   )
-  no_leaf h range v l key bytes bucket is names stand at nodes.Fault cause = absurd cause
+  no_leaf h range v l key bytes bucket is names tree whole stand at nodes.Fault cause = absurd cause
 
   -- what a step refuses where the bytes were no leaf
   pub stopped_by : (h : Hand C B) (range : LeafRange) (sectors : ℕ)

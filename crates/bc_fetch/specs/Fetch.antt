@@ -1,5 +1,5 @@
 -- What a step that fetches a leaf leaves, and why it refuses.
-use Rattle.std.specs.Prelude.{◌≡◌, ◌≢◌, ◌⊎◌, ℕ, ◌+◌, ◌-◌, ◌/◌, ◌%◌, ◌<◌, ◌≤◌, List, [], ◌∷◌, Contains, None, Some, is_some, length, slice_get}
+use Rattle.std.specs.Prelude.{◌≡◌, ◌≢◌, ◌⊎◌, ℕ, ◌+◌, ◌-◌, ◌*◌, ◌/◌, ◌%◌, ◌<◌, ◌≤◌, List, [], ◌∷◌, Contains, None, Some, is_some, length, slice_get}
 use Rattle.bc_cache.specs.declared.slots.Cached.{Cached}
 use Rattle.bc_cache.specs.Fetch.{IsUsed}
 use Rattle.bc_cache.specs.Slots.{HasLeaf, IsOldest, Misses, NodeCache, NoneCanGo, coming, used_with, with_slot}
@@ -30,7 +30,7 @@ use Rattle.bc_spine.specs.Leaves.{Spans}
 use Rattle.bc_spine.specs.declared.leaf.LeafRange.{LeafRange}
 use Rattle.bc_sight.specs.Asked.{HasFailedRead}
 use Rattle.bc_sight.specs.Sight.{HasLeaf as HasLeafOf}
-use Rattle.bc_tree.specs.Spine.{Spine}
+use Rattle.bc_tree.specs.Spine.{IsSpine as IsTree, Spine}
 use Rattle.bc_fetch.specs.declared.error.LeafError.{LeafError}
 use Rattle.bc_fetch.specs.declared.error.LeafError.TheVariants as errors
 
@@ -133,13 +133,22 @@ module _ {C B : Type 0} (cache_facts : C → DiskFacts) (backing_facts : B → D
       ⊎ (OfLeaves h (λ c. Misses c.slots range.number)
       × Did cache_facts backing_facts (Some (node_read range.ptr.offset)) v w)
 
-  -- The device gave bytes that are no leaf of the range, for a leaf that begins in this bucket.
+  -- the tree, as it stands for the run, has a leaf of this range
+  pub record IsInTree (range : LeafRange) (v : View cache_facts backing_facts) : Type 0 where
+    pub spine : Spine
+    pub tree : IsSpine spine (world cache_facts backing_facts v)
+    pub range_in : Contains spine.leaves range
+
+  -- The device gave bytes that are no leaf of the range, for a leaf of the tree that begins in this
+  -- bucket.
   pub record IsBadLeaf (c : NodeCache) (range : LeafRange) (bucket : ℕ) (e : NodeError)
       (v : View cache_facts backing_facts) : Type 0 where
     pub bucket_is : bucket ≡ range.ptr.offset / c.geometry.bucket
     pub key : Key
     pub names : NamesLeaf range key
+    pub tree : IsInTree range v
     pub bytes : List ℕ
+    pub whole : length bytes ≡ 512 * c.geometry.node_sectors
     pub stand : MayStandAt v range.ptr.offset (values_of bytes)
     pub cause : IsNotDecoded c.geometry key range.from bytes e
     pub not_memory : e ≢ Memory
@@ -218,6 +227,8 @@ module _ {C B : Type 0} (cache_facts : C → DiskFacts) (backing_facts : B → D
     pub way : HasDone cache_facts backing_facts [] v at
     pub spine : Spine
     pub tree : IsSpine spine (world cache_facts backing_facts at)
+    -- so each of its leaves ends at a multiple of 256 sectors
+    pub shape : IsTree spine.geometry spine.root spine.below spine.leaves
     pub ends : EndsWithin spine first (first + count)
     pub then : HasDone cache_facts backing_facts [] at w
 

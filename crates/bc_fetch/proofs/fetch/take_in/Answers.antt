@@ -1,4 +1,4 @@
-use Rattle.std.proofs.Common.{◌≡◌, ◌-◌, ◌/◌, Some, refl, sym, ◌∙◌, subst}
+use Rattle.std.proofs.Common.{◌≡◌, ◌-◌, ◌*◌, ◌/◌, length, Some, refl, sym, ◌∙◌, subst}
 use Rattle.bc_cache.specs.Slots.{Misses, NodeCache, NoneCanGo}
 use Rattle.bc_disk.specs.declared.geometry.Geometry.{Geometry}
 use Rattle.bc_fetch.specs.declared.error.LeafError.{LeafError}
@@ -88,11 +88,20 @@ returns-in-Err-clause-err g c =
     let v = c.args.seat.now in
     let l = c.in-Some.leaves in
     let is : h.leaves ≡ Some l = sym c.take.ensures.value ∙ c.in-Some.is in
+    let tree = c.requires.spine in
     subst (λ (e : LeafError). IsNoLeaf g.C.Disk.facts g.B.Disk.facts h c.args.range.now e v)
     (sym c.refusal.ensures)
     (no_leaf g.C.Disk.facts g.B.Disk.facts h c.args.range.now v l
     c.key_of-key.result c.args.bytes.now c.args.bucket is
-    c.key_of-key.ensures.names c.requires.stand
+    c.key_of-key.ensures.names
+    (record {
+      spine = tree.spine;
+      tree = spine_in_hand g.C.Disk.facts g.B.Disk.facts c.args.parts.now v h tree.spine
+          c.requires.works tree.is;
+      range_in = tree.range_in;
+    })
+    (of_leaves h (λ (x : NodeCache). length c.args.bytes.now ≡ 512 * x.geometry.node_sectors)
+    c.requires.whole l is) c.requires.stand
     (of_leaves h (λ (x : NodeCache). c.args.bucket ≡ c.args.range.now.ptr.offset / x.geometry.bucket)
     c.requires.begins l is) c.in-Err.error
     (subst (λ (a : Geometry).

@@ -2,7 +2,7 @@ use Rattle.std.proofs.Common.{inl, inr, None, Some, Bool, ap, ◌∙◌, subst, 
 use Rattle.std.specs.Prelude.{Contains, if◌then◌else◌}
 use Rattle.bc_fetch.proofs.Ways.{waited_done}
 use Rattle.bc_inner.specs.Inner.{Inner}
-use Rattle.bc_tree.specs.Spine.{Spine}
+use Rattle.bc_tree.specs.Spine.{IsSpine as IsTree, Spine}
 use Rattle.std.proofs.lemmas.Bool.{le-ltb}
 use Rattle.bc_hand.proofs.Between.{did_between}
 use Rattle.bc_deed.proofs.May.{did_nothing}
@@ -57,6 +57,8 @@ returns-then-end-first-clause-missing g c = record {
       c.borrow_spine-spine.ensures.lent.seat c.borrow_spine-spine.ensures.waited;
   spine = c.borrow_spine-spine.result.0;
   tree = c.borrow_spine-spine.ensures.lent.stand.spine;
+  shape = subst (λ (s : Spine). IsTree s.geometry s.root s.below s.leaves) c.get.ensures
+      c.root.ensures.spine;
   ends = inl (omega (
     arith,
     c.if-end-first.true,
@@ -75,6 +77,8 @@ returns-then-missing-clause-missing g c = record {
       c.borrow_spine-spine.ensures.lent.seat c.borrow_spine-spine.ensures.waited;
   spine = c.borrow_spine-spine.result.0;
   tree = c.borrow_spine-spine.ensures.lent.stand.spine;
+  shape = subst (λ (s : Spine). IsTree s.geometry s.root s.below s.leaves) c.get.ensures
+      c.root.ensures.spine;
   ends = inr (
     c.find-range.result,
     subst (λ (s : Spine). Contains s.leaves c.find-range.result) c.get-2.ensures

@@ -1,0 +1,15 @@
+pub mod Before
+pub mod Ends
+pub mod Cuts
+pub mod Nodes
+pub mod Still
+pub mod Leaves
+pub mod Pointed
+pub mod Lost
+pub mod Made
+pub mod Found
+pub mod Room
+pub mod Begun
+pub mod Pieces
+pub mod Lines
+pub mod Opened
