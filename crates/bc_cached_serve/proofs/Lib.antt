@@ -1,0 +1,10 @@
+pub mod Going
+pub mod Stops
+pub mod Claims
+pub mod Lines
+pub mod Nodes
+pub mod Order
+pub mod Alone
+pub mod Cutting
+pub mod Whole
+pub mod Opened

@@ -1,0 +1,65 @@
+-- What a run over a pair that was opened stands ready for.
+use Rattle.std.proofs.Common.{◌≡◌, ◌+◌, ◌<◌, ◌^◌, List, length, refl, sym, ap, ◌∙◌, arith}
+use Rattle.std.specs.Prelude.{false, map}
+use Rattle.std.proofs.lemmas.List.{length-map}
+use Rattle.bc_cache.specs.Slots.{NodeCache}
+use Rattle.bc_deed.specs.Asked.{size_of}
+use Rattle.bc_disk.specs.Disk.{DiskFacts, StandsFor}
+use Rattle.bc_disk.specs.Stands.{settled_model}
+use Rattle.bc_hand.proofs.Knowing.{View}
+use Rattle.bc_loaded.specs.declared.loading.Loaded.{Loaded}
+use Rattle.bc_machine.specs.World.{are_plain}
+use Rattle.bc_machine.specs.declared.part.BackingPart.{BackingPart}
+use Rattle.bc_machine.specs.declared.part.CorePart.{CorePart}
+use Rattle.bc_machine.specs.declared.part.CorePart.TheVariants as part
+use Rattle.bc_parts.specs.Seat.{PartsView, Run}
+use Rattle.bc_replay.specs.declared.held.Survey.{Survey}
+use Rattle.bc_session.specs.Open.{HasStayed, IsRunOver}
+use Rattle.bc_session.proofs.Ready.{stands_still}
+use Rattle.bc_session.proofs.Stopped.{settled_self}
+use Rattle.bc_super.specs.Super.{data_sectors}
+use Rattle.bc_super.specs.declared.backing.BackingSuper.{BackingSuper}
+use Rattle.bc_cached_serve.specs.Run.{IsAlone}
+
+pub has_stayed : (d : DiskFacts) → StandsFor d (settled_model d) → HasStayed d d
+has_stayed d still = record { settled = settled_self d (stands_still d still); faults = refl }
+
+module _ {C B : Type 0} (cache_facts : C → DiskFacts) (backing_facts : B → DiskFacts)
+    (s : Survey) (b : BackingSuper) (cache : C) (backing : B) (loaded : Loaded)
+    (parts : PartsView (CorePart C B)) (seat : View cache_facts backing_facts)
+    (over : IsRunOver cache_facts backing_facts s b cache backing loaded parts seat) where
+  pub is_alone : IsAlone cache_facts backing_facts seat
+  is_alone = record {
+    all = over.started.all;
+    deeds = over.started.deeds;
+    seen = over.started.seen;
+  }
+
+  pub is_cached : are_plain cache_facts backing_facts parts.run.start ≡ false
+  is_cached = ap (λ (ps : List (CorePart C B)). are_plain cache_facts backing_facts ps)
+      over.started.start
+
+  how_many : length parts.run.start ≡ 6 + over.is_loaded.count
+  how_many =
+      let k = over.started.beginning in
+      let made : length k.leaves ≡ over.is_loaded.count =
+      ap (λ (xs : List NodeCache). length xs) over.started.made.leaves
+      ∙ over.is_loaded.are.leaves.are.each in
+      let put : NodeCache → CorePart C B = λ x. part.Leaves x in
+      let all : length (map put k.leaves) ≡ length k.leaves = length-map k.leaves put in
+      ap (λ (ps : List (CorePart C B)). length ps) over.started.start
+      ∙ omega (arith, made, all)
+
+  pub has_leaves : (6 < length parts.run.start) × (length parts.run.start < 2 ^ 32)
+  has_leaves =
+      let count = how_many in let some = over.is_loaded.some in let few = over.is_loaded.few in
+      (omega (arith, count, some), omega (arith, count, few))
+
+  -- how many sectors the data are
+  pub size_is : data_sectors (backing_facts backing).sectors b
+      ≡ size_of cache_facts backing_facts seat.run.start
+  size_is = sym (ap (λ (r : Run (CorePart C B)). size_of cache_facts backing_facts r.start)
+      over.started.works.run
+      ∙ ap (λ (ps : List (CorePart C B)). size_of cache_facts backing_facts ps) over.started.start
+      ∙ ap (λ (p : BackingPart B). p.size) over.started.made.backing ∙ over.is_part.size
+      ∙ ap (λ n. data_sectors n b) over.state.2.sectors)

@@ -1,0 +1,132 @@
+//! The lines of a trace, served in order by one seat.
+ghost use Rattle.std.specs.Prelude.{◌≡◌, ◌<◌, ◌≤◌, ◌^◌, All, [], length, vec_capacity, IfErr, IfOk};
+ghost use Rattle.bc_deed.specs.Asked.{size_of};
+ghost use Rattle.bc_job.specs.Asked.{IsFor, IsRange};
+ghost use Rattle.bc_machine.specs.Plain.{worker_of};
+ghost use Rattle.bc_request.specs.Asked.{IsIdle};
+ghost use Rattle.bc_script.specs.Answer.{IsPrintable};
+ghost use Rattle.bc_script.specs.Proper.{IsLine};
+ghost use Rattle.bc_cached_serve.specs.Answered.{AsksToRead, HasAnsweredLine, HasAnsweredRead, HasStoppedLine, HasStoppedRead};
+ghost use Rattle.bc_cached_serve.specs.Served.{HaveServed};
+
+use crate::refused::refused;
+use crate::unsound::Unsound;
+use bc_disk::disk::Disk;
+use bc_job::job::Job;
+use bc_machine::machine::{CoreParts, CoreSeat};
+use bc_request::error::RequestError;
+use bc_request::read::read;
+use bc_script::answer::Answer;
+use bc_script::line::{Action, Line};
+use bc_worker::gate::Gate;
+use std::alloc::Global;
+use std::sync::Wait;
+
+// Reads the sectors of a line.
+fn serve_read<C: Disk + Drop, B: Disk + Drop, R: Wait, G: Gate>(
+    rt: &R,
+    alloc: Global,
+    parts: &CoreParts<C, B>,
+    seat: &mut CoreSeat<C, B>,
+    job: &Job,
+    gate: &G,
+) -> Result<Answer, RequestError>
+    requires idle { IsIdle C.facts B.facts parts.now seat.old }
+    requires its { IsFor C.facts B.facts job.now seat.old }
+    requires range { IsRange job.now }
+    ensures idle { IsIdle C.facts B.facts parts.now seat.new }
+    ensures printable { IfOk result IsPrintable }
+    ensures ok { IfOk result (λ answer. HasAnsweredRead C.facts B.facts parts.now job.now answer
+        seat.old seat.new) }
+    ensures err { IfErr result (λ why. HasStoppedRead C.facts B.facts parts.now job.now why
+        seat.old seat.new) }
+{
+    match read(rt, alloc, parts, seat, job, gate) {
+        Ok(values) => Ok(Answer::Runs {
+            first: job.first,
+            values,
+        }),
+        Err(error) => refused(error),
+    }
+}
+
+// Serves the line of this number over a device of so many data sectors.
+fn serve_line<C: Disk + Drop, B: Disk + Drop, R: Wait, G: Gate>(
+    rt: &R,
+    alloc: Global,
+    parts: &CoreParts<C, B>,
+    seat: &mut CoreSeat<C, B>,
+    size: u64,
+    number: u32,
+    line: Line,
+    gate: &G,
+) -> Result<Answer, RequestError>
+    requires idle { IsIdle C.facts B.facts parts.now seat.old }
+    requires size { size ≡ size_of C.facts B.facts seat.old.run.start }
+    requires worker { worker_of seat.old.first ≡ 1 }
+    requires line { IsLine line }
+    requires reads { AsksToRead line }
+    ensures idle { IsIdle C.facts B.facts parts.now seat.new }
+    ensures printable { IfOk result IsPrintable }
+    ensures ok { IfOk result (λ answer. HasAnsweredLine C.facts B.facts parts.now size number line
+        answer seat.old seat.new) }
+    ensures err { IfErr result (λ why. HasStoppedLine C.facts B.facts parts.now size number line why
+        seat.old seat.new) }
+{
+    let Line::Request { worker, action, .. } = line else {
+        return Ok(Answer::Silent);
+    };
+    match action {
+        Action::Read { first, count } => {
+            let job = Job {
+                worker,
+                line: number,
+                first,
+                count,
+                size,
+                force: false,
+            };
+            serve_read(rt, alloc, parts, seat, &job, gate)
+        }
+        _ => unreachable!(),
+    }
+}
+
+/// Serves the lines in order, each of which reads or asks for nothing, over a device of so many
+/// data sectors, and puts an answer to each behind the others, for which there is room.
+///
+/// `Unsound` comes from the first line that was refused for a cause of which no answer has a word.
+/// Each line before it is answered then, and what it had read itself stands in the history.
+pub fn serve_lines<C: Disk + Drop, B: Disk + Drop, R: Wait, G: Gate>(
+    rt: &R,
+    alloc: Global,
+    parts: &CoreParts<C, B>,
+    seat: &mut CoreSeat<C, B>,
+    size: u64,
+    lines: &[Line],
+    answers: &mut Vec<Answer>,
+    gate: &G,
+) -> Result<(), Unsound>
+    requires idle { IsIdle C.facts B.facts parts.now seat.old }
+    requires size { size ≡ size_of C.facts B.facts seat.old.run.start }
+    requires worker { worker_of seat.old.first ≡ 1 }
+    requires lines { All IsLine lines.now }
+    requires reads { All AsksToRead lines.now }
+    requires few { length lines.now < 2 ^ 32 }
+    requires none { answers.old.items ≡ [] }
+    requires room { length lines.now ≤ vec_capacity answers.old }
+    ensures idle { IsIdle C.facts B.facts parts.now seat.new }
+    ensures printable { All IsPrintable answers.new.items }
+    ensures served { HaveServed C.facts B.facts parts.now size lines.now answers.new.items result
+        seat.old seat.new }
+{
+    for (index, line) in lines.iter().enumerate() {
+        let number = index as u32 + 1;
+        let answer = match serve_line(rt, alloc, parts, seat, size, number, *line, gate) {
+            Ok(answer) => answer,
+            Err(why) => return Err(Unsound { line: number, why }),
+        };
+        answers.push_reserved(answer);
+    }
+    Ok(())
+}
