@@ -1,0 +1,10 @@
+pub mod Counting
+pub mod Walking
+pub mod Putting
+pub mod Staying
+pub mod Serving
+pub mod Noting
+pub mod Hands
+pub mod Syncing
+pub mod Ending
+pub mod Flushing
