@@ -153,6 +153,7 @@ try_words 'an offset behind the last sector' 4 'superblock backing 14' cache.img
 try_words 'adopt of a pair in use' 4 'superblock cache 18' cache.img backing.img adopt
 try_words 'show to a sink that takes it' 0 "$("$bcache" cache.img backing.img show)" cache.img backing.img show
 try_trace 'a pair with a cache' 5 'unserved' '1 w 0 1 1\n'
+try_trace 'reads of a pair with a cache' 0 $'zerox2\nout-of-range' '1 r 0 2\n1 r 63 2\n'
 # A pair of which nothing is asked is opened and closed: its data stay, and it is sound and clean again.
 data=$(tail -c +8193 backing.img | sha256sum)
 for trace in '' '# nothing\n-\n'; do

@@ -3,7 +3,7 @@
 # by the same calls: a cache device of 64 GiB in 131,072 buckets, whose index has up to a million
 # keys of eight sectors. The C program makes the pair too, in files with holes that take some 35
 # MB. `serve` surveys the pair before it answers `unserved`; that is what is timed, with a trace of
-# one read. Where there are keys the journal has 8,000 that write over some of them; in the last
+# one write. Where there are keys the journal has 8,000 that write over some of them; in the last
 # one each fourth key stands in a second set of its leaf.
 #
 # For each pair it prints the milliseconds of both from start to end, with the ratio; those of
@@ -24,7 +24,7 @@ for tool in survey measure; do
     "${CC:-cc}" -O2 -Wall -Wextra -o "$folder/$tool" "bench/$tool.c"
 done
 cd "$folder"
-echo '1 r 0 1' > trace
+echo '1 w 0 1 7' > trace
 
 # best STATUS COMMAND WORD.. runs a command six times, each of which has to end with this status
 # and print `unserved`, and prints the least microseconds and microseconds of processor time of

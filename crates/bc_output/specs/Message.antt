@@ -6,7 +6,7 @@ use Rattle.bc_script.specs.Trace.{ended}
 use Rattle.bc_output.specs.declared.message.Origin.{Origin}
 use Rattle.bc_output.specs.declared.message.Origin.TheVariants.{Disk, Source}
 use Rattle.bc_output.specs.declared.message.Message.{Message}
-use Rattle.bc_output.specs.declared.message.Message.TheVariants.{Usage, Trace, Superblock, Image, Unserved, Fault, Memory}
+use Rattle.bc_output.specs.declared.message.Message.TheVariants.{Usage, Trace, Superblock, Image, Unserved, Unsound, Fault, Memory}
 
 abbrev pub origin_text : Origin → List ℕ
 origin_text (Disk device) = device_text device
@@ -20,6 +20,7 @@ words_of (Superblock device number) =
     codes "superblock " ++ device_text device ++ codes " " ++ decimal number
 words_of (Image number) = codes "image " ++ decimal number
 words_of Unserved = codes "unserved"
+words_of (Unsound line) = codes "unsound " ++ decimal line
 words_of (Fault origin) = codes "fault " ++ origin_text origin
 words_of Memory = codes "memory"
 

@@ -24,6 +24,7 @@ status_of (message.Trace line why) = status.Trace
 status_of (message.Superblock device number) = status.Superblock
 status_of (message.Image number) = status.Image
 status_of message.Unserved = status.Image
+status_of (message.Unsound line) = status.Image
 status_of (message.Fault (origin.Disk device)) = status.Device
 status_of (message.Fault origin.Source) = status.Source
 status_of message.Memory = status.Memory

@@ -28,6 +28,9 @@ pub enum Message {
     Image(u8),
     /// The pair has a cache, which isn't served yet.
     Unserved,
+    /// This line of the trace, and each behind it, isn't served: it found the index in memory as
+    /// that of no sound pair. `check` names what is wrong. The first line has number 1.
+    Unsound(u32),
     /// A device or the source failed.
     Fault(Origin),
     /// Memory ran out.
@@ -130,9 +133,20 @@ fn image_line(number: u8) -> MessageLine
     text
 }
 
+#[tactic(auto, using(crate::proofs::Digits::room))]
+fn unsound_line(line: u32) -> MessageLine
+    ensures { result ≡ message_text (Message.Unsound line) }
+{
+    let mut text = MessageLine::new(b"unsound ");
+    text.push_number(line);
+    text.push(b'\n');
+    text
+}
+
 /// The line of a message: `usage`; `trace`, the line and the reason; `superblock`, `cache` or
-/// `backing` and the fault; `image` and the reason; `unserved`; `fault` and `cache`, `backing` or
-/// `source`; or `memory`. The numbers are decimal, and there is one space between two words.
+/// `backing` and the fault; `image` and the reason; `unserved`; `unsound` and the line; `fault` and
+/// `cache`, `backing` or `source`; or `memory`. The numbers are decimal, and there is one space
+/// between two words.
 pub fn print_message(message: Message) -> MessageLine
     ensures { result ≡ message_text message }
 {
@@ -142,6 +156,7 @@ pub fn print_message(message: Message) -> MessageLine
         Message::Superblock { device, number } => superblock_line(device, number),
         Message::Image(number) => image_line(number),
         Message::Unserved => MessageLine::new(b"unserved\n"),
+        Message::Unsound(line) => unsound_line(line),
         Message::Fault(Origin::Disk(Device::Cache)) => MessageLine::new(b"fault cache\n"),
         Message::Fault(Origin::Disk(Device::Backing)) => MessageLine::new(b"fault backing\n"),
         Message::Fault(Origin::Source) => MessageLine::new(b"fault source\n"),

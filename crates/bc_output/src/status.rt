@@ -15,8 +15,8 @@ pub enum Status {
     Trace,
     /// A superblock is refused.
     Superblock,
-    /// What stands behind the superblocks is refused, or the pair has a cache, which isn't served
-    /// yet.
+    /// What stands behind the superblocks is refused, or a line found it unsound; or the pair has a
+    /// cache, which isn't served yet.
     Image,
     /// A device failed, or couldn't be opened.
     Device,
@@ -56,7 +56,7 @@ impl Message {
             Message::Usage => Status::Usage,
             Message::Trace { .. } => Status::Trace,
             Message::Superblock { .. } => Status::Superblock,
-            Message::Image(_) | Message::Unserved => Status::Image,
+            Message::Image(_) | Message::Unserved | Message::Unsound(_) => Status::Image,
             Message::Fault(Origin::Disk(_)) => Status::Device,
             Message::Fault(Origin::Source) => Status::Source,
             Message::Memory => Status::Memory,

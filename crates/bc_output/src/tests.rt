@@ -84,7 +84,7 @@ fn answers_are_put(rt: HostRuntime) -> Result<(), Fail> {
 #[test]
 fn messages_are_printed(rt: HostRuntime) {
     let superblock = |device, number| Message::Superblock { device, number };
-    let cases: [(Message, &[u8]); 12] = [
+    let cases: [(Message, &[u8]); 13] = [
         (Message::Usage, b"usage\n"),
         (Message::Trace { line: 1, why: 2 }, b"trace 1 2\n"),
         (
@@ -102,6 +102,7 @@ fn messages_are_printed(rt: HostRuntime) {
         (Message::Image(2), b"image 2\n"),
         (Message::Image(255), b"image 255\n"),
         (Message::Unserved, b"unserved\n"),
+        (Message::Unsound(u32::MAX), b"unsound 4294967295\n"),
         (
             Message::Fault(Origin::Disk(Device::Cache)),
             b"fault cache\n",

@@ -9,6 +9,7 @@ use Rattle.bc_output.specs.declared.status.Status.{Status}
 use Rattle.bc_output.specs.declared.status.Status.TheVariants as statuses
 use Rattle.bc_disk.specs.Disk.{DiskFacts}
 use Rattle.bc_prog.specs.Done.{HasAskedNothing}
+use Rattle.bc_top.specs.Cached.{HasNotOpened}
 use Rattle.bc_top.specs.Idle.{HasOpened}
 use Rattle.bc_top.specs.Stops.{open_stop, status_of}
 use Rattle.bc_top.specs.Top.{LacksMemory}
@@ -30,7 +31,8 @@ pub began : {A C B : Type 0} {P : A → Type 0} (cache_facts : C → DiskFacts) 
     (pass : Option A) (status : Status) (source left : StreamFacts) (cache cache' : C)
     (backing backing' : B) (old new : StreamFacts)
     → (IsNone pass → ((stop : Stop) × (status ≡ status_of stop))
-    ⊎ HasOpened cache_facts facts status source left cache cache' backing backing' old new)
+    ⊎ HasOpened cache_facts facts status source left cache cache' backing backing' old new
+    ⊎ HasNotOpened cache_facts facts status source left cache cache' backing backing' old new)
     → IfSome pass P → status ≡ statuses.Done
     → ((a : A) × P a) ⊎ HasAskedNothing source left old new
 began cache_facts facts (Some pass) status source left cache cache' backing backing' old new stopped
@@ -38,13 +40,15 @@ began cache_facts facts (Some pass) status source left cache cache' backing back
 began cache_facts facts None status source left cache cache' backing backing' old new stopped run zero =
     elim (stopped refl) [
       | inl it ↦ absurd (stops_above_zero it.0 (sym it.1 ∙ zero))
-      | inr opened ↦ inr (
+      | inr (inl opened) ↦ inr (
         opened.trace,
         elim opened.ends [
           | inl done ↦ done.1
           | inr failed ↦ absurd (stops_above_zero (open_stop failed.0) (sym failed.2 ∙ zero))
         ],
       )
+      | inr (inr unopened) ↦ absurd (stops_above_zero (open_stop unopened.ends.0)
+          (sym unopened.ends.2 ∙ zero))
     ]
 
 -- a refusal that isn't one of memory

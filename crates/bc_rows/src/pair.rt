@@ -105,8 +105,8 @@ fn list(alloc: Global, words: &str) -> Result<Vec<String>, Fail> {
     Ok(list)
 }
 
-/// Runs the command of these words over the pair, before a trace of one read. What is printed goes to
-/// the sink.
+/// Runs the command of these words over the pair, before a trace of one write. What is printed goes
+/// to the sink.
 pub fn run<R: Wait>(
     rt: &R,
     alloc: Global,
@@ -115,7 +115,7 @@ pub fn run<R: Wait>(
     out: &mut MemSink,
 ) -> Result<Pair, Fail> {
     let list = list(alloc, words)?;
-    let trace = Vec::from_slice(alloc, b"1 r 0 1\n")?;
+    let trace = Vec::from_slice(alloc, b"1 w 0 1 7\n")?;
     let mut source = MemSource::new(alloc, trace);
     Ok(bcache(rt, alloc, &list, &mut source, pair.cache, pair.backing, out))
 }

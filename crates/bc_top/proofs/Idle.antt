@@ -1,8 +1,9 @@
 -- A trace that asks for nothing, over a pair with a cache.
-use Rattle.std.specs.Prelude.{option_map}
+use Rattle.std.specs.Prelude.{All, not, option_map}
 use Rattle.std.specs.Bool.{MatchBool}
 use Rattle.std.proofs.Common.{◌≡◌, ◌⊎◌, ◌*◌, ◌≤◌, inl, inr, Bool, true, false, List, Option, Some, None, refl, sym, ap, ◌∙◌, subst}
 use Rattle.bc_model.specs.Sector.{Image}
+use Rattle.bc_cached_serve.specs.Answered.{AsksToRead}
 use Rattle.bc_disk.specs.Device.{HasRisen, quiet}
 use Rattle.bc_disk.specs.Disk.{Allows, BothTold, DiskFacts, IfTold, IsKept}
 use Rattle.bc_disk.specs.Stream.{StreamFacts}
@@ -24,6 +25,7 @@ use Rattle.bc_replay.specs.declared.error.OpenError.{OpenError}
 use Rattle.bc_replay.specs.declared.error.OpenError.TheVariants as errors
 use Rattle.bc_replay.specs.declared.held.Survey.{Survey}
 use Rattle.bc_replay.proofs.Once.{never_both}
+use Rattle.bc_replay.proofs.Opens.{held_map}
 use Rattle.bc_replay.proofs.Pairs.{of_both}
 use Rattle.bc_script.specs.Trace.{IsWhole}
 use Rattle.bc_script.specs.declared.line.Line.{Line}
@@ -31,10 +33,10 @@ use Rattle.bc_session.specs.Idle.{IsIdleStop, IsUnwritten}
 use Rattle.bc_super.specs.Division.{IsPassThrough}
 use Rattle.bc_super.specs.declared.backing.BackingSuper.{BackingSuper}
 use Rattle.bc_super.proofs.Told.{reads_after, reads_before}
-use Rattle.bc_top.specs.Idle.{EndsOpening, IsTested, left_with}
+use Rattle.bc_top.specs.Idle.{EndsOpening, EndsUnopened, IsTested, left_with}
 use Rattle.bc_top.specs.Opened.{AreQuiet, AreStill, AsksForNone, IsOpened, IsReadAgain, IsSameDevice, SameImage, StandsStill}
 use Rattle.bc_top.specs.Stops.{IsRefusal, open_stop, status_of}
-use Rattle.bc_top.specs.Top.{AnswersPair, AreSame, AskNothing, AskSomething, EndsAnswering, NeedsFirst, OneHasRisen}
+use Rattle.bc_top.specs.Top.{AnswersPair, AreSame, AskMore, AskNothing, AskReads, AskSomething, EndsAnswering, NeedsFirst, OneHasRisen}
 use Rattle.bc_top.specs.Ready.{IsCached}
 use Rattle.bc_top.specs.declared.serve.Opening.{Opening}
 use Rattle.bc_top.specs.declared.serve.Opening.TheVariants.{Cached}
@@ -97,6 +99,21 @@ pub asks : (b : Bool) (lines : List Line) → b ≡ true
     → MatchBool b (AskSomething lines) (AskNothing lines) → AskSomething lines
 asks true lines is so = so
 asks false lines is so = absurd (cc)
+
+pub asks_more : (b : Bool) (lines : List Line) → not b ≡ true
+    → MatchBool b (All AsksToRead lines) (¬ (All AsksToRead lines)) → AskMore lines
+asks_more true lines is so = absurd (cc)
+asks_more false lines is so = so
+
+pub asks_to_read : (b : Bool) (lines : List Line) → not b ≡ false
+    → MatchBool b (All AsksToRead lines) (¬ (All AsksToRead lines)) → All AsksToRead lines
+asks_to_read true lines is so = so
+asks_to_read false lines is so = absurd (cc)
+
+pub asks_nothing : (b : Bool) (lines : List Line) → b ≡ false
+    → MatchBool b (AskSomething lines) (AskNothing lines) → AskNothing lines
+asks_nothing true lines is so = absurd (cc)
+asks_nothing false lines is so = so
 
 pub nothing_if_cached : (P : Type 0) (o : Opening) (b : BackingSuper) (s : Survey) → o ≡ Cached b s
     → (IsCached o → P) → P
@@ -301,35 +318,74 @@ module _ {C B : Type 0} (cache_facts : C → DiskFacts) (facts : B → DiskFacts
           odd : IsOdd s.journal → NeedsFirst pair
           odd is_odd = (h.view, h.is_view, needs_first s pair h is_odd)
 
-          abbrev Answers : List Line → Type 0
-          Answers lines = EndsAnswering pair lines status old new
+          -- there was no memory, or the newest entry is one behind which none can come
+          abbrev Stops : Type 0
+          Stops = (status ≡ statuses.Memory) ⊎ ((status ≡ statuses.Image) × NeedsFirst pair)
 
-          failed : (lines : List Line) → AskNothing lines → (e : OpenError)
+          failed : (e : OpenError)
               → IsIdleStop cache_facts facts s tested tested_backing (left_with e left backing') e
-              → status ≡ status_of (open_stop e) → Answers lines
-          failed lines nothing (errors.Fault device.Cache) stop at = absurd (never_rose (inl
+              → status ≡ status_of (open_stop e) → Stops
+          failed (errors.Fault device.Cache) stop at = absurd (never_rose (inl
               (subst (λ n. HasRisen n cache'.faults) is.quiet.0
               (next_risen tested_cache.faults cache'.faults stop.0))))
-          failed lines nothing (errors.Fault device.Backing) stop at = absurd (never_rose (inr
+          failed (errors.Fault device.Backing) stop at = absurd (never_rose (inr
               (subst (λ n. HasRisen n (facts backing').faults) is.quiet.1
               (next_risen (facts tested_backing).faults (facts backing').faults stop.1.faults))))
-          failed lines nothing errors.Memory stop at = inl at
-          failed lines nothing (errors.JournalEnd seq) stop at = elim stop.0 [
-            | inl is_odd ↦ inr (inr (nothing, (refused_none, inr (at, odd is_odd.0))))
+          failed errors.Memory stop at = inl at
+          failed (errors.JournalEnd seq) stop at = elim stop.0 [
+            | inl is_odd ↦ inr (at, odd is_odd.0)
             | inr another ↦ absurd (not_another another)
           ]
-          failed lines nothing e stop at = absurd (not_another stop.0)
+          failed e stop at = absurd (not_another stop.0)
 
-          answered : (lines : List Line) → AskNothing lines → Answers lines
-          answered lines nothing = elim ends [
-            | inl done ↦ inr (inr (nothing, (refused_none, inl (done.0, done.1))))
-            | inr stopped ↦ failed lines nothing stopped.0 stopped.1 stopped.2
+          answered : (begun : Type 0) (lines : List Line) → AskNothing lines
+              → EndsAnswering pair lines begun status old new
+          answered begun lines nothing = elim ends [
+            | inl done ↦ inr (inr (inl (nothing, (refused_none, inl (done.0, done.1)))))
+            | inr stopped ↦ (elim (failed stopped.0 stopped.1 stopped.2) [
+              | inl memory ↦ inl memory
+              | inr odd ↦ inr (inr (inl (nothing, (refused_none, inr odd))))
+            ])
           ]
 
-    pub answers : (source rest : StreamFacts) (lines : List Line) → IsWhole source rest lines
-        → AskNothing lines
-        → AnswersPair source rest cache cache' (facts backing) (facts backing') status old new
-    answers source rest lines whole nothing = λ spelled quiet still.
-        of_both (λ p. (ServesAlone p → ⊥) → EndsAnswering p spelled.2.0 status old new) cache (facts backing)
-        (λ c0 b0 tells told never. answered still c0 b0 tells told spelled.2.0
+          -- where something was to be read it wasn't opened
+          unopened : (begun : Type 0) (lines : List Line) → AskReads lines
+              → EndsUnopened cache_facts facts b s tested left tested_backing backing' status old new
+              → EndsAnswering pair lines begun status old new
+          unopened begun lines reads stopped = elim (failed stopped.0 stopped.1 stopped.2) [
+            | inl memory ↦ inl memory
+            | inr odd ↦ inr (inr (inr (reads, (refused_none, inr odd))))
+          ]
+
+    pub answers : (begun : Type 0) (source rest : StreamFacts) (lines : List Line)
+        → IsWhole source rest lines → AskNothing lines
+        → AnswersPair source rest cache cache' (facts backing) (facts backing') begun status old new
+    answers begun source rest lines whole nothing = λ spelled quiet still.
+        of_both (λ p. (ServesAlone p → ⊥) → EndsAnswering p spelled.2.0 begun status old new) cache
+        (facts backing) (λ c0 b0 tells told never. answered still c0 b0 tells told begun spelled.2.0
         (subst AskNothing (same_lines source rest lines whole spelled) nothing))
+
+    pub unopened_answers : (begun : Type 0) (source rest : StreamFacts) (lines : List Line)
+        → IsWhole source rest lines → AskReads lines
+        → EndsUnopened cache_facts facts b s tested left tested_backing backing' status old new
+        → AnswersPair source rest cache cache' (facts backing) (facts backing') begun status old new
+    unopened_answers begun source rest lines whole reads stopped = λ spelled quiet still.
+        of_both (λ p. (ServesAlone p → ⊥) → EndsAnswering p spelled.2.0 begun status old new) cache
+        (facts backing) (λ c0 b0 tells told never. unopened still c0 b0 tells told begun spelled.2.0
+        (subst AskReads (same_lines source rest lines whole spelled) reads) stopped)
+
+-- where a run began the pair has no refusal
+pub begun_answers : (begun : Type 0) (b : BackingSuper) (s : Survey)
+    (c0 c1 c2 b0 b1 b2 : DiskFacts)
+    → IsTested b s c0 c1 b0 b1 → begun → (source rest : StreamFacts)
+    (lines : List Line) → IsWhole source rest lines → AskReads lines → (status : Status)
+    (old new : StreamFacts)
+    → AnswersPair source rest c0 c2 b0 b2 begun status old new
+begun_answers begun b s c0 c1 c2 b0 b1 b2 is has source rest lines
+    whole reads status old new = λ spelled quiet still.
+    held_map CanBeOpened
+    (λ p. (ServesAlone p → ⊥) → EndsAnswering p spelled.2.0 begun status old new) c0 b0
+    (λ p can never. inr (inr (inr (
+      subst AskReads (same_lines source rest lines whole spelled) reads,
+      ((λ e first. never_both p can.0 can.1 can.2 e first), inl has),
+    )))) is.can

@@ -31,7 +31,7 @@ use Rattle.bc_top.specs.Ended.{IsPutOf}
 use Rattle.bc_super.proofs.Told.{reads_before}
 use Rattle.bc_top.specs.Opened.{AreQuiet, AreStill, AsksForCache, IsAnswerTo, IsLoneCause, IsOpened, IsOpeningCause, IsPairCause, IsSameDevice, LeavesLess, SameImage}
 use Rattle.bc_top.specs.Stops.{message_of, status_of, open_stop}
-use Rattle.bc_top.specs.Top.{AnswersPair, AreSame, AskSomething, EndsAnswering, IsServeCause, OneHasRisen, SpellsTrace}
+use Rattle.bc_top.specs.Top.{AnswersPair, AreSame, AskMore, EndsAnswering, IsServeCause, OneHasRisen, SpellsTrace}
 use Rattle.bc_top.specs.declared.stop.Stop.{Stop}
 use Rattle.bc_top.specs.declared.stop.Stop.TheVariants as stop
 use Rattle.bc_top.proofs.Completing.{never_refused}
@@ -224,27 +224,27 @@ unserved_none p (inl x) = absurd (is_told x.0 x.2)
 unserved_none p (inr x) = x.0
 
 -- a call that ended so before its run has answered the pair
-pub stopped_answers : (cache cache' backing backing' : DiskFacts) → AreSame cache cache' backing backing' → (source left : StreamFacts) (why : Stop) → IsServeCause why source left cache cache' backing backing'
-    → (status : Status) (old new : StreamFacts) → status ≡ status_of why → IsPutOf (message_text (message_of why)) old new → AnswersPair source left cache cache' backing backing' status old new
-stopped_answers cache cache' backing backing' same source left why cause status old new is put = λ spelled quiet still.
-    held_map (λ p. (why ≡ stop.Memory) ⊎ IsAnswerTo p why) (λ p. (ServesAlone p → ⊥) → EndsAnswering p spelled.2.0 status old new) cache backing (λ p answered never. ends spelled p answered)
+pub stopped_answers : (begun : Type 0) (cache cache' backing backing' : DiskFacts) → AreSame cache cache' backing backing' → (source left : StreamFacts) (why : Stop) → IsServeCause why source left cache cache' backing backing'
+    → (status : Status) (old new : StreamFacts) → status ≡ status_of why → IsPutOf (message_text (message_of why)) old new → AnswersPair source left cache cache' backing backing' begun status old new
+stopped_answers begun cache cache' backing backing' same source left why cause status old new is put = λ spelled quiet still.
+    held_map (λ p. (why ≡ stop.Memory) ⊎ IsAnswerTo p why) (λ p. (ServesAlone p → ⊥) → EndsAnswering p spelled.2.0 begun status old new) cache backing (λ p answered never. ends spelled p answered)
     (served cache cache' backing backing' same still source left why spelled quiet cause)
   where
-    asked : (spelled : SpellsTrace source) → why ≡ stop.Unserved → AskSomething spelled.2.0
+    asked : (spelled : SpellsTrace source) → why ≡ stop.Unserved → AskMore spelled.2.0
     asked spelled unserved =
         let read = (subst (λ (x : Stop). IsServeCause x source left cache cache' backing backing') unserved cause).0 in
-        subst AskSomething (same_lines source left read.0 read.2 spelled) read.3
+        subst AskMore (same_lines source left read.0 read.2 spelled) read.3
 
-    ends : (spelled : SpellsTrace source) (p : Pair) → (why ≡ stop.Memory) ⊎ IsAnswerTo p why → EndsAnswering p spelled.2.0 status old new
+    ends : (spelled : SpellsTrace source) (p : Pair) → (why ≡ stop.Memory) ⊎ IsAnswerTo p why → EndsAnswering p spelled.2.0 begun status old new
     ends spelled p (inl memory) = inl (is ∙ (let nine : status_of why ≡ statuses.Memory = subst (λ (x : Stop). status_of x ≡ statuses.Memory) (sym memory) refl in nine))
     ends spelled p (inr answer) = inr (inl (why, answer, asked spelled, is, put))
 
 -- nor does one that had no memory answer otherwise
-pub nine_answers : (source left : StreamFacts) (cache cache' backing backing' : DiskFacts) (status : Status) (old new : StreamFacts) → status ≡ statuses.Memory → AnswersPair source left cache cache' backing backing' status old new
-nine_answers source left cache cache' backing backing' status old new nine = λ spelled quiet still. held_all (λ p. (ServesAlone p → ⊥) → EndsAnswering p spelled.2.0 status old new) cache backing (λ p never. inl nine)
+pub nine_answers : (begun : Type 0) (source left : StreamFacts) (cache cache' backing backing' : DiskFacts) (status : Status) (old new : StreamFacts) → status ≡ statuses.Memory → AnswersPair source left cache cache' backing backing' begun status old new
+nine_answers begun source left cache cache' backing backing' status old new nine = λ spelled quiet still. held_all (λ p. (ServesAlone p → ⊥) → EndsAnswering p spelled.2.0 begun status old new) cache backing (λ p never. inl nine)
 
 -- where a run began the backing device serves alone
-pub alone_answers : (source left : StreamFacts) (cache cache' backing backing' : DiskFacts) (s : BackingSuper) → ReadsSuper backing s → IsPassThrough s → (status : Status) (old new : StreamFacts) → AnswersPair source left cache cache' backing backing' status old new
-alone_answers source left cache cache' backing backing' s reads alone status old new = λ spelled quiet still.
-    of_both (λ p. (ServesAlone p → ⊥) → EndsAnswering p spelled.2.0 status old new) cache backing (λ c b tells told never.
+pub alone_answers : (begun : Type 0) (source left : StreamFacts) (cache cache' backing backing' : DiskFacts) (s : BackingSuper) → ReadsSuper backing s → IsPassThrough s → (status : Status) (old new : StreamFacts) → AnswersPair source left cache cache' backing backing' begun status old new
+alone_answers begun source left cache cache' backing backing' s reads alone status old new = λ spelled quiet still.
+    of_both (λ p. (ServesAlone p → ⊥) → EndsAnswering p spelled.2.0 begun status old new) cache backing (λ c b tells told never.
     absurd (never (s, backing_read backing (pair_of cache backing c b) s told refl (has_room backing s reads) reads, alone)))

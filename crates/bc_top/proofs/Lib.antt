@@ -8,3 +8,7 @@ pub mod Completing
 pub mod Unread
 pub mod Judging
 pub mod Idle
+pub mod Counting
+pub mod Risen
+pub mod Showing
+pub mod Reading

@@ -19,7 +19,7 @@ use Rattle.bc_replay.proofs.Refusals.{once}
 use Rattle.bc_top.specs.Opened.{IsLoneCause, IsOpened, IsOpeningCause, IsSameDevice, LeavesLess, SameImage, StandsStill}
 use Rattle.bc_disk.specs.Stream.{StreamFacts}
 use Rattle.bc_top.specs.Stops.{open_stop}
-use Rattle.bc_top.specs.Top.{AskSomething, IsServeCause, WasRead}
+use Rattle.bc_top.specs.Top.{AskMore, IsServeCause, WasRead}
 use Rattle.bc_top.specs.declared.stop.Stop.{Stop}
 use Rattle.bc_top.specs.declared.stop.Stop.TheVariants as stop
 use Rattle.bc_serve.proofs.Failing.{next_rises}
@@ -153,7 +153,7 @@ module _ (source left : StreamFacts) (cache cache' backing backing' : DiskFacts)
   told_as : (why : Stop) (error : OpenError) → why ≡ open_stop error → IsOpeningCause cache cache' backing backing' why → IsServeCause why source left cache cache' backing backing'
   told_as why error is cause = subst (λ (x : Stop). IsServeCause x source left cache cache' backing backing') (sym is) (told_so error (subst (IsOpeningCause cache cache' backing backing') is cause))
 
-  pub open_cause : (why : Stop) → (why ≡ stop.Unserved → AskSomething read.0)
+  pub open_cause : (why : Stop) → (why ≡ stop.Unserved → AskMore read.0)
       → IsOpeningCause cache cache' backing backing' why
       → IsServeCause why source left cache cache' backing backing'
   open_cause why asked (inl lone) = told_as why lone.0 lone.1 (inl lone)

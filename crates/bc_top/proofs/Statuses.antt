@@ -1,6 +1,6 @@
 -- What the status of a run tells.
-use Rattle.std.proofs.Common.{◌≡◌, ◌⊎◌, inl, inr, ℕ, suc, Bool, true, false, ◌||◌, List, [], ◌∷◌, ◌++◌, Option, None, refl, sym, ap, ◌∙◌, subst}
-use Rattle.std.specs.Prelude.{All, Result, Ok, Err, MatchResult, OnOk, IfErr}
+use Rattle.std.proofs.Common.{◌≡◌, ◌⊎◌, inl, inr, ℕ, suc, Bool, true, false, ◌||◌, List, [], ◌∷◌, ◌++◌, Option, Some, None, refl, sym, ap, ◌∙◌, subst}
+use Rattle.std.specs.Prelude.{All, Result, Ok, Err, MatchResult, OnOk, IfErr, is_some}
 use Rattle.std.specs.List.{list_any}
 use Rattle.std.specs.Result.{is_err}
 use Rattle.bc_disk.specs.Device.{HasRisen, next_count}
@@ -32,8 +32,7 @@ use Rattle.bc_output.specs.declared.status.Status.TheVariants as statuses
 use Rattle.bc_output.specs.Put.{Takes, IsWriteFault}
 use Rattle.bc_output.proofs.Taken.{took_nothing}
 use Rattle.bc_output.proofs.Standing.{all_whole}
-use Rattle.bc_top.specs.Ended.{says_fault, says_memory, has_failed, status_of_end, message_of_end, ArePut, IsPutBehind, IsEnd, IsDone, HasStopped}
-use Rattle.bc_top.specs.Stops.{IsRefusal}
+use Rattle.bc_top.specs.Ended.{says_fault, says_memory, says_node, has_failed, status_of_end, message_of_closing, message_of_end, ArePut, IsPutBehind, IsEnd, IsDone, HasStopped}
 use Rattle.bc_serve.specs.declared.closing.Closing.{Closing}
 use Rattle.bc_serve.specs.declared.closing.Closing.TheVariants as closing
 use Rattle.bc_serve.proofs.Counted.{run_rises}
@@ -42,53 +41,80 @@ use Rattle.bc_top.proofs.Raising.{said_failed, closed_failed}
 
 -- no run ends with another status than these
 abbrev pub IsEndStatus : Status → Type 0
-IsEndStatus n = (n ≡ statuses.Done) ⊎ (n ≡ statuses.Device) ⊎ (n ≡ statuses.Sink) ⊎ (n ≡ statuses.Memory)
+IsEndStatus n = (n ≡ statuses.Done) ⊎ (n ≡ statuses.Device) ⊎ (n ≡ statuses.Sink)
+    ⊎ (n ≡ statuses.Memory) ⊎ (n ≡ statuses.Image)
 
-end_status : (fault : Bool) (how : Closing) (memory cut : Bool) → IsEndStatus (status_of_end fault how memory cut)
-end_status true how memory cut = inr (inl refl)
-end_status false (closing.Failed d) memory cut = inr (inl refl)
-end_status false (closing.Halted d) memory cut = inr (inl refl)
-end_status false closing.Memory true cut = inr (inr (inr refl))
-end_status false closing.Memory false cut = inr (inr (inr refl))
-end_status false closing.Done true cut = inr (inr (inr refl))
-end_status false closing.Done false true = inr (inr (inl refl))
-end_status false closing.Done false false = inl refl
+end_status : (fault : Bool) (how : Closing) (unsound memory cut : Bool)
+    → IsEndStatus (status_of_end fault how unsound memory cut)
+end_status true how unsound memory cut = inr (inl refl)
+end_status false (closing.Failed d) unsound memory cut = inr (inl refl)
+end_status false (closing.Halted d) unsound memory cut = inr (inl refl)
+end_status false closing.Memory true memory cut = inr (inr (inr (inr refl)))
+end_status false closing.Memory false true cut = inr (inr (inr (inl refl)))
+end_status false closing.Memory false false cut = inr (inr (inr (inl refl)))
+end_status false closing.Done true memory cut = inr (inr (inr (inr refl)))
+end_status false closing.Done false true cut = inr (inr (inr (inl refl)))
+end_status false closing.Done false false true = inr (inr (inl refl))
+end_status false closing.Done false false false = inl refl
 
-six : (fault : Bool) (how : Closing) (memory cut : Bool) → status_of_end fault how memory cut ≡ statuses.Device → (fault ≡ true) ⊎ (has_failed how ≡ true)
-six true how memory cut is = inl refl
-six false (closing.Failed d) memory cut is = inr refl
-six false (closing.Halted d) memory cut is = inr refl
-six false closing.Memory true cut is = absurd (cc)
-six false closing.Memory false cut is = absurd (cc)
-six false closing.Done true cut is = absurd (cc)
-six false closing.Done false true is = absurd (cc)
-six false closing.Done false false is = absurd (cc)
+six : (fault : Bool) (how : Closing) (unsound memory cut : Bool)
+    → status_of_end fault how unsound memory cut ≡ statuses.Device
+    → (fault ≡ true) ⊎ (has_failed how ≡ true)
+six true how unsound memory cut is = inl refl
+six false (closing.Failed d) unsound memory cut is = inr refl
+six false (closing.Halted d) unsound memory cut is = inr refl
+six false closing.Memory true memory cut is = absurd (cc)
+six false closing.Memory false true cut is = absurd (cc)
+six false closing.Memory false false cut is = absurd (cc)
+six false closing.Done true memory cut is = absurd (cc)
+six false closing.Done false true cut is = absurd (cc)
+six false closing.Done false false true is = absurd (cc)
+six false closing.Done false false false is = absurd (cc)
 
-eight : (fault : Bool) (how : Closing) (memory cut : Bool) → status_of_end fault how memory cut ≡ statuses.Sink → cut ≡ true
-eight true how memory cut is = absurd (cc)
-eight false (closing.Failed d) memory cut is = absurd (cc)
-eight false (closing.Halted d) memory cut is = absurd (cc)
-eight false closing.Memory true cut is = absurd (cc)
-eight false closing.Memory false cut is = absurd (cc)
-eight false closing.Done true cut is = absurd (cc)
-eight false closing.Done false true is = refl
-eight false closing.Done false false is = absurd (cc)
+eight : (fault : Bool) (how : Closing) (unsound memory cut : Bool)
+    → status_of_end fault how unsound memory cut ≡ statuses.Sink → cut ≡ true
+eight true how unsound memory cut is = absurd (cc)
+eight false (closing.Failed d) unsound memory cut is = absurd (cc)
+eight false (closing.Halted d) unsound memory cut is = absurd (cc)
+eight false closing.Memory true memory cut is = absurd (cc)
+eight false closing.Memory false true cut is = absurd (cc)
+eight false closing.Memory false false cut is = absurd (cc)
+eight false closing.Done true memory cut is = absurd (cc)
+eight false closing.Done false true cut is = absurd (cc)
+eight false closing.Done false false true is = refl
+eight false closing.Done false false false is = absurd (cc)
 
-none : (fault : Bool) (how : Closing) (memory cut : Bool) → status_of_end fault how memory cut ≡ statuses.Done → (fault ≡ false) × (how ≡ closing.Done) × (memory ≡ false) × (cut ≡ false)
-none true how memory cut is = absurd (cc)
-none false (closing.Failed d) memory cut is = absurd (cc)
-none false (closing.Halted d) memory cut is = absurd (cc)
-none false closing.Memory true cut is = absurd (cc)
-none false closing.Memory false cut is = absurd (cc)
-none false closing.Done true cut is = absurd (cc)
-none false closing.Done false true is = absurd (cc)
-none false closing.Done false false is = (refl, refl, refl, refl)
+five : (fault : Bool) (how : Closing) (unsound memory cut : Bool)
+    → status_of_end fault how unsound memory cut ≡ statuses.Image → unsound ≡ true
+five true how unsound memory cut is = absurd (cc)
+five false (closing.Failed d) unsound memory cut is = absurd (cc)
+five false (closing.Halted d) unsound memory cut is = absurd (cc)
+five false closing.Memory true memory cut is = refl
+five false closing.Memory false true cut is = absurd (cc)
+five false closing.Memory false false cut is = absurd (cc)
+five false closing.Done true memory cut is = refl
+five false closing.Done false true cut is = absurd (cc)
+five false closing.Done false false true is = absurd (cc)
+five false closing.Done false false false is = absurd (cc)
 
--- of buckets, the journal and nodes such a run says nothing
+none : (fault : Bool) (how : Closing) (unsound memory cut : Bool)
+    → status_of_end fault how unsound memory cut ≡ statuses.Done
+    → (fault ≡ false) × (how ≡ closing.Done) × (memory ≡ false) × (cut ≡ false) × (unsound ≡ false)
+none true how unsound memory cut is = absurd (cc)
+none false (closing.Failed d) unsound memory cut is = absurd (cc)
+none false (closing.Halted d) unsound memory cut is = absurd (cc)
+none false closing.Memory true memory cut is = absurd (cc)
+none false closing.Memory false true cut is = absurd (cc)
+none false closing.Memory false false cut is = absurd (cc)
+none false closing.Done true memory cut is = absurd (cc)
+none false closing.Done false true cut is = absurd (cc)
+none false closing.Done false false true is = absurd (cc)
+none false closing.Done false false false is = (refl, refl, refl, refl, refl)
+
+-- of buckets and the journal such a run says nothing
 abbrev pub IsPlain : Answer → Type 0
 IsPlain (Refused (refusal.NoBucket purpose none_len own_len)) = ⊥
 IsPlain (Refused refusal.JournalEnd) = ⊥
-IsPlain (Refused (refusal.Node bucket why)) = ⊥
 IsPlain a = Unit {0}
 
 abbrev pub ArePlain : List Answer → Type 0
@@ -98,8 +124,35 @@ ArePlain (a ∷ others) = IsPlain a × ArePlain others
 plain_one : (a : Answer) (seen : List Event) (ds : _) → Rattle.bc_serve.specs.Causes.IsCaused a seen ds → IsPlain a
 plain_one (Refused (refusal.NoBucket purpose none_len own_len)) seen ds h = h
 plain_one (Refused refusal.JournalEnd) seen ds h = h
-plain_one (Refused (refusal.Node bucket why)) seen ds h = h
 plain_one a seen ds h = tt
+
+-- one over the backing device alone says nothing of nodes
+no_node : (a : Answer) (seen : List Event) (ds : _) → Rattle.bc_serve.specs.Causes.IsCaused a seen ds
+    → says_node a ≡ false
+no_node (Refused (refusal.Node bucket why)) seen ds h = absurd h
+no_node (Refused (refusal.NoBucket purpose none_len own_len)) seen ds h = absurd h
+no_node (Refused refusal.JournalEnd) seen ds h = absurd h
+no_node (Refused refusal.OutOfRange) seen ds h = refl
+no_node (Refused (refusal.Fault d)) seen ds h = refl
+no_node (Refused (refusal.Halted d)) seen ds h = refl
+no_node (Refused refusal.Memory) seen ds h = refl
+no_node Silent seen ds h = refl
+no_node Done seen ds h = refl
+no_node (Runs at values) seen ds h = refl
+
+pub no_nodes : (size i number : ℕ) (ls : List Line) (answers : List Answer) (before last : List Event)
+    → AreServedBy size i number ls answers before last → list_any says_node answers ≡ false
+no_nodes size i number [] [] before last served = refl
+no_nodes size i number [] (a ∷ others) before last served = absurd served
+no_nodes size i number (l ∷ ls) [] before last served = absurd served
+no_nodes size i number (l ∷ ls) (a ∷ others) before last served =
+    both_false (says_node a) (list_any says_node others)
+    (no_node a (before ++ served.0) served.1 served.2.caused)
+    (no_nodes size i (suc number) ls others (before ++ served.0) last served.3)
+  where
+    both_false : (a b : Bool) → a ≡ false → b ≡ false → (a || b) ≡ false
+    both_false true b one two = absurd (cc)
+    both_false false b one two = two
 
 pub all_plain : (size i number : ℕ) (ls : List Line) (answers : List Answer) (before last : List Event)
     → AreServedBy size i number ls answers before last → ArePlain answers
@@ -111,43 +164,43 @@ all_plain size i number (l ∷ ls) (a ∷ others) before last served = (
   all_plain size i (suc number) ls others (before ++ served.0) last served.3,
 )
 
--- a request that says neither fault nor memory was answered others it should be
+-- a request that says neither fault nor memory nor node was answered as it should be
 asked : (size worker number : ℕ) (action : Action) (answer : Answer) (own : List Entry)
-    → ServesAction size worker number action answer own → IsPlain answer → says_fault answer ≡ false → says_memory answer ≡ false → IsAsked size action answer
-asked size worker number (ForcedWrite first count stamp) Silent own serves why f m = absurd serves
-asked size worker number (ForcedWrite first count stamp) Done own serves why f m = inl (serves.0, refl)
-asked size worker number (ForcedWrite first count stamp) (Runs at values) own serves why f m = absurd serves
-asked size worker number (ForcedWrite first count stamp) (Refused refusal.OutOfRange) own serves why f m =
+    → ServesAction size worker number action answer own → IsPlain answer → says_fault answer ≡ false → says_memory answer ≡ false → says_node answer ≡ false → IsAsked size action answer
+asked size worker number (ForcedWrite first count stamp) Silent own serves why f m n = absurd serves
+asked size worker number (ForcedWrite first count stamp) Done own serves why f m n = inl (serves.0, refl)
+asked size worker number (ForcedWrite first count stamp) (Runs at values) own serves why f m n = absurd serves
+asked size worker number (ForcedWrite first count stamp) (Refused refusal.OutOfRange) own serves why f m n =
     inr (serves.0, refl)
-asked size worker number (Write first count stamp) Silent own serves why f m = absurd serves
-asked size worker number (Write first count stamp) Done own serves why f m = inl (serves.0, refl)
-asked size worker number (Write first count stamp) (Runs at values) own serves why f m = absurd serves
-asked size worker number (Write first count stamp) (Refused refusal.OutOfRange) own serves why f m = inr (serves.0, refl)
-asked size worker number (Read first count) Silent own serves why f m = absurd serves
-asked size worker number (Read first count) Done own serves why f m = absurd serves
-asked size worker number (Read first count) (Runs at values) own serves why f m = inl (serves.0, (values, ap (λ n. Runs n values) serves.1))
-asked size worker number (Read first count) (Refused refusal.OutOfRange) own serves why f m = inr (serves.0, refl)
-asked size worker number Flush Silent own serves why f m = absurd serves
-asked size worker number Flush Done own serves why f m = refl
-asked size worker number Flush (Runs at values) own serves why f m = absurd serves
-asked size worker number Flush (Refused refusal.OutOfRange) own serves why f m = absurd serves
-asked size worker number (Round round) Silent own serves why f m = absurd serves
-asked size worker number (Round round) Done own serves why f m = refl
-asked size worker number (Round round) (Runs at values) own serves why f m = absurd serves
-asked size worker number (Round round) (Refused refusal.OutOfRange) own serves why f m = absurd (serves.1 tt)
-asked size worker number action (Refused (refusal.NoBucket purpose none_len own_len)) own serves why f m = absurd why
-asked size worker number action (Refused refusal.JournalEnd) own serves why f m = absurd why
-asked size worker number action (Refused (refusal.Node bucket number')) own serves why f m = absurd why
-asked size worker number action (Refused (refusal.Fault d)) own serves why f m = absurd (cc)
-asked size worker number action (Refused (refusal.Halted d)) own serves why f m = absurd (cc)
-asked size worker number action (Refused refusal.Memory) own serves why f m = absurd (cc)
+asked size worker number (Write first count stamp) Silent own serves why f m n = absurd serves
+asked size worker number (Write first count stamp) Done own serves why f m n = inl (serves.0, refl)
+asked size worker number (Write first count stamp) (Runs at values) own serves why f m n = absurd serves
+asked size worker number (Write first count stamp) (Refused refusal.OutOfRange) own serves why f m n = inr (serves.0, refl)
+asked size worker number (Read first count) Silent own serves why f m n = absurd serves
+asked size worker number (Read first count) Done own serves why f m n = absurd serves
+asked size worker number (Read first count) (Runs at values) own serves why f m n = inl (serves.0, (values, ap (λ k. Runs k values) serves.1))
+asked size worker number (Read first count) (Refused refusal.OutOfRange) own serves why f m n = inr (serves.0, refl)
+asked size worker number Flush Silent own serves why f m n = absurd serves
+asked size worker number Flush Done own serves why f m n = refl
+asked size worker number Flush (Runs at values) own serves why f m n = absurd serves
+asked size worker number Flush (Refused refusal.OutOfRange) own serves why f m n = absurd serves
+asked size worker number (Round round) Silent own serves why f m n = absurd serves
+asked size worker number (Round round) Done own serves why f m n = refl
+asked size worker number (Round round) (Runs at values) own serves why f m n = absurd serves
+asked size worker number (Round round) (Refused refusal.OutOfRange) own serves why f m n = absurd (serves.1 tt)
+asked size worker number action (Refused (refusal.NoBucket purpose none_len own_len)) own serves why f m n = absurd why
+asked size worker number action (Refused refusal.JournalEnd) own serves why f m n = absurd why
+asked size worker number action (Refused (refusal.Node bucket number')) own serves why f m n = absurd (cc)
+asked size worker number action (Refused (refusal.Fault d)) own serves why f m n = absurd (cc)
+asked size worker number action (Refused (refusal.Halted d)) own serves why f m n = absurd (cc)
+asked size worker number action (Refused refusal.Memory) own serves why f m n = absurd (cc)
 
 -- so was a line
 answered : (size number : ℕ) (l : Line) (answer : Answer) (own : List Entry)
-    → ServesLine size number l answer own → IsPlain answer → says_fault answer ≡ false → says_memory answer ≡ false → IsAnswered size l answer
-answered size number line.Silent answer own serves why f m = serves.0
-answered size number (line.Request worker phase action) answer own serves why f m =
-    asked size worker number action answer own serves why f m
+    → ServesLine size number l answer own → IsPlain answer → says_fault answer ≡ false → says_memory answer ≡ false → says_node answer ≡ false → IsAnswered size l answer
+answered size number line.Silent answer own serves why f m n = serves.0
+answered size number (line.Request worker phase action) answer own serves why f m n =
+    asked size worker number action answer own serves why f m n
 
 neither : (a b : Bool) → (a || b) ≡ false → (a ≡ false) × (b ≡ false)
 neither true b is = absurd (cc)
@@ -156,15 +209,16 @@ neither false b is = (refl, is)
 all_answered : (size number : ℕ) (lines : List Line) (answers : List Answer) (history : List Entry)
     → ServedFrom size number lines answers history → ArePlain answers
     → list_any says_fault answers ≡ false → list_any says_memory answers ≡ false
-    → AllAnswered size lines answers
-all_answered size number [] [] history served why f m = tt
-all_answered size number [] (a ∷ others) history served why f m = absurd served
-all_answered size number (l ∷ ls) [] history served why f m = absurd served
-all_answered size number (l ∷ ls) (a ∷ others) history served why f m =
+    → list_any says_node answers ≡ false → AllAnswered size lines answers
+all_answered size number [] [] history served why f m n = tt
+all_answered size number [] (a ∷ others) history served why f m n = absurd served
+all_answered size number (l ∷ ls) [] history served why f m n = absurd served
+all_answered size number (l ∷ ls) (a ∷ others) history served why f m n =
     let fs = neither (says_fault a) (list_any says_fault others) f in
-    let ms = neither (says_memory a) (list_any says_memory others) m in (
-      answered size number l a served.0 served.3 why.0 fs.0 ms.0,
-      all_answered size (suc number) ls others served.1 served.4 why.1 fs.1 ms.1,
+    let ms = neither (says_memory a) (list_any says_memory others) m in
+    let ns = neither (says_node a) (list_any says_node others) n in (
+      answered size number l a served.0 served.3 why.0 fs.0 ms.0 ns.0,
+      all_answered size (suc number) ls others served.1 served.4 why.1 fs.1 ms.1 ns.1,
     )
 
 pub of_lines : {C B : Type 0} (cache_facts : C → DiskFacts) (backing_facts : B → DiskFacts)
@@ -221,70 +275,118 @@ are_put printed answers old new = by printed.put
     by (Ok u) ok err = ok
     by (Err cause) ok err = err
 
-at_refusal : (P : Status → Type 0) (n : Status) → IsRefusal n → P statuses.Usage → P statuses.Trace → P statuses.Superblock → P statuses.Image → P n
-at_refusal P n (inl is) usage trace super image = subst P (sym is) usage
-at_refusal P n (inr (inl is)) usage trace super image = subst P (sym is) trace
-at_refusal P n (inr (inr (inl is))) usage trace super image = subst P (sym is) super
-at_refusal P n (inr (inr (inr is))) usage trace super image = subst P (sym is) image
+apart : {A B C D E : Type 0} → (A → ⊥) → (B → ⊥) → (C → ⊥) → (D → ⊥) → (E → ⊥)
+    → A ⊎ B ⊎ C ⊎ D ⊎ E → ⊥
+apart a b c d e (inl x) = a x
+apart a b c d e (inr (inl x)) = b x
+apart a b c d e (inr (inr (inl x))) = c x
+apart a b c d e (inr (inr (inr (inl x)))) = d x
+apart a b c d e (inr (inr (inr (inr x)))) = e x
 
-apart : {A B C D : Type 0} → (A → ⊥) → (B → ⊥) → (C → ⊥) → (D → ⊥) → A ⊎ B ⊎ C ⊎ D → ⊥
-apart a b c d (inl x) = a x
-apart a b c d (inr (inl x)) = b x
-apart a b c d (inr (inr (inl x))) = c x
-apart a b c d (inr (inr (inr x))) = d x
+none_stopped : (stopped : Option ℕ) → is_some stopped ≡ false → stopped ≡ None
+none_stopped None is = refl
+none_stopped (Some line) is = absurd (cc)
 
-none_refused : (n : Status) → IsRefusal n → IsEndStatus n → ⊥
-none_refused n refused = at_refusal (λ m. IsEndStatus m → ⊥) n refused
-    (apart (λ is. cc) (λ is. cc) (λ is. cc) (λ is. cc)) (apart (λ is. cc) (λ is. cc) (λ is. cc) (λ is. cc))
-    (apart (λ is. cc) (λ is. cc) (λ is. cc) (λ is. cc)) (apart (λ is. cc) (λ is. cc) (λ is. cc) (λ is. cc))
+module _ (status : Status) (answers : List Answer) (stopped : Option ℕ) (how : Closing)
+    (old new : StreamFacts) (end : IsEnd status answers stopped how old new) where
+  abbrev fault : Bool
+  fault = list_any says_fault answers
 
-module _ (status : Status) (answers : List Answer) (how : Closing) (old new : StreamFacts) (end : IsEnd status answers how old new) where
+  abbrev unsound : Bool
+  unsound = list_any says_node answers || is_some stopped
+
+  abbrev memory : Bool
+  memory = list_any says_memory answers || end.printed.memory_missed
+
+  abbrev cut : Bool
+  cut = is_err end.printed.put
+
   pub known : IsEndStatus status
-  known = subst IsEndStatus (sym end.ends) (end_status (list_any says_fault answers) how (list_any says_memory answers || end.printed.memory_missed) (is_err end.printed.put))
+  known = subst IsEndStatus (sym end.ends) (end_status fault how unsound memory cut)
 
-  -- it isn't a refusal of what was handed in, nor a failed source
-  pub ended_otherwise : IsRefusal status → ⊥
-  ended_otherwise refused = none_refused status refused known
+  -- it isn't a refusal of the words, nor a failed source
+  pub never_usage : status ≡ statuses.Usage → ⊥
+  never_usage is = apart (λ e. let no : statuses.Done ≡ statuses.Usage = sym e ∙ is in cc)
+      (λ e. let no : statuses.Device ≡ statuses.Usage = sym e ∙ is in cc)
+      (λ e. let no : statuses.Sink ≡ statuses.Usage = sym e ∙ is in cc)
+      (λ e. let no : statuses.Memory ≡ statuses.Usage = sym e ∙ is in cc)
+      (λ e. let no : statuses.Image ≡ statuses.Usage = sym e ∙ is in cc) known
 
   pub never_source : status ≡ statuses.Source → ⊥
   never_source is = apart (λ e. let no : statuses.Done ≡ statuses.Source = sym e ∙ is in cc)
       (λ e. let no : statuses.Device ≡ statuses.Source = sym e ∙ is in cc)
       (λ e. let no : statuses.Sink ≡ statuses.Source = sym e ∙ is in cc)
-      (λ e. let no : statuses.Memory ≡ statuses.Source = sym e ∙ is in cc) known
+      (λ e. let no : statuses.Memory ≡ statuses.Source = sym e ∙ is in cc)
+      (λ e. let no : statuses.Image ≡ statuses.Source = sym e ∙ is in cc) known
 
   pub sink_stopped : status ≡ statuses.Sink → HasStopped old new
-  sink_stopped is = stops end.printed end.printed.put answers old end.between new _ end.lines end.message (eight _ how _ _ (sym end.ends ∙ is))
+  sink_stopped is = stops end.printed end.printed.put answers old end.between new _ end.lines end.message
+      (eight fault how unsound memory cut (sym end.ends ∙ is))
 
-  -- with neither a failed device nor a sink that stopped, all was done or memory was missed
-  pub only_done : (status ≡ statuses.Device → ⊥) → (HasStopped old new → ⊥) → (status ≡ statuses.Done) ⊎ (status ≡ statuses.Memory)
-  only_done device takes = left known
+  -- with neither a failed device nor a sink that stopped, and of a sound index, all was done or
+  -- memory was missed
+  pub only_done : (status ≡ statuses.Device → ⊥) → (HasStopped old new → ⊥)
+      → (list_any says_node answers || is_some stopped) ≡ false
+      → (status ≡ statuses.Done) ⊎ (status ≡ statuses.Memory)
+  only_done device takes sound = left known
     where
       left : IsEndStatus status → (status ≡ statuses.Done) ⊎ (status ≡ statuses.Memory)
       left (inl zero) = inl zero
       left (inr (inl six)) = absurd (device six)
       left (inr (inr (inl eight))) = absurd (takes (sink_stopped eight))
-      left (inr (inr (inr nine))) = inr nine
+      left (inr (inr (inr (inl nine)))) = inr nine
+      left (inr (inr (inr (inr is)))) = absurd (let said : unsound ≡ true =
+          five fault how unsound memory cut (sym end.ends ∙ is) in
+          let no : true ≡ false = sym said ∙ sound in cc)
 
-  pub done : (size : ℕ) (lines : List Line) (history : List Entry) → All IsLine lines → ArePlain answers → Served size lines answers history → status ≡ statuses.Done → IsDone size lines answers old new
+  -- at status `Done` nothing of that was said
+  pub all_told : status ≡ statuses.Done
+      → (fault ≡ false) × (how ≡ closing.Done) × (memory ≡ false) × (cut ≡ false) × (unsound ≡ false)
+  all_told is = none fault how unsound memory cut (sym end.ends ∙ is)
+
+  pub not_stopped : status ≡ statuses.Done → stopped ≡ None
+  not_stopped is = none_stopped stopped
+      (neither (list_any says_node answers) (is_some stopped) (all_told is).4).1
+
+  pub done : (size : ℕ) (lines : List Line) (history : List Entry) → All IsLine lines
+      → ArePlain answers → Served size lines answers history → status ≡ statuses.Done
+      → IsDone size lines answers old new
   done size lines history are why served is =
-      let ends = none (list_any says_fault answers) how (list_any says_memory answers || end.printed.memory_missed) (is_err end.printed.put) (sym end.ends ∙ is) in
+      let ends = all_told is in
       let found = neither (list_any says_memory answers) end.printed.memory_missed ends.2 in
-      let no_message : message_of_end (list_any says_fault answers) how (list_any says_memory answers || end.printed.memory_missed) ≡ None = ap (λ (h : Closing). message_of_end (list_any says_fault answers) h (list_any says_memory answers || end.printed.memory_missed)) ends.1 in
-      let text = whole end.printed end.printed.put answers old end.between new found.1 end.lines (subst (λ (m : Option Message). IsPutBehind end.printed.put m end.between new) no_message end.message) ends.3 in
-      record { answered = all_answered size 1 lines answers history (one_by_one size 1 lines answers history (of_first lines are) served) why ends.0 found.0; text = text.0; are_lines = text.1; taken = text.2 }
+      let node = neither (list_any says_node answers) (is_some stopped) ends.4 in
+      let told : Bool = list_any says_node answers || memory in
+      let no_message : message_of_end stopped fault how told ≡ None =
+      ap (λ (o : Option ℕ). message_of_end o fault how told) (not_stopped is)
+      ∙ ap (λ (h : Closing). message_of_closing fault h told) ends.1 in
+      let text = whole end.printed end.printed.put answers old end.between new found.1 end.lines
+      (subst (λ (m : Option Message). IsPutBehind end.printed.put m end.between new) no_message
+      end.message) ends.3 in
+      record {
+        answered = all_answered size 1 lines answers history
+            (one_by_one size 1 lines answers history (of_first lines are) served) why ends.0 found.0
+            node.0;
+        text = text.0;
+        are_lines = text.1;
+        taken = text.2;
+      }
 
   pub closed_whole : status ≡ statuses.Done → how ≡ closing.Done
-  closed_whole is = (none _ how _ _ (sym end.ends ∙ is)).1
+  closed_whole is = (all_told is).1
+
+  -- a line said fault, or the closing did
+  pub failed_by : status ≡ statuses.Device → (fault ≡ true) ⊎ (has_failed how ≡ true)
+  failed_by is = six fault how unsound memory cut (sym end.ends ∙ is)
 
   -- the device failed in this run
   pub device_failed : {C B : Type 0} (cache_facts : C → DiskFacts) (backing_facts : B → DiskFacts)
       (backing left : BackingPart B) (lines : List Line) (events : List Event) (pass : Pass)
-      → HasRun cache_facts backing_facts backing left lines answers how events pass → status ≡ statuses.Device
+      → HasRun cache_facts backing_facts backing left lines answers how events pass
+      → status ≡ statuses.Device
       → HasRisen (backing_facts backing.disk).faults (backing_facts left.disk).faults
   device_failed cache_facts backing_facts backing left lines events pass run is =
       run_rises cache_facts backing_facts backing left lines answers how events pass run
-      (failed (six (list_any says_fault answers) how (list_any says_memory answers || end.printed.memory_missed)
-      (is_err end.printed.put) (sym end.ends ∙ is)))
+      (failed (failed_by is))
     where
       failed : (list_any says_fault answers ≡ true) ⊎ (has_failed how ≡ true) → failed_in events ≡ true
       failed (inl said) = subst (λ (es : List Event). failed_in es ≡ true) (sym run.closing)

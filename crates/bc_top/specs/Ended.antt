@@ -1,5 +1,5 @@
 -- How a run ends: its status, and what is put to the sink.
-use Rattle.std.specs.Prelude.{◌≡◌, ◌⊎◌, ℕ, ◌+◌, Bool, true, false, ◌||◌, List, Option, Some, None, Result, Ok, Err, MatchResult, if◌then◌else◌}
+use Rattle.std.specs.Prelude.{◌≡◌, ◌⊎◌, ℕ, ◌+◌, Bool, true, false, ◌||◌, List, Option, Some, None, Result, Ok, Err, MatchResult, is_some, if◌then◌else◌}
 use Rattle.std.specs.List.{list_any}
 use Rattle.std.specs.Result.{is_err}
 use Rattle.bc_disk.specs.Device.{HasRisen}
@@ -49,6 +49,19 @@ says_memory (Refused (Fault device)) = false
 says_memory (Refused (Halted device)) = false
 says_memory (Refused Memory) = true
 
+-- an answer says that a node is damaged
+abbrev pub says_node : Answer → Bool
+says_node Silent = false
+says_node Done = false
+says_node (Runs at values) = false
+says_node (Refused OutOfRange) = false
+says_node (Refused (NoBucket purpose none_len own_len)) = false
+says_node (Refused JournalEnd) = false
+says_node (Refused (Node bucket why)) = true
+says_node (Refused (Fault device)) = false
+says_node (Refused (Halted device)) = false
+says_node (Refused Memory) = false
+
 -- the closing failed or a halt forbade it, or there was no memory for it
 abbrev pub has_failed : Closing → Bool
 has_failed closing.Done = false
@@ -62,21 +75,29 @@ lacked_memory (closing.Failed device) = false
 lacked_memory (closing.Halted device) = false
 lacked_memory closing.Memory = true
 
--- the status, by whether a line says fault, how the run was closed, whether memory was missed for a
--- line, and whether the putting of the lines was cut short
-abbrev pub status_of_end : Bool → Closing → Bool → Bool → Status
-status_of_end fault how memory cut = if fault || has_failed how then statuses.Device
+-- the status, by whether a line says fault, how the run was closed, whether a line says node or the
+-- run stopped at one, whether memory was missed for a line, and whether the putting of the lines
+-- was cut short
+abbrev pub status_of_end : Bool → Closing → Bool → Bool → Bool → Status
+status_of_end fault how unsound memory cut = if fault || has_failed how then statuses.Device
+    else if unsound then statuses.Image
     else if memory || lacked_memory how then statuses.Memory
     else if cut then statuses.Sink else statuses.Done
 
--- the message, where no line says why the status isn't 0
-abbrev pub message_of_end : Bool → Closing → Bool → Option Message
-message_of_end fault closing.Done memory = None
-message_of_end fault (closing.Failed device) memory =
+-- the message of a closing, where no line says why the status isn't 0
+abbrev pub message_of_closing : Bool → Closing → Bool → Option Message
+message_of_closing fault closing.Done told = None
+message_of_closing fault (closing.Failed device) told =
     if fault then None else Some (message.Fault (origin.Disk device))
-message_of_end fault (closing.Halted device) memory =
+message_of_closing fault (closing.Halted device) told =
     if fault then None else Some (message.Fault (origin.Disk device))
-message_of_end fault closing.Memory memory = if fault || memory then None else Some message.Memory
+message_of_closing fault closing.Memory told =
+    if fault || told then None else Some message.Memory
+
+-- the message: where the run stopped at a line, which that is
+abbrev pub message_of_end : Option ℕ → Bool → Closing → Bool → Option Message
+message_of_end None fault how told = message_of_closing fault how told
+message_of_end (Some line) fault how told = Some (message.Unsound line)
 
 -- of a text that was put the sink took all, or less where a put failed or took nothing
 abbrev pub IsPutOf : List ℕ → StreamFacts → StreamFacts → Type 0
@@ -95,18 +116,20 @@ IsPutBehind (Ok _) None old new = new ≡ old
 IsPutBehind (Ok _) (Some m) old new = IsPutOf (message_text m) old new
 IsPutBehind (Err cause) m old new = new ≡ old
 
--- The run whose lines have these answers, closed so, ends with this status, and the sink has taken
--- what belongs to it.
-pub record IsEnd (status : Status) (answers : List Answer) (how : Closing) (old new : StreamFacts)
-    : Type 0 where
+-- The run whose lines have these answers, which stopped at the line of this number or at none, and
+-- which was closed so, ends with this status, and the sink has taken what belongs to it.
+pub record IsEnd (status : Status) (answers : List Answer) (stopped : Option ℕ) (how : Closing)
+    (old new : StreamFacts) : Type 0 where
   -- how the lines were put, and the sink behind them
   pub printed : Printed
   pub between : StreamFacts
   pub lines : ArePut printed answers old between
   pub ends : status ≡ status_of_end (list_any says_fault answers) how
+      (list_any says_node answers || is_some stopped)
       (list_any says_memory answers || printed.memory_missed) (is_err printed.put)
-  pub message : IsPutBehind printed.put (message_of_end (list_any says_fault answers) how
-      (list_any says_memory answers || printed.memory_missed)) between new
+  pub message : IsPutBehind printed.put (message_of_end stopped (list_any says_fault answers) how
+      (list_any says_node answers || (list_any says_memory answers || printed.memory_missed)))
+      between new
 
 -- every line was answered as it should be, and the sink has taken the lines of the answers
 pub record IsDone (size : ℕ) (lines : List Line) (answers : List Answer) (old new : StreamFacts)

@@ -47,15 +47,19 @@ left_with error cache backing =
 
 module _ {C B : Type 0} (cache_facts : C → DiskFacts) (facts : B → DiskFacts) (b : BackingSuper)
     (s : Survey) (cache cache' : C) (backing backing' : B) where
-  -- it was opened and closed, and nothing was put; or this is why not, and the message was put
+  -- this is why it wasn't opened and closed, and the message was put
+  abbrev pub EndsUnopened : Status → StreamFacts → StreamFacts → Type 0
+  EndsUnopened status old new = (error : OpenError)
+      × IsIdleStop cache_facts facts s cache backing (left_with error cache' backing') error
+      × (status ≡ status_of (open_stop error))
+      × IsPutOf (message_text (message_of (open_stop error))) old new
+
+  -- it was opened and closed, and nothing was put; or this is why not
   abbrev pub EndsOpening : Status → StreamFacts → StreamFacts → Type 0
   EndsOpening status old new =
       ((status ≡ statuses.Done) × (new ≡ old)
       × HasIdled cache_facts s b cache cache' (facts backing) (facts backing'))
-      ⊎ ((error : OpenError)
-      × IsIdleStop cache_facts facts s cache backing (left_with error cache' backing') error
-      × (status ≡ status_of (open_stop error))
-      × IsPutOf (message_text (message_of (open_stop error))) old new)
+      ⊎ EndsUnopened status old new
 
 -- The trace was read and asks for nothing, the pair was tested, and then it was opened and closed,
 -- or not. Whatever a crash leaves is a sound pair that shows what the pair showed, where that was

@@ -5,5 +5,6 @@ pub mod Stops
 pub mod Pairs
 pub mod Top
 pub mod Idle
+pub mod Cached
 pub mod Ready
 pub mod Call

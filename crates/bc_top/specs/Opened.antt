@@ -132,8 +132,8 @@ module _ (cache cache' backing backing' : DiskFacts) where
       × IsLoneCause error backing backing' × (cache'.calls ≡ cache.calls))
       ⊎ (AsksForCache backing × IsPairStop why)
 
--- what a pair with a cache is answered: its first refusal, or, where it has none, that its cache
--- isn't served yet
+-- what a pair with a cache is answered where it isn't served: its first refusal, or, where it has
+-- none, that what is asked isn't served yet
 abbrev pub IsAnswerTo : Pair → Stop → Type 0
 IsAnswerTo p why = ((error : OpenError) × IsFirst p error × (why ≡ open_stop error))
     ⊎ (((error : OpenError) → IsFirst p error → ⊥) × (why ≡ stop.Unserved))

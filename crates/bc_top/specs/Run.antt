@@ -1,5 +1,5 @@
 -- What a call that served a trace promises.
-use Rattle.std.specs.Prelude.{◌≡◌, List}
+use Rattle.std.specs.Prelude.{◌≡◌, List, None}
 use Rattle.bc_book.specs.declared.pass.Pass.{Pass}
 use Rattle.bc_disk.specs.Disk.{DiskFacts, IfTold}
 use Rattle.bc_disk.specs.Stream.{StreamFacts}
@@ -66,7 +66,7 @@ pub record HasServed {C B : Type 0} (cache_facts : C → DiskFacts) (backing_fac
   pub whole : IsWhole source source' lines
   pub run : HasRun cache_facts backing_facts opened left lines answers how events pass
   pub left_is : left.disk ≡ backing'
-  pub ends : IsEnd status answers how old new
+  pub ends : IsEnd status answers None how old new
   pub done : status ≡ statuses.Done → IsDone opened.size lines answers old new
   pub expected : AreExpected super.data_offset opened.size lines answers (backing_facts backing)
   pub survives : HasSurvived (backing_facts backing) (backing_facts backing') pass

@@ -1,6 +1,7 @@
 -- The words of a command, and why a trace isn't served.
 use Rattle.std.specs.Prelude.{◌≡◌, ◌≢◌, ◌⊎◌, ℕ, All, Any, Bool, List, Some, map, string_bytes, String}
 use Rattle.std.specs.declared.alloc.Global.{Global}
+use Rattle.bc_cached_serve.specs.Answered.{AsksToRead}
 use Rattle.bc_disk.specs.Device.{HasRisen}
 use Rattle.bc_disk.specs.Disk.{DiskFacts}
 use Rattle.bc_disk.specs.Stream.{StreamFacts}
@@ -95,6 +96,14 @@ AskSomething lines = Any (λ l. l ≢ line.Silent) lines
 abbrev pub AskNothing : List Line → Type 0
 AskNothing lines = All (λ l. l ≡ line.Silent) lines
 
+-- lines of which some asks for something, and none for anything but to read; and lines of which
+-- some asks for more
+abbrev pub AskReads : List Line → Type 0
+AskReads lines = AskSomething lines × All AsksToRead lines
+
+abbrev pub AskMore : List Line → Type 0
+AskMore lines = All AsksToRead lines → ⊥
+
 -- the whole trace was read before; its lines are such
 abbrev pub WasReadAs : (List Line → Type 0) → StreamFacts → StreamFacts → Type 0
 WasReadAs P source left = (lines : List Line) × IsTrace lines × IsWhole source left lines × P lines
@@ -121,7 +130,7 @@ IsServeCause stop.Memory source left cache cache' backing backing' =
     ⊎ (WasRead source left × (LacksRun cache cache' backing backing'
     ⊎ IsOpeningCause cache cache' backing backing' stop.Memory))
 IsServeCause stop.Unserved source left cache cache' backing backing' =
-    WasReadAs AskSomething source left × IsOpeningCause cache cache' backing backing' stop.Unserved
+    WasReadAs AskMore source left × IsOpeningCause cache cache' backing backing' stop.Unserved
 IsServeCause why source left cache cache' backing backing' =
     WasRead source left × IsOpeningCause cache cache' backing backing' why
 
@@ -134,23 +143,35 @@ OneHasRisen cache cache' backing backing' =
 abbrev pub NeedsFirst : Pair → Type 0
 NeedsFirst p = (v : View) × IsView p v × (v.reading.newest.item.last_seq ≡ 0)
 
+-- no reader refuses it
+abbrev pub HasNoRefusal : Pair → Type 0
+HasNoRefusal p = (error : OpenError) → IsFirst p error → ⊥
+
 -- A pair that nothing refuses was opened and closed, and nothing was printed.
 abbrev pub EndsIdle : Pair → Status → StreamFacts → StreamFacts → Type 0
-EndsIdle p status old new = ((error : OpenError) → IsFirst p error → ⊥)
+EndsIdle p status old new = HasNoRefusal p
     × (((status ≡ statuses.Done) × (new ≡ old)) ⊎ ((status ≡ statuses.Image) × NeedsFirst p))
 
+-- One of which something is to be read: a run began, or its newest entry is such.
+abbrev pub EndsReading : Pair → (begun : Type 0) → Status → Type 0
+EndsReading p begun status =
+    HasNoRefusal p × (begun ⊎ ((status ≡ statuses.Image) × NeedsFirst p))
+
 -- So it ended, or there was no memory.
-abbrev pub EndsAnswering : Pair → List Line → Status → StreamFacts → StreamFacts → Type 0
-EndsAnswering p lines status old new = (status ≡ statuses.Memory)
-    ⊎ ((why : Stop) × IsAnswerTo p why × (why ≡ stop.Unserved → AskSomething lines)
+abbrev pub EndsAnswering : Pair → List Line → (begun : Type 0) → Status → StreamFacts → StreamFacts
+    → Type 0
+EndsAnswering p lines begun status old new = (status ≡ statuses.Memory)
+    ⊎ ((why : Stop) × IsAnswerTo p why × (why ≡ stop.Unserved → AskMore lines)
     × (status ≡ status_of why) × IsPutOf (message_text (message_of why)) old new)
     ⊎ (AskNothing lines × EndsIdle p status old new)
+    ⊎ (AskReads lines × EndsReading p begun status)
 
 -- Where the source tells a trace and no call of the source or of a device fails, the pair that both
 -- devices hold is so answered, if it isn't served by the backing device alone.
 abbrev pub AnswersPair : StreamFacts → StreamFacts → DiskFacts → DiskFacts → DiskFacts → DiskFacts
-    → Status → StreamFacts → StreamFacts → Type 0
-AnswersPair source left cache cache' backing backing' status old new =
+    → (begun : Type 0) → Status → StreamFacts → StreamFacts → Type 0
+AnswersPair source left cache cache' backing backing' begun status old new =
     (spelled : SpellsTrace source)
     → (HasRisen source.faults left.faults → ⊥) → (OneHasRisen cache cache' backing backing' → ⊥)
-    → OfHeld (λ p. (ServesAlone p → ⊥) → EndsAnswering p spelled.2.0 status old new) cache backing
+    → OfHeld (λ p. (ServesAlone p → ⊥) → EndsAnswering p spelled.2.0 begun status old new) cache
+    backing

@@ -1,6 +1,7 @@
 //! The whole way from a trace to its answers.
 #![tactic(auto)]
 
+mod cached;
 mod ending;
 pub mod exit;
 pub mod laws;

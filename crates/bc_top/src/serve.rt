@@ -1,6 +1,7 @@
 //! The command that serves a trace.
-ghost use Rattle.std.specs.Prelude.{◌≡◌, ◌*◌, ◌≤◌, false, true, IfOk, IfErr};
+ghost use Rattle.std.specs.Prelude.{◌≡◌, ◌*◌, ◌≤◌, false, true, All, IfOk, IfErr};
 ghost use Rattle.std.specs.Bool.{MatchBool};
+ghost use Rattle.bc_cached_serve.specs.Answered.{AsksToRead};
 ghost use Rattle.bc_script.specs.Trace.{IsTrace, IsWhole};
 ghost use Rattle.bc_open.specs.Left.{LeavesThePair};
 ghost use Rattle.bc_recover.specs.Read.{HasParts, IsReadOf};
@@ -12,10 +13,12 @@ ghost use Rattle.bc_top.specs.Ready.{IsCached, IsReady};
 ghost use Rattle.bc_top.specs.Call.{HasCause, ServesOver};
 ghost use Rattle.bc_top.specs.Top.{AreSame, AskNothing, AskSomething, IsServeCause};
 
+use crate::cached::{PARTS, serve_reads};
 use crate::ending::report;
 use crate::exit::Exit;
 use crate::opening::{open_backing, test_pair};
 use crate::stop::{Stop, tell};
+use bc_cached_serve::asked::ask_to_read;
 use bc_disk::disk::Disk;
 use bc_disk::stream::{Sink, Source};
 use bc_machine::part::BackingPart;
@@ -29,9 +32,6 @@ use bc_super::backing::BackingSuper;
 use bc_worker::gate::NoGate;
 use std::alloc::Global;
 use std::sync::Wait;
-
-// How many parts the leaves of a pair are kept in of which nothing is asked: there is one seat.
-const PARTS: u32 = 1;
 
 // What stands ready of a pair.
 #[derive(Drop)]
@@ -63,17 +63,17 @@ fn ask_something(lines: &[Line]) -> bool
 }
 
 // Opens the pair for a run over the backing device alone, or tests it for an opening. A pair with a
-// cache of which something is asked isn't served yet.
+// cache of which more is asked than to read isn't served yet.
 fn open<C: Disk, B: Disk>(
     alloc: Global,
     cache: &mut C,
     backing: &mut B,
-    asked: bool,
+    more: bool,
 ) -> Result<Opening, Stop>
     ensures ready { IfOk result (IsReady C.facts B.facts cache.old cache.new
         backing.old backing.new) }
-    ensures idle { IfOk result (λ o. IsCached o → asked ≡ false) }
-    ensures unserved { IfErr result (λ stop. stop ≡ Stop.Unserved → asked ≡ true) }
+    ensures served { IfOk result (λ o. IsCached o → more ≡ false) }
+    ensures unserved { IfErr result (λ stop. stop ≡ Stop.Unserved → more ≡ true) }
     ensures cause { IfErr result (IsOpeningCause (C.facts cache.old) (C.facts cache.new)
         (B.facts backing.old) (B.facts backing.new)) }
     ensures same { AreSame (C.facts cache.old) (C.facts cache.new) (B.facts backing.old)
@@ -84,7 +84,7 @@ fn open<C: Disk, B: Disk>(
         return Ok(Opening::Alone(superblock));
     }
     let survey = test_pair(alloc, cache, backing)?;
-    if asked {
+    if more {
         return Err(Stop::Unserved);
     }
     Ok(Opening::Cached(superblock, survey))
@@ -101,7 +101,7 @@ fn prepare<C: Disk, B: Disk, S: Source>(
         × IsWhole (S.facts trace.old) (S.facts trace.new) p.lines.items) }
     ensures ready { IfOk result (λ p. IsReady C.facts B.facts cache.old cache.new
         backing.old backing.new p.opening) }
-    ensures idle { IfOk result (λ p. IsCached p.opening → AskNothing p.lines.items) }
+    ensures reads { IfOk result (λ p. IsCached p.opening → All AsksToRead p.lines.items) }
     ensures cause { IfErr result (λ stop. IsServeCause stop (S.facts trace.old) (S.facts trace.new)
         (C.facts cache.old) (C.facts cache.new) (B.facts backing.old) (B.facts backing.new)) }
     ensures same { AreSame (C.facts cache.old) (C.facts cache.new) (B.facts backing.old)
@@ -109,8 +109,8 @@ fn prepare<C: Disk, B: Disk, S: Source>(
 {
     let script = read_trace(alloc, trace)?;
     let lines = script.into_lines();
-    let asked = ask_something(&lines);
-    let opening = open(alloc, cache, backing, asked)?;
+    let reads = ask_to_read(&lines);
+    let opening = open(alloc, cache, backing, !reads)?;
     Ok(Prepared { lines, opening })
 }
 
@@ -147,14 +147,16 @@ fn open_idle<R: Wait, C: Disk + Drop, B: Disk + Drop, K: Sink>(
     }
 }
 
-/// Serves a trace over a backing device alone. Its superblock has to ask for no cache, and then the
-/// cache device isn't touched.
+/// Serves a trace over a pair. Where the superblock of the backing device asks for no cache, that
+/// device serves alone, and the cache device isn't touched.
 ///
 /// The whole trace is read first, then the superblock of the backing device and, where it asks for
 /// a cache, all of the pair but its data; the first of these that is refused ends the call with a
-/// message, as does a cache of which a line asks something, which isn't served yet, and no sector
-/// is written. Then each line is served in order, a last barrier is made, and the answers are put
-/// in order. A pair with a cache of which no line asks anything is opened and closed.
+/// message, as does a cache of which a line asks for more than to read, which isn't served yet, and
+/// no sector is written. Then each line is served in order, a last barrier is made, and the answers
+/// are put in order. A pair with a cache is opened for that and closed behind it, also where no
+/// line asks anything. A line that finds its index unsound ends the run: the lines before it are
+/// answered, and a message names it.
 pub fn serve<R: Wait, C: Disk + Drop, B: Disk + Drop, S: Source, K: Sink>(
     rt: &R,
     alloc: Global,
@@ -186,6 +188,9 @@ pub fn serve<R: Wait, C: Disk + Drop, B: Disk + Drop, S: Source, K: Sink>(
     let superblock = match opening {
         Opening::Alone(superblock) => superblock,
         Opening::Cached(superblock, survey) => {
+            if ask_something(&lines) {
+                return serve_reads(rt, alloc, cache, backing, &superblock, &survey, &lines, out);
+            }
             let (status, cache, backing) = open_idle(
                 rt,
                 alloc,
@@ -212,7 +217,7 @@ pub fn serve<R: Wait, C: Disk + Drop, B: Disk + Drop, S: Source, K: Sink>(
     };
     match run_trace::<C, B, R, NoGate>(rt, alloc, backing, &lines, &NoGate) {
         Ok(outcome) => Exit {
-            status: report(alloc, &outcome.answers, outcome.closing, out),
+            status: report(alloc, &outcome.answers, None, outcome.closing, out),
             cache,
             backing: outcome.backing.disk,
             pass: Some(outcome.pass),

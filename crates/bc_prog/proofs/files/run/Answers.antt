@@ -21,18 +21,32 @@ returns-in-Ok-clause-done g c = λ serves zero.
       | inl it ↦ inl (it.0, it.1)
       | inr opened ↦ inr opened
     ]) over.run zero) [
-      | inl run ↦ (let done = run.1.done zero in inl (record {
-        lines = run.1.lines;
-        trace = run.1.trace;
-        whole = run.1.whole;
-        size = _;
-        answers = run.1.answers;
-        history = _;
-        served = run.1.run.served;
-        text = done.text;
-        printed = done.are_lines;
-        taken = done.taken;
-      }))
+      | inl run ↦ (elim run.1 [
+        | inl alone ↦ (let done = alone.served.done zero in inl (record {
+          lines = alone.served.lines;
+          trace = alone.served.trace;
+          whole = alone.served.whole;
+          size = _;
+          answers = alone.served.answers;
+          history = _;
+          served = alone.served.run.served;
+          text = done.text;
+          printed = done.are_lines;
+          taken = done.taken;
+        }))
+        | inr cached ↦ (let done = cached.reported.done zero in inl (record {
+          lines = cached.lines;
+          trace = cached.trace;
+          whole = cached.whole;
+          size = _;
+          answers = cached.reported.outcome.answers.items;
+          history = _;
+          served = cached.reported.served zero;
+          text = done.text;
+          printed = done.are_lines;
+          taken = done.taken;
+        }))
+      ])
       | inr idle ↦ inr idle
     ]
 

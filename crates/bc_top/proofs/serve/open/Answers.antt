@@ -32,8 +32,8 @@ returns-in_err-survey-clause-cause g c =
     turned c.from_residual-in_err-survey.result (open_stop e) (IsOpeningCause cache cache' backing backing') c.from_residual-in_err-survey.ensures.1
     (opening_refused cache cache' backing opened backing' c.in_ok-superblock.superblock c.in_ok-superblock.ensures.ok (λ is. let yes = c.is_pass_through.ensures.1 is in let no = c.if-is_pass_through.false in absurd (cc)) e c.in_err-survey.ensures.cause)
 
-pub returns-then-asked-clause-cause : goal.returns-then-asked-clause-cause
-returns-then-asked-clause-cause g c =
+pub returns-then-more-clause-cause : goal.returns-then-more-clause-cause
+returns-then-more-clause-cause g c =
     let cache = g.C.Disk.facts c.args.cache.now in
     let cache' = g.C.Disk.facts c.test_pair.new.cache in
     let backing = g.B.Disk.facts c.args.backing.now in
@@ -45,8 +45,8 @@ pub returns-then-is_pass_through-clause-same : goal.returns-then-is_pass_through
 returns-then-is_pass_through-clause-same g c =
     (same_self (g.C.Disk.facts c.args.cache.now), c.in_ok-superblock.ensures.same)
 
-pub returns-then-asked-clause-same : goal.returns-then-asked-clause-same
-returns-then-asked-clause-same g c = (
+pub returns-then-more-clause-same : goal.returns-then-more-clause-same
+returns-then-more-clause-same g c = (
   c.in_ok-survey.ensures.cache_same,
   same_again (g.B.Disk.facts c.args.backing.now) (g.B.Disk.facts c.open_backing.new.backing)
       (g.B.Disk.facts c.test_pair.new.backing) c.in_ok-superblock.ensures.same

@@ -1,6 +1,9 @@
-use Rattle.std.proofs.Common.{◌∙◌, subst}
-use Rattle.bc_top.specs.Top.{AskSomething}
-use Rattle.bc_top.proofs.Idle.{asks}
+use Rattle.std.proofs.Common.{◌∙◌, List, subst}
+use Rattle.std.specs.Prelude.{All}
+use Rattle.bc_cached_serve.specs.Answered.{AsksToRead}
+use Rattle.bc_script.specs.declared.line.Line.{Line}
+use Rattle.bc_top.specs.Top.{AskMore}
+use Rattle.bc_top.proofs.Idle.{asks_more, asks_to_read}
 use Rattle.bc_top.specs.Stops.{trace_stop}
 use Rattle.bc_top.specs.Top.{IsServeCause}
 use Rattle.bc_top.specs.declared.stop.Stop.{Stop}
@@ -32,7 +35,12 @@ returns-in_err-opening-clause-cause g c =
     c.from_residual-in_err-opening.ensures.1
     (open_cause source left cache cache' backing backing'
     (c.in_ok-script.script, c.in_ok-script.ensures.trace, c.in_ok-script.ensures.whole) why
-    (λ is. subst AskSomething (c.deref.ensures.value ∙ c.into_lines-lines.ensures)
-    (asks c.ask_something-asked.result c.deref.result.now (c.in_err-opening.ensures.unserved is)
-    c.ask_something-asked.ensures))
+    (λ is. subst AskMore (c.deref.ensures.value ∙ c.into_lines-lines.ensures)
+    (asks_more c.ask_to_read-reads.result c.deref.result.now (c.in_err-opening.ensures.unserved is)
+    c.ask_to_read-reads.ensures))
     c.in_err-opening.ensures.cause)
+
+pub returns-clause-reads : goal.returns-clause-reads
+returns-clause-reads g c = λ cached. subst (λ (ls : List Line). All AsksToRead ls) c.deref.ensures.value
+    (asks_to_read c.ask_to_read-reads.result c.deref.result.now (c.in_ok-opening.ensures.served cached)
+    c.ask_to_read-reads.ensures)

@@ -73,7 +73,7 @@ returns-in-Ok-Check-clause-ends g c = λ other still takes.
 
 pub returns-in-Ok-Format-clause-cause : goal.returns-in-Ok-Format-clause-cause
 returns-in-Ok-Format-clause-cause g c = record {
-  unwritten = λ refused. format_unwritten g.C.Disk.facts g.B.Disk.facts c.args.cache c.format_pair.result.cache
+  unwritten = λ none refused. format_unwritten g.C.Disk.facts g.B.Disk.facts c.args.cache c.format_pair.result.cache
       c.args.backing c.format_pair.result.backing c.format_pair.ensures.formatted.answer c.format_pair.result.status (g.K.Sink.facts c.args.out.now)
       (g.K.Sink.facts c.format_pair.new.out) c.format_pair.ensures.formatted.untouched c.format_pair.ensures.formatted.ends refused;
   by_device = silent_rose (g.C.Disk.facts c.args.cache) (g.C.Disk.facts c.format_pair.result.cache)
@@ -92,7 +92,7 @@ returns-in-Ok-Format-clause-serves g c = λ serves. absurd (let f = c.in-Ok-Form
 
 pub returns-in-Ok-Adopt-clause-cause : goal.returns-in-Ok-Adopt-clause-cause
 returns-in-Ok-Adopt-clause-cause g c = record {
-  unwritten = λ refused.
+  unwritten = λ none refused.
       let did = c.adopt_pair.ensures.adopted in
       adopt_unwritten g.C.Disk.facts g.B.Disk.facts c.args.cache c.adopt_pair.result.cache c.args.backing c.adopt_pair.result.backing did.answer c.adopt_pair.result.status (g.K.Sink.facts c.args.out.now) (g.K.Sink.facts c.adopt_pair.new.out) did.leaves did.ends refused;
   by_device = silent_rose (g.C.Disk.facts c.args.cache) (g.C.Disk.facts c.adopt_pair.result.cache)
@@ -111,7 +111,7 @@ returns-in-Ok-Adopt-clause-serves g c = λ serves. absurd (let f = c.in-Ok-Adopt
 
 pub returns-in-Ok-Show-clause-cause : goal.returns-in-Ok-Show-clause-cause
 returns-in-Ok-Show-clause-cause g c = record {
-  unwritten = λ _. same_both (g.C.Disk.facts c.args.cache) (g.C.Disk.facts c.print_pair.result.cache) (g.B.Disk.facts c.args.backing) (g.B.Disk.facts c.print_pair.result.backing) c.print_pair.ensures.shown.kept;
+  unwritten = λ none refused. same_both (g.C.Disk.facts c.args.cache) (g.C.Disk.facts c.print_pair.result.cache) (g.B.Disk.facts c.args.backing) (g.B.Disk.facts c.print_pair.result.backing) c.print_pair.ensures.shown.kept;
   by_device = printing_rose (g.C.Disk.facts c.args.cache) (g.C.Disk.facts c.print_pair.result.cache)
       (g.B.Disk.facts c.args.backing) (g.B.Disk.facts c.print_pair.result.backing) c.print_pair.ensures.shown.answer c.print_pair.result.status (g.K.Sink.facts c.args.out.now)
       (g.K.Sink.facts c.print_pair.new.out) c.print_pair.ensures.shown.faults c.print_pair.ensures.shown.ends;
@@ -127,7 +127,7 @@ returns-in-Ok-Show-clause-serves g c = λ serves. absurd (let f = c.in-Ok-Show i
 
 pub returns-in-Ok-Check-clause-cause : goal.returns-in-Ok-Check-clause-cause
 returns-in-Ok-Check-clause-cause g c = record {
-  unwritten = λ _. same_checked (g.C.Disk.facts c.args.cache) (g.C.Disk.facts c.print_check.result.cache) (g.B.Disk.facts c.args.backing) (g.B.Disk.facts c.print_check.result.backing) c.print_check.ensures.checked.kept;
+  unwritten = λ none refused. same_checked (g.C.Disk.facts c.args.cache) (g.C.Disk.facts c.print_check.result.cache) (g.B.Disk.facts c.args.backing) (g.B.Disk.facts c.print_check.result.backing) c.print_check.ensures.checked.kept;
   by_device = (let did = c.print_check.ensures.checked in checking_rises (g.C.Disk.facts c.args.cache) (g.C.Disk.facts c.print_check.result.cache) (g.B.Disk.facts c.args.backing) (g.B.Disk.facts c.print_check.result.backing) did.answer c.print_check.result.status (g.K.Sink.facts c.args.out.now) (g.K.Sink.facts c.print_check.new.out) did.cause did.faults did.ends);
   by_source = λ seven. (let did = c.print_check.ensures.checked in absurd (not_source (g.C.Disk.facts c.args.cache) (g.C.Disk.facts c.print_check.result.cache) (g.B.Disk.facts c.args.backing) (g.B.Disk.facts c.print_check.result.backing) did.answer c.print_check.result.status (g.K.Sink.facts c.args.out.now) (g.K.Sink.facts c.print_check.new.out) did.cause did.faults did.ends seven));
   by_sink = (let did = c.print_check.ensures.checked in checking_stops (g.C.Disk.facts c.args.cache) (g.C.Disk.facts c.print_check.result.cache) (g.B.Disk.facts c.args.backing) (g.B.Disk.facts c.print_check.result.backing) did.answer c.print_check.result.status (g.K.Sink.facts c.args.out.now) (g.K.Sink.facts c.print_check.new.out) did.cause did.faults did.ends);
@@ -143,16 +143,15 @@ returns-in-Err-clause-serves g c = λ serves.
     let lacking = lacks {cache = c.args.cache} {backing = c.args.backing} _ c.in-Err.error _ (Serve serves.0)
     (at_error (λ e. IsCause (map string_bytes c.args.words.now) e) c.read_words.result c.in-Err.error c.in-Err.is c.read_words.ensures.refused) serves.1 (c.tell.ensures.status ∙ ap (λ (s : Stop). status_of s) c.from.ensures)
     (subst (λ (s : Stop). IsPutOf (message_text (message_of s)) (g.K.Sink.facts c.args.out.now) (g.K.Sink.facts c.tell.new.out)) c.from.ensures c.tell.ensures.put) in record {
-      untouched = tt;
       stopped = λ none. inl (stop.Memory, lacking.status_is, inl (refl, (refl, refl)), lacking.told, (same_self (g.C.Disk.facts c.args.cache), same_self (g.B.Disk.facts c.args.backing)));
       run = tt;
       complete = λ spells asks quiet still takes. inr lacking.status_is;
-      judged = nine_answers (g.S.Source.facts c.args.trace.now) (g.S.Source.facts c.args.trace.now) (g.C.Disk.facts c.args.cache) (g.C.Disk.facts c.args.cache) (g.B.Disk.facts c.args.backing) (g.B.Disk.facts c.args.backing) c.tell.result (g.K.Sink.facts c.args.out.now) (g.K.Sink.facts c.tell.new.out) lacking.status_is;
+      judged = nine_answers _ (g.S.Source.facts c.args.trace.now) (g.S.Source.facts c.args.trace.now) (g.C.Disk.facts c.args.cache) (g.C.Disk.facts c.args.cache) (g.B.Disk.facts c.args.backing) (g.B.Disk.facts c.args.backing) c.tell.result (g.K.Sink.facts c.args.out.now) (g.K.Sink.facts c.tell.new.out) lacking.status_is;
     }
 
 pub returns-in-Err-clause-cause : goal.returns-in-Err-clause-cause
 returns-in-Err-clause-cause g c = record {
-  unwritten = λ _. (same_self (g.C.Disk.facts c.args.cache), same_self (g.B.Disk.facts c.args.backing));
+  unwritten = λ none refused. (same_self (g.C.Disk.facts c.args.cache), same_self (g.B.Disk.facts c.args.backing));
   by_device = λ is. absurd (never_read c.in-Err.error c.tell.result (c.tell.ensures.status ∙ ap (λ (s : Stop). status_of s) c.from.ensures) (inl is));
   by_source = λ is. absurd (never_read c.in-Err.error c.tell.result (c.tell.ensures.status ∙ ap (λ (s : Stop). status_of s) c.from.ensures) (inr (inl is)));
   by_sink = λ is. absurd (never_read c.in-Err.error c.tell.result (c.tell.ensures.status ∙ ap (λ (s : Stop). status_of s) c.from.ensures) (inr (inr is)));
