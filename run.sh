@@ -50,3 +50,8 @@ echo "Served with a trace that asks for nothing, the pair is opened and closed; 
 echo "    bcache CACHE BACKING serve < /dev/null"
 "$bcache" "$folder/cache2.img" "$folder/backing2.img" serve < /dev/null
 command check
+echo
+echo "Served with a trace that reads, it is read from both devices, and stays as it is:"
+echo "    echo '1 r 0 2' | bcache CACHE BACKING serve"
+echo '1 r 0 2' | "$bcache" "$folder/cache2.img" "$folder/backing2.img" serve | sed 's/^/ -> /'
+command check
