@@ -58,7 +58,6 @@ use Rattle.bc_session_laws.specs.Events.{BringNothing, OnlyReads}
 use Rattle.bc_session_laws.specs.Laws.{HasKept, IsOpenedOn, IsRecoverable}
 use Rattle.bc_session_laws.proofs.Closed.{law_closed}
 use Rattle.bc_session_laws.proofs.Made.{law_made}
-use Rattle.bc_sound_reads.proofs.Whole.{law_not_refused}
 use Rattle.bc_super.specs.Reading.{ReadsSuper}
 use Rattle.bc_super.specs.Super.{data_sectors}
 use Rattle.bc_super.specs.declared.backing.BackingSuper.{BackingSuper}
@@ -387,9 +386,6 @@ module _ {C B : Type 0} (cache_facts : C → DiskFacts) (facts : B → DiskFacts
                 lines_by.deeds are_lines lines_by.served lines_by.done (shown_by p v)
                 (subst (λ (l : List Entry). IsLegal (shown_by p v) (reverse l)) history_is
                 kept.legal);
-            found = law_not_refused cache_facts facts s b run.dirty run.read backing c d v
-                seen.layout run.loaded lines r are_lines hold seen.divided run.over seen.next_seq o
-                seen.started untorn;
           }
 
     -- so it does over the devices of which the parts were read

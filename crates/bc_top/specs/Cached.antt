@@ -41,7 +41,6 @@ use Rattle.bc_session.specs.declared.closing.CloseError.{CloseError}
 use Rattle.bc_session.specs.declared.closing.CloseError.TheVariants as closings
 use Rattle.bc_session_laws.specs.Events.{left_by}
 use Rattle.bc_session_laws.specs.Laws.{IsRecoverable}
-use Rattle.bc_sound_reads.specs.Laws.{FindsItSound}
 use Rattle.bc_started.specs.Laws.{AreUntorn, IsStartedFrom}
 use Rattle.bc_super.specs.Super.{data_sectors}
 use Rattle.bc_super.specs.declared.backing.BackingSuper.{BackingSuper}
@@ -118,8 +117,6 @@ module _ {C B : Type 0} (cache_facts : C → DiskFacts) (facts : B → DiskFacts
           → ShowsTheSame p v (record p { cache = image; backing = other })
       pub answers : AllAnswered size lines r.answers.items
           → r.answers.items ≡ answers_of size lines (shown_by p v)
-      -- no line says that a node is damaged, and the run stops at none but for a busy part
-      pub found : FindsItSound r
 
     -- Over a pair that is sound there is an opening from which the run is seen, and from each one
     -- it does so.
