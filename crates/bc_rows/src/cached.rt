@@ -37,6 +37,7 @@ const TEXT: &str = "7x8 zerox8 9x8 6x8 zerox8\n9x4 6x4\nout-of-range\n";
 
 // Puts so many sectors with the patterns of a stamp, for the sectors of the data from `first` on.
 fn put_patterns<R: Abort>(rt: &R, bytes: &mut [u8], at: usize, stamp: u64, first: u64) {
+    assert!(rt; at < 1 << 30 && first < 1 << 30 && 1 <= stamp);
     for i in 0..8 {
         let begin = 512 * (at + i);
         assert!(rt; begin + 512 <= bytes.len());
@@ -55,7 +56,7 @@ fn put_keys<R: Abort>(
 ) {
     assert!(rt; at < 1 << 30 && place < 1 << 10 && words.len() < 100);
     let end = at + place + 8 * words.len();
-    assert!(rt; end <= bytes.len());
+    assert!(rt; at + 32 <= end && end <= bytes.len());
     put_u64(bytes, at + 24, 1 | ((words.len() as u64) << 32));
     for (i, word) in words.iter().enumerate() {
         put_u64(bytes, at + place + 8 * i, *word);
