@@ -40,7 +40,7 @@ use Rattle.bc_opening.proofs.One.{law_one}
 use Rattle.bc_opening.proofs.Opened as openings
 use Rattle.bc_pending.specs.Entries.{keys_in}
 use Rattle.bc_pending.specs.declared.numbered.Numbered.{Numbered}
-use Rattle.bc_regrow.specs.Parts.{AreRangesOf, IsRangeOf, leaf_nodes}
+use Rattle.bc_slots.specs.bc_regrow.Parts.{AreRangesOf, IsRangeOf, leaf_nodes}
 use Rattle.bc_reload.specs.Added as added
 use Rattle.bc_reload.specs.Added.{noted_all}
 use Rattle.bc_reload.specs.Reload.{IsReloaded}

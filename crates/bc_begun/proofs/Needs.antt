@@ -26,7 +26,7 @@ use Rattle.bc_needs.specs.Needs.{NeedsFrom}
 use Rattle.bc_opening.specs.Read.{leaf_of}
 use Rattle.bc_pending.specs.Entries.{keys_in}
 use Rattle.bc_pending.specs.declared.numbered.Numbered.{Numbered}
-use Rattle.bc_regrow.specs.Parts.{leaf_nodes}
+use Rattle.bc_slots.specs.bc_regrow.Parts.{leaf_nodes}
 use Rattle.bc_resume.specs.Resume.{IsResumed}
 use Rattle.bc_spine.specs.declared.leaf.LeafRange.{LeafRange}
 use Rattle.bc_begun.specs.Opened.{IsOpenedWith}

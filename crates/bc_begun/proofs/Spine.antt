@@ -23,7 +23,7 @@ use Rattle.bc_meta.specs.Layout.{Layout}
 use Rattle.bc_model.specs.Sector.{Image}
 use Rattle.bc_opening.specs.Read.{height_of, inner_of, leaf_of}
 use Rattle.bc_record.specs.Places.{bucket_at}
-use Rattle.bc_regrow.specs.Parts.{AreOfNodes, AreRangesOf, IsOfNode, IsRangeOf, if_inner, inner_nodes, leaf_nodes}
+use Rattle.bc_slots.specs.bc_regrow.Parts.{AreOfNodes, AreRangesOf, IsOfNode, IsRangeOf, if_inner, inner_nodes, leaf_nodes}
 use Rattle.bc_shares.specs.Shares.{shape_of}
 use Rattle.bc_spine.specs.Leaves.{AreCounted}
 use Rattle.bc_spine.specs.Numbers.{HasNumber}

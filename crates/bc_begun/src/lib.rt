@@ -13,3 +13,7 @@ mod bytes;
 pub mod laws;
 
 pub use bytes::are_bytes;
+
+// Passed on, so that a crate above need not list these.
+pub use bc_machine;
+pub use bc_slots::bc_regrow;

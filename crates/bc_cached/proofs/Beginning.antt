@@ -10,13 +10,13 @@ use Rattle.bc_model.specs.Sector.{Image}
 use Rattle.bc_parts.specs.Machine.{StandFrom}
 use Rattle.bc_parts.specs.Seat.{PartsView, newcomer}
 use Rattle.bc_tree.specs.Spine.{Spine}
-use Rattle.bc_machine.specs.Containers.{AreLeavesOf}
-use Rattle.bc_machine.specs.declared.part.CorePart.{CorePart}
-use Rattle.bc_machine.specs.declared.part.CorePart.TheVariants as part
+use Rattle.bc_begun.specs.bc_machine.Containers.{AreLeavesOf}
+use Rattle.bc_begun.specs.bc_machine.declared.part.CorePart.{CorePart}
+use Rattle.bc_begun.specs.bc_machine.declared.part.CorePart.TheVariants as part
 use Rattle.bc_data.specs.Seats.{no_candidate}
-use Rattle.bc_machine.specs.World.{AreCandidatesOf, AreLeafParts, kept_of, IsBacking, IsBackingOf, IsCache, IsFlight, IsFlightOf, IsOrigin, Origin, Side, World, behind, image_of, is_some_image, leaves_among, model, opening, side_of}
-use Rattle.bc_machine.proofs.Viewing.{new_view}
-use Rattle.bc_hand.specs.Seats.{Works, core, empty}
+use Rattle.bc_begun.specs.bc_machine.World.{AreCandidatesOf, AreLeafParts, kept_of, IsBacking, IsBackingOf, IsCache, IsFlight, IsFlightOf, IsOrigin, Origin, Side, World, behind, image_of, is_some_image, leaves_among, model, opening, side_of}
+use Rattle.bc_begun.proofs.of_bc_machine.Viewing.{new_view}
+use Rattle.bc_deed.specs.bc_hand.Seats.{Works, core, empty}
 use Rattle.bc_deed.proofs.Devices.{begins_stands}
 use Rattle.bc_deed.proofs.Ending.{six_pushed}
 use Rattle.bc_begun.specs.Begin.{Beginning, parts_of}

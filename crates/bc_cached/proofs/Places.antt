@@ -5,12 +5,12 @@ use Rattle.bc_disk.specs.Disk.{DiskFacts}
 use Rattle.bc_parts.specs.Machine.{StandFrom}
 use Rattle.bc_events.specs.Run.{Opening}
 use Rattle.bc_events.specs.declared.event.Event.{Event}
-use Rattle.bc_machine.specs.declared.part.BackingPart.{BackingPart}
-use Rattle.bc_machine.specs.declared.part.CorePart.{CorePart}
-use Rattle.bc_machine.specs.declared.part.CorePart.TheVariants as part
-use Rattle.bc_machine.specs.World.{IsBacking, IsCache, StandsAs, World, after, is_plain, opening}
-use Rattle.bc_machine.proofs.Viewing.{opening_stays}
-use Rattle.bc_hand.specs.Seats.{core}
+use Rattle.bc_begun.specs.bc_machine.declared.part.BackingPart.{BackingPart}
+use Rattle.bc_begun.specs.bc_machine.declared.part.CorePart.{CorePart}
+use Rattle.bc_begun.specs.bc_machine.declared.part.CorePart.TheVariants as part
+use Rattle.bc_begun.specs.bc_machine.World.{IsBacking, IsCache, StandsAs, World, after, is_plain, opening}
+use Rattle.bc_begun.proofs.of_bc_machine.Viewing.{opening_stays}
+use Rattle.bc_deed.specs.bc_hand.Seats.{core}
 use Rattle.bc_deed.proofs.Ending.{is_backing}
 use Rattle.bc_cached.specs.Begun.{HasDevices}
 

@@ -9,11 +9,11 @@ use Rattle.bc_disk.specs.Disk.{DiskFacts}
 use Rattle.bc_events.specs.declared.event.Event.{Event}
 use Rattle.bc_parts.specs.Seat.{Run}
 use Rattle.bc_resume.specs.Resume.{IsResumed}
-use Rattle.bc_slots.specs.Parts.{AreParts}
-use Rattle.bc_machine.specs.declared.part.BackingPart.{BackingPart}
-use Rattle.bc_machine.specs.declared.part.CorePart.{CorePart}
-use Rattle.bc_machine.specs.World.{World, after, opening}
-use Rattle.bc_hand.specs.Seats as seats
+use Rattle.bc_begun.specs.bc_slots.Parts.{AreParts}
+use Rattle.bc_begun.specs.bc_machine.declared.part.BackingPart.{BackingPart}
+use Rattle.bc_begun.specs.bc_machine.declared.part.CorePart.{CorePart}
+use Rattle.bc_begun.specs.bc_machine.World.{World, after, opening}
+use Rattle.bc_deed.specs.bc_hand.Seats as seats
 use Rattle.bc_begun.specs.Begin.{BeginsOn, IsSeenAs, parts_of}
 use Rattle.bc_begun.proofs.Origin.{law_origin}
 use Rattle.bc_cached.specs.Laws.{LawFit, LawSeen, parts_in}

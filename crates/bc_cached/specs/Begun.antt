@@ -4,11 +4,11 @@ use Rattle.bc_alloc.specs.Reserves.{Reserves}
 use Rattle.bc_bucket.specs.Buckets.{Buckets}
 use Rattle.bc_disk.specs.Disk.{DiskFacts}
 use Rattle.bc_parts.specs.Seat.{PartsView}
-use Rattle.bc_machine.specs.declared.part.BackingPart.{BackingPart}
-use Rattle.bc_machine.specs.declared.part.BucketsPart.{BucketsPart}
-use Rattle.bc_machine.specs.declared.part.CorePart.{CorePart}
-use Rattle.bc_machine.specs.declared.part.CorePart.TheVariants as part
-use Rattle.bc_hand.specs.Seats.{View, Works, empty}
+use Rattle.bc_begun.specs.bc_machine.declared.part.BackingPart.{BackingPart}
+use Rattle.bc_begun.specs.bc_machine.declared.part.BucketsPart.{BucketsPart}
+use Rattle.bc_begun.specs.bc_machine.declared.part.CorePart.{CorePart}
+use Rattle.bc_begun.specs.bc_machine.declared.part.CorePart.TheVariants as part
+use Rattle.bc_deed.specs.bc_hand.Seats.{View, Works, empty}
 use Rattle.bc_begun.specs.Begin.{Beginning, parts_of}
 use Rattle.bc_cached.specs.declared.run.Ready.{Ready}
 

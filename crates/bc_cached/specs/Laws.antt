@@ -17,12 +17,12 @@ use Rattle.bc_pending.specs.declared.numbered.Numbered.{Numbered}
 use Rattle.bc_recover.specs.Known.{AreKnown}
 use Rattle.bc_recover.specs.Spare.{HasReserves}
 use Rattle.bc_resume.specs.Resume.{IsResumed}
-use Rattle.bc_slots.specs.Parts.{AreParts}
+use Rattle.bc_begun.specs.bc_slots.Parts.{AreParts}
 use Rattle.bc_super.specs.Super.{data_sectors}
-use Rattle.bc_machine.specs.World.{Origin}
-use Rattle.bc_machine.specs.declared.part.CorePart.{CorePart}
-use Rattle.bc_chosen.specs.Parts.{ArePartsOf, Parts}
-use Rattle.bc_hand.specs.Seats as seats
+use Rattle.bc_begun.specs.bc_machine.World.{Origin}
+use Rattle.bc_begun.specs.bc_machine.declared.part.CorePart.{CorePart}
+use Rattle.bc_begun.specs.bc_chosen.Parts.{ArePartsOf, Parts}
+use Rattle.bc_deed.specs.bc_hand.Seats as seats
 use Rattle.bc_begun.specs.Begin.{IsSeenAs}
 use Rattle.bc_begun.specs.Opened.{AreBytes}
 use Rattle.bc_cached.specs.Begun.{HasBegun}

@@ -10,3 +10,9 @@
 
 pub mod laws;
 pub mod run;
+
+// Passed on, so that a crate above need not list these.
+pub use bc_begun;
+pub use bc_begun::{bc_machine, bc_regrow};
+pub use bc_deed;
+pub use bc_deed::bc_hand;

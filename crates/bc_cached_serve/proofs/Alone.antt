@@ -5,9 +5,9 @@ use Rattle.std.proofs.lemmas.Bool.{ltb-true}
 use Rattle.bc_disk.specs.Disk.{DiskFacts}
 use Rattle.bc_events.specs.declared.event.Deed.{Deed}
 use Rattle.bc_events.specs.declared.event.Event.{Event}
-use Rattle.bc_hand.proofs.Knowing.{m}
-use Rattle.bc_hand.specs.Seats.{by}
-use Rattle.bc_machine.specs.World.{World, after}
+use Rattle.bc_serve.proofs.of_bc_hand.Knowing.{m}
+use Rattle.bc_serve.specs.bc_hand.Seats.{by}
+use Rattle.bc_serve.specs.bc_machine.World.{World, after}
 use Rattle.bc_model.proofs.Cases.{by_test}
 use Rattle.bc_parts.specs.Machine.{IsRun}
 use Rattle.bc_serve.specs.Run.{events_by}

@@ -1,8 +1,8 @@
 -- A piece of a line, from its claim to its release: what was read, and how it was stopped.
 use Rattle.std.proofs.Common.{◌≡◌, ◌⊎◌, inl, inr, ℕ, true, false, List, [], ◌∷◌, ◌++◌, refl, sym, subst}
-use Rattle.bc_deed.proofs.Sequence.{done_both}
-use Rattle.bc_deed.specs.Asked.{IsHaltedOr}
-use Rattle.bc_deed.specs.Flushed.{HasDone}
+use Rattle.bc_serve.proofs.of_bc_deed.Sequence.{done_both}
+use Rattle.bc_serve.specs.bc_deed.Asked.{IsHaltedOr}
+use Rattle.bc_serve.specs.bc_deed.Flushed.{HasDone}
 use Rattle.bc_disk.specs.Disk.{DiskFacts}
 use Rattle.bc_disk.specs.declared.disk.Device.{Device}
 use Rattle.bc_disk.specs.declared.disk.Device.TheVariants as device
@@ -11,26 +11,26 @@ use Rattle.bc_events.specs.declared.event.Deed.TheVariants as deed
 use Rattle.bc_events.specs.declared.event.Event.{Event}
 use Rattle.bc_events.specs.declared.event.Failure.TheVariants as failure
 use Rattle.bc_events.specs.declared.event.LineNumber.{LineNumber}
-use Rattle.bc_fetch.specs.Fetch.{HasReadOne, HasStoppedAt, node_read}
-use Rattle.bc_fetch.specs.declared.error.LeafError.{LeafError}
-use Rattle.bc_fetch.specs.declared.error.LeafError.TheVariants as leaf
+use Rattle.bc_request.specs.bc_fetch.Fetch.{HasReadOne, HasStoppedAt, node_read}
+use Rattle.bc_request.specs.bc_fetch.declared.error.LeafError.{LeafError}
+use Rattle.bc_request.specs.bc_fetch.declared.error.LeafError.TheVariants as leaf
 use Rattle.bc_flight.specs.declared.claim.Share.TheVariants.{Shared}
-use Rattle.bc_hand.proofs.Knowing.{View}
-use Rattle.bc_hand.specs.declared.error.StepError.{StepError}
-use Rattle.bc_hand.specs.declared.error.StepError.TheVariants as step
-use Rattle.bc_hand.specs.declared.hand.Hand.{Hand}
-use Rattle.bc_job.proofs.Holding.{halted_still}
-use Rattle.bc_machine.specs.World.{cache_among}
-use Rattle.bc_machine.specs.declared.part.CorePart.{CorePart}
+use Rattle.bc_serve.proofs.of_bc_hand.Knowing.{View}
+use Rattle.bc_serve.specs.bc_hand.declared.error.StepError.{StepError}
+use Rattle.bc_serve.specs.bc_hand.declared.error.StepError.TheVariants as step
+use Rattle.bc_serve.specs.bc_hand.declared.hand.Hand.{Hand}
+use Rattle.bc_serve.proofs.of_bc_job.Holding.{halted_still}
+use Rattle.bc_serve.specs.bc_machine.World.{cache_among}
+use Rattle.bc_serve.specs.bc_machine.declared.part.CorePart.{CorePart}
 use Rattle.bc_model.specs.Sector.{Value}
 use Rattle.bc_model.specs.declared.history.Entry.TheVariants as entry
 use Rattle.bc_parts.specs.Seat.{PartsView}
-use Rattle.bc_reader.specs.Claimed.{HasAnswered, HasNotAnswered, HasTried, MayHaveTurned, ReadStop}
-use Rattle.bc_reader.specs.Deeds.{IsHaltAt}
-use Rattle.bc_reader.specs.Look.{HasSeen, IsStoppedIn, IsWay, LookStop, NotSeen}
-use Rattle.bc_reader.specs.declared.error.ReadError.{ReadError}
-use Rattle.bc_reader.specs.declared.error.ReadError.TheVariants as error
-use Rattle.bc_reader.specs.declared.look.Seen.{Seen}
+use Rattle.bc_request.specs.bc_reader.Claimed.{HasAnswered, HasNotAnswered, HasTried, MayHaveTurned, ReadStop}
+use Rattle.bc_request.specs.bc_reader.Deeds.{IsHaltAt}
+use Rattle.bc_request.specs.bc_reader.Look.{HasSeen, IsStoppedIn, IsWay, LookStop, NotSeen}
+use Rattle.bc_request.specs.bc_reader.declared.error.ReadError.{ReadError}
+use Rattle.bc_request.specs.bc_reader.declared.error.ReadError.TheVariants as error
+use Rattle.bc_request.specs.bc_reader.declared.look.Seen.{Seen}
 use Rattle.bc_request.specs.Piece.{HasNotClaimed, HasNotReadPiece, HasReadPiece, HasStoppedUnder}
 use Rattle.bc_cached_serve.proofs.Going.{HasRead, Reads, either_read, none_read, reads_both, reads_none, runs_read, then_read}
 use Rattle.bc_cached_serve.proofs.Stops.{HasStoppedReading, ReadStops, StepStops, runs_stop, stopped_still, stops_still, then_stopped}

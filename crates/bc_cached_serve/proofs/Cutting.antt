@@ -3,15 +3,15 @@ use Rattle.std.proofs.Common.{◌≡◌, ◌^◌, ◌<◌, List, [], ◌∷◌, 
 use Rattle.std.specs.Prelude.{All, false, length, map}
 use Rattle.std.proofs.lemmas.List.Elements.{All-cons, All-nil}
 use Rattle.bc_disk.specs.Disk.{DiskFacts}
-use Rattle.bc_deed.proofs.Joining.{works_kept_half}
+use Rattle.bc_serve.proofs.of_bc_deed.Joining.{works_kept_half}
 use Rattle.bc_events.specs.declared.event.Deed.{Deed}
 use Rattle.bc_events.specs.declared.event.Event.{Event}
-use Rattle.bc_hand.proofs.Knowing.{IsFresh, View, fresh_since, m}
-use Rattle.bc_hand.specs.Seats.{Works, by, empty, note, world}
-use Rattle.bc_machine.proofs.Viewing.{new_view}
-use Rattle.bc_machine.specs.Note.{note_by}
-use Rattle.bc_machine.specs.World.{are_plain}
-use Rattle.bc_machine.specs.declared.part.CorePart.{CorePart}
+use Rattle.bc_serve.proofs.of_bc_hand.Knowing.{IsFresh, View, fresh_since, m}
+use Rattle.bc_serve.specs.bc_hand.Seats.{Works, by, empty, note, world}
+use Rattle.bc_serve.proofs.of_bc_machine.Viewing.{new_view}
+use Rattle.bc_serve.specs.bc_machine.Note.{note_by}
+use Rattle.bc_serve.specs.bc_machine.World.{are_plain}
+use Rattle.bc_serve.specs.bc_machine.declared.part.CorePart.{CorePart}
 use Rattle.bc_parts.specs.Seat.{PartsView}
 use Rattle.bc_request.specs.Asked.{IsIdle}
 use Rattle.bc_seats.specs.Seats.{Foreign, Since}

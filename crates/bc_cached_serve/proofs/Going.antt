@@ -1,15 +1,15 @@
 -- Deeds of reading, one behind the other.
 use Rattle.std.proofs.Common.{◌≡◌, ◌⊎◌, inl, inr, Bool, true, false, List, [], ◌∷◌, ◌++◌, refl, sym, ap, ◌∙◌, subst}
-use Rattle.bc_deed.proofs.Sequence.{done_both}
-use Rattle.bc_deed.specs.Flushed.{HasDone}
+use Rattle.bc_serve.proofs.of_bc_deed.Sequence.{done_both}
+use Rattle.bc_serve.specs.bc_deed.Flushed.{HasDone}
 use Rattle.bc_disk.specs.Disk.{DiskFacts}
 use Rattle.bc_events.specs.declared.event.Deed.{Deed}
 use Rattle.bc_events.specs.declared.event.Deed.TheVariants as deed
-use Rattle.bc_hand.proofs.Knowing.{View}
+use Rattle.bc_serve.proofs.of_bc_hand.Knowing.{View}
 use Rattle.bc_model.specs.Sector.{Value}
 use Rattle.bc_model.specs.declared.history.Entry.{Entry}
-use Rattle.bc_reader.specs.Deeds.{AreRunDeeds, AreRunsDeeds, HasTurned}
-use Rattle.bc_reads.specs.declared.runs.ReadRun.{ReadRun}
+use Rattle.bc_request.specs.bc_reader.Deeds.{AreRunDeeds, AreRunsDeeds, HasTurned}
+use Rattle.bc_request.specs.bc_reads.declared.runs.ReadRun.{ReadRun}
 use Rattle.bc_serve.specs.Causes.{entries_by}
 use Rattle.bc_serve.proofs.Lists.{entries_both}
 use Rattle.bc_cached_serve.specs.Deeds.{AreReading, AreTurned, GoesOn, IsTurned}

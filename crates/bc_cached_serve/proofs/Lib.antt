@@ -8,3 +8,5 @@ pub mod Alone
 pub mod Cutting
 pub mod Whole
 pub mod Opened
+pub use Rattle.bc_serve.proofs as of_bc_serve
+pub use Rattle.bc_session.proofs as of_bc_session

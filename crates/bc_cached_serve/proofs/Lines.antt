@@ -1,8 +1,8 @@
 -- A line that reads, from its pieces to its answer.
 use Rattle.std.specs.Prelude.{Result, Ok, Err, IfErr, IfOk}
 use Rattle.std.proofs.Common.{◌≡◌, ◌⊎◌, inl, inr, true, false, List, [], ◌∷◌, ◌++◌, Some, append_assoc, append-nil, refl, sym, ap, ◌∙◌, subst}
-use Rattle.bc_deed.proofs.Sequence.{done_both}
-use Rattle.bc_deed.specs.Flushed.{HasDone}
+use Rattle.bc_serve.proofs.of_bc_deed.Sequence.{done_both}
+use Rattle.bc_serve.specs.bc_deed.Flushed.{HasDone}
 use Rattle.bc_disk.specs.Disk.{DiskFacts}
 use Rattle.bc_disk.specs.declared.disk.Device.{Device}
 use Rattle.bc_events.specs.Columns.{halt_of}
@@ -11,21 +11,21 @@ use Rattle.bc_events.specs.declared.event.Deed.TheVariants as deed
 use Rattle.bc_events.specs.declared.event.Event.{Event}
 use Rattle.bc_events.specs.declared.event.Failure.TheVariants as failure
 use Rattle.bc_events.specs.declared.event.LineNumber.{LineNumber}
-use Rattle.bc_fetch.specs.declared.error.LeafError.TheVariants as leaf
-use Rattle.bc_hand.proofs.Knowing.{View}
-use Rattle.bc_hand.specs.Seats.{IsCoreSeat}
-use Rattle.bc_hand.specs.declared.error.StepError.TheVariants as step
-use Rattle.bc_job.proofs.Looping.{done_none}
-use Rattle.bc_job.specs.Asked.{line_of}
-use Rattle.bc_job.specs.declared.job.Job.{Job}
-use Rattle.bc_machine.specs.declared.part.CorePart.{CorePart}
+use Rattle.bc_request.specs.bc_fetch.declared.error.LeafError.TheVariants as leaf
+use Rattle.bc_serve.proofs.of_bc_hand.Knowing.{View}
+use Rattle.bc_serve.specs.bc_hand.Seats.{IsCoreSeat}
+use Rattle.bc_serve.specs.bc_hand.declared.error.StepError.TheVariants as step
+use Rattle.bc_serve.proofs.of_bc_job.Looping.{done_none}
+use Rattle.bc_serve.specs.bc_job.Asked.{line_of}
+use Rattle.bc_serve.specs.bc_job.declared.job.Job.{Job}
+use Rattle.bc_serve.specs.bc_machine.declared.part.CorePart.{CorePart}
 use Rattle.bc_model.specs.Pieces.{AreReads, Piece, pieces}
 use Rattle.bc_model.specs.Sector.{Value}
 use Rattle.bc_model.specs.declared.history.Entry.{Entry}
 use Rattle.bc_model.specs.declared.history.Entry.TheVariants as entry
 use Rattle.bc_parts.specs.Seat.{PartsView}
-use Rattle.bc_reader.specs.declared.error.ReadError.{ReadError}
-use Rattle.bc_reader.specs.declared.error.ReadError.TheVariants as error
+use Rattle.bc_request.specs.bc_reader.declared.error.ReadError.{ReadError}
+use Rattle.bc_request.specs.bc_reader.declared.error.ReadError.TheVariants as error
 use Rattle.bc_request.specs.Line.{HasNotReadLine, HasReadLine, HasReadPieces, HasRefusedAt}
 use Rattle.bc_request.specs.Refusals.{refusal}
 use Rattle.bc_request.specs.declared.error.RequestError.{RequestError}

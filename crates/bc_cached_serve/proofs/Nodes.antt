@@ -3,19 +3,19 @@ use Rattle.std.specs.Prelude.{◌≢◌, ℕ, List}
 use Rattle.std.proofs.Common.{inl, inr, refl, sym, subst}
 use Rattle.bc_disk.specs.Disk.{DiskFacts}
 use Rattle.bc_disk.specs.declared.geometry.Geometry.{Geometry}
-use Rattle.bc_fetch.specs.declared.error.LeafError.TheVariants as leaf
-use Rattle.bc_hand.proofs.Knowing.{View}
-use Rattle.bc_hand.specs.declared.error.StepError.TheVariants as step
-use Rattle.bc_job.specs.declared.job.Job.{Job}
+use Rattle.bc_request.specs.bc_fetch.declared.error.LeafError.TheVariants as leaf
+use Rattle.bc_serve.proofs.of_bc_hand.Knowing.{View}
+use Rattle.bc_serve.specs.bc_hand.declared.error.StepError.TheVariants as step
+use Rattle.bc_serve.specs.bc_job.declared.job.Job.{Job}
 use Rattle.bc_key.specs.declared.key.Key.{Key}
-use Rattle.bc_machine.specs.declared.part.CorePart.{CorePart}
+use Rattle.bc_serve.specs.bc_machine.declared.part.CorePart.{CorePart}
 use Rattle.bc_node.specs.Loading.{IsNotDecoded}
 use Rattle.bc_node.specs.declared.error.NodeError.{NodeError}
 use Rattle.bc_node.specs.declared.error.NodeError.TheVariants as node
 use Rattle.bc_parts.specs.Seat.{PartsView}
-use Rattle.bc_reader.specs.Look.{NotSeen}
-use Rattle.bc_reader.specs.declared.error.ReadError.{ReadError}
-use Rattle.bc_reader.specs.declared.error.ReadError.TheVariants as error
+use Rattle.bc_request.specs.bc_reader.Look.{NotSeen}
+use Rattle.bc_request.specs.bc_reader.declared.error.ReadError.{ReadError}
+use Rattle.bc_request.specs.bc_reader.declared.error.ReadError.TheVariants as error
 use Rattle.bc_request.specs.Line.{HasNotReadLine, HasRefusedAt}
 use Rattle.bc_request.specs.Piece.{HasNotReadPiece}
 use Rattle.bc_request.specs.Refusals.{refusal}

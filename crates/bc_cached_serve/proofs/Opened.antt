@@ -3,15 +3,15 @@ use Rattle.std.proofs.Common.{◌≡◌, ◌+◌, ◌<◌, ◌^◌, List, length
 use Rattle.std.specs.Prelude.{false, map}
 use Rattle.std.proofs.lemmas.List.{length-map}
 use Rattle.bc_cache.specs.Slots.{NodeCache}
-use Rattle.bc_deed.specs.Asked.{size_of}
+use Rattle.bc_serve.specs.bc_deed.Asked.{size_of}
 use Rattle.bc_disk.specs.Disk.{DiskFacts, StandsFor}
 use Rattle.bc_disk.specs.Stands.{settled_model}
-use Rattle.bc_hand.proofs.Knowing.{View}
-use Rattle.bc_loaded.specs.declared.loading.Loaded.{Loaded}
-use Rattle.bc_machine.specs.World.{are_plain}
-use Rattle.bc_machine.specs.declared.part.BackingPart.{BackingPart}
-use Rattle.bc_machine.specs.declared.part.CorePart.{CorePart}
-use Rattle.bc_machine.specs.declared.part.CorePart.TheVariants as part
+use Rattle.bc_serve.proofs.of_bc_hand.Knowing.{View}
+use Rattle.bc_session.specs.bc_loaded.declared.loading.Loaded.{Loaded}
+use Rattle.bc_serve.specs.bc_machine.World.{are_plain}
+use Rattle.bc_serve.specs.bc_machine.declared.part.BackingPart.{BackingPart}
+use Rattle.bc_serve.specs.bc_machine.declared.part.CorePart.{CorePart}
+use Rattle.bc_serve.specs.bc_machine.declared.part.CorePart.TheVariants as part
 use Rattle.bc_parts.specs.Seat.{PartsView, Run}
 use Rattle.bc_replay.specs.declared.held.Survey.{Survey}
 use Rattle.bc_session.specs.Open.{HasStayed, IsRunOver}

@@ -1,14 +1,14 @@
 -- Lines served one behind the other.
 use Rattle.std.proofs.Common.{◌≡◌, ℕ, suc, ◌+◌, List, [], ◌∷◌, ◌++◌, Ok, Err, length, refl, sym, subst, arith}
 use Rattle.std.specs.Prelude.{Result}
-use Rattle.bc_deed.proofs.Sequence.{done_both}
-use Rattle.bc_deed.specs.Flushed.{HasDone}
+use Rattle.bc_serve.proofs.of_bc_deed.Sequence.{done_both}
+use Rattle.bc_serve.specs.bc_deed.Flushed.{HasDone}
 use Rattle.bc_disk.specs.Disk.{DiskFacts}
 use Rattle.bc_events.specs.declared.event.Deed.{Deed}
-use Rattle.bc_hand.proofs.Knowing.{View}
-use Rattle.bc_hand.specs.Seats.{IsCoreSeat}
-use Rattle.bc_job.proofs.Looping.{done_none}
-use Rattle.bc_machine.specs.declared.part.CorePart.{CorePart}
+use Rattle.bc_serve.proofs.of_bc_hand.Knowing.{View}
+use Rattle.bc_serve.specs.bc_hand.Seats.{IsCoreSeat}
+use Rattle.bc_serve.proofs.of_bc_job.Looping.{done_none}
+use Rattle.bc_serve.specs.bc_machine.declared.part.CorePart.{CorePart}
 use Rattle.bc_model.specs.declared.history.Entry.{Entry}
 use Rattle.bc_parts.specs.Seat.{PartsView}
 use Rattle.bc_script.proofs.Marks.{is_served, one_more}

@@ -2,22 +2,22 @@
 use Rattle.std.proofs.Common.{◌≡◌, ◌≢◌, ◌⊎◌, inl, inr, ℕ, ◌<◌, ◌≤◌, Bool, List, ◌++◌, append_assoc, sym, ap, ◌∙◌, subst, arith}
 use Rattle.std.specs.Prelude.{fold, map}
 use Rattle.std.proofs.lemmas.Bool.{cases_lt}
-use Rattle.bc_deed.specs.Begun.{HasJoined}
-use Rattle.bc_deed.specs.Flushed.{HasDone}
+use Rattle.bc_serve.specs.bc_deed.Begun.{HasJoined}
+use Rattle.bc_serve.specs.bc_deed.Flushed.{HasDone}
 use Rattle.bc_disk.specs.Disk.{DiskFacts}
 use Rattle.bc_events.specs.declared.event.Deed.{Deed}
 use Rattle.bc_events.specs.declared.event.Event.{Event}
-use Rattle.bc_hand.proofs.Knowing.{View, m}
-use Rattle.bc_hand.specs.Seats.{Works, by, empty, world}
-use Rattle.bc_machine.specs.World.{after, opening}
-use Rattle.bc_machine.specs.declared.part.CorePart.{CorePart}
+use Rattle.bc_serve.proofs.of_bc_hand.Knowing.{View, m}
+use Rattle.bc_serve.specs.bc_hand.Seats.{Works, by, empty, world}
+use Rattle.bc_serve.specs.bc_machine.World.{after, opening}
+use Rattle.bc_serve.specs.bc_machine.declared.part.CorePart.{CorePart}
 use Rattle.bc_parts.specs.Machine.{IsRun}
 use Rattle.bc_parts.specs.Seat.{PartsView, Run}
 use Rattle.bc_script.specs.declared.line.Line.{Line}
 use Rattle.bc_serve.specs.Run.{events_by}
 use Rattle.bc_session.proofs.Sectors.{stay}
 use Rattle.bc_session.specs.Close.{HasClosed}
-use Rattle.bc_started.specs.First.{HasAll}
+use Rattle.bc_session.specs.bc_started.First.{HasAll}
 use Rattle.bc_super.specs.Super.{IsUsable}
 use Rattle.bc_super.specs.declared.backing.BackingSuper.{BackingSuper}
 use Rattle.bc_cached_serve.proofs.Alone.{went_on}

@@ -1,12 +1,12 @@
 -- What it is that a seat has answered a line in a run with a cache.
 use Rattle.std.specs.Prelude.{◌≡◌, ℕ, false, List}
-use Rattle.bc_deed.specs.Flushed.{HasDone}
+use Rattle.bc_serve.specs.bc_deed.Flushed.{HasDone}
 use Rattle.bc_disk.specs.Disk.{DiskFacts}
 use Rattle.bc_events.specs.declared.event.Deed.{Deed}
 use Rattle.bc_events.specs.declared.event.LineNumber.{LineNumber}
-use Rattle.bc_hand.specs.Seats.{View}
-use Rattle.bc_job.specs.declared.job.Job.{Job}
-use Rattle.bc_machine.specs.declared.part.CorePart.{CorePart}
+use Rattle.bc_serve.specs.bc_hand.Seats.{View}
+use Rattle.bc_serve.specs.bc_job.declared.job.Job.{Job}
+use Rattle.bc_serve.specs.bc_machine.declared.part.CorePart.{CorePart}
 use Rattle.bc_model.specs.declared.history.Entry.{Entry}
 use Rattle.bc_parts.specs.Seat.{PartsView}
 use Rattle.bc_request.specs.Line.{HasNotReadLine, HasReadLine}

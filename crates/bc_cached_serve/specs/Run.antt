@@ -1,21 +1,21 @@
 -- A run with a cache that serves a trace, once it was opened.
 use Rattle.std.specs.Prelude.{◌≡◌, ℕ, Bool, List, [], ◌++◌, map}
 use Rattle.bc_book.specs.Pass.{events_in}
-use Rattle.bc_deed.specs.Begun.{HasJoined}
-use Rattle.bc_deed.specs.Flushed.{HasDone}
+use Rattle.bc_serve.specs.bc_deed.Begun.{HasJoined}
+use Rattle.bc_serve.specs.bc_deed.Flushed.{HasDone}
 use Rattle.bc_disk.specs.Disk.{DiskFacts}
 use Rattle.bc_events.specs.declared.event.Deed.{Deed}
-use Rattle.bc_hand.specs.Seats.{View, by, core, world}
-use Rattle.bc_loaded.specs.declared.loading.Loaded.{Loaded}
-use Rattle.bc_machine.specs.World.{opening}
-use Rattle.bc_machine.specs.declared.part.CorePart.{CorePart}
+use Rattle.bc_serve.specs.bc_hand.Seats.{View, by, core, world}
+use Rattle.bc_session.specs.bc_loaded.declared.loading.Loaded.{Loaded}
+use Rattle.bc_serve.specs.bc_machine.World.{opening}
+use Rattle.bc_serve.specs.bc_machine.declared.part.CorePart.{CorePart}
 use Rattle.bc_parts.specs.Machine.{IsRun, state_after}
 use Rattle.bc_parts.specs.Seat.{PartsView}
 use Rattle.bc_replay.specs.declared.held.Survey.{Survey}
 use Rattle.bc_script.specs.declared.line.Line.{Line}
 use Rattle.bc_session.specs.Close.{HasClosed}
 use Rattle.bc_session.specs.Open.{IsRunOver}
-use Rattle.bc_started.specs.First.{HasAll}
+use Rattle.bc_session.specs.bc_started.First.{HasAll}
 use Rattle.bc_super.specs.Super.{data_sectors}
 use Rattle.bc_super.specs.declared.backing.BackingSuper.{BackingSuper}
 use Rattle.bc_cached_serve.specs.Deeds.{AreReading}

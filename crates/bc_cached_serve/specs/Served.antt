@@ -1,10 +1,10 @@
 -- The lines of a trace, served in order by one seat of a run with a cache.
 use Rattle.std.specs.Prelude.{◌≡◌, ℕ, suc, List, [], ◌∷◌, ◌++◌, length, Result, Ok, Err}
-use Rattle.bc_deed.specs.Flushed.{HasDone}
+use Rattle.bc_serve.specs.bc_deed.Flushed.{HasDone}
 use Rattle.bc_disk.specs.Disk.{DiskFacts}
 use Rattle.bc_events.specs.declared.event.Deed.{Deed}
-use Rattle.bc_hand.specs.Seats.{View}
-use Rattle.bc_machine.specs.declared.part.CorePart.{CorePart}
+use Rattle.bc_serve.specs.bc_hand.Seats.{View}
+use Rattle.bc_serve.specs.bc_machine.declared.part.CorePart.{CorePart}
 use Rattle.bc_parts.specs.Seat.{PartsView}
 use Rattle.bc_script.specs.Served.{Served}
 use Rattle.bc_script.specs.declared.answer.Answer.{Answer}

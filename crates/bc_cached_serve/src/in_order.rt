@@ -1,8 +1,8 @@
 //! The lines of a trace, served in order by one seat.
 ghost use Rattle.std.specs.Prelude.{◌≡◌, ◌<◌, ◌≤◌, ◌^◌, All, [], length, vec_capacity, IfErr, IfOk};
-ghost use Rattle.bc_deed.specs.Asked.{size_of};
-ghost use Rattle.bc_job.specs.Asked.{IsFor, IsRange};
-ghost use Rattle.bc_machine.specs.Plain.{worker_of};
+ghost use Rattle.bc_serve.specs.bc_deed.Asked.{size_of};
+ghost use Rattle.bc_serve.specs.bc_job.Asked.{IsFor, IsRange};
+ghost use Rattle.bc_serve.specs.bc_machine.Plain.{worker_of};
 ghost use Rattle.bc_request.specs.Asked.{IsIdle};
 ghost use Rattle.bc_script.specs.Answer.{IsPrintable};
 ghost use Rattle.bc_script.specs.Proper.{IsLine};
@@ -12,12 +12,12 @@ ghost use Rattle.bc_cached_serve.specs.Served.{HaveServed};
 use crate::refused::refused;
 use crate::unsound::Unsound;
 use bc_disk::disk::Disk;
-use bc_job::job::Job;
-use bc_machine::machine::{CoreParts, CoreSeat};
 use bc_request::error::RequestError;
 use bc_request::read::read;
 use bc_script::answer::Answer;
 use bc_script::line::{Action, Line};
+use bc_serve::bc_job::job::Job;
+use bc_serve::bc_machine::machine::{CoreParts, CoreSeat};
 use bc_worker::gate::Gate;
 use std::alloc::Global;
 use std::sync::Wait;

@@ -17,3 +17,8 @@ pub mod in_order;
 mod refused;
 pub mod unsound;
 pub mod whole_run;
+
+// Passed on, so that a crate above need not list these.
+pub use bc_serve;
+pub use bc_session;
+pub use bc_session::bc_loaded;

@@ -1,11 +1,11 @@
 //! A trace served in a run with a cache, from what the opening left of it to its end.
 ghost use Rattle.std.specs.Prelude.{◌≡◌, ◌*◌, ◌<◌, ◌≤◌, ◌^◌, All, [], false, length, vec_capacity, IfErr, IfOk};
-ghost use Rattle.bc_deed.specs.Asked.{size_of};
+ghost use Rattle.bc_serve.specs.bc_deed.Asked.{size_of};
 ghost use Rattle.bc_disk.specs.Disk.{StandsFor};
 ghost use Rattle.bc_disk.specs.Stands.{settled_model};
-ghost use Rattle.bc_hand.specs.Seats.{Works, empty, world};
-ghost use Rattle.bc_machine.specs.World.{are_plain};
-ghost use Rattle.bc_open.specs.Left.{ChangesState, LeavesThePair};
+ghost use Rattle.bc_serve.specs.bc_hand.Seats.{Works, empty, world};
+ghost use Rattle.bc_serve.specs.bc_machine.World.{are_plain};
+ghost use Rattle.bc_session.specs.bc_open.Left.{ChangesState, LeavesThePair};
 ghost use Rattle.bc_recover.specs.Read.{HasParts, IsReadOf};
 ghost use Rattle.bc_replay.specs.Causes.{OfHeld};
 ghost use Rattle.bc_script.specs.Answer.{IsPrintable};
@@ -18,14 +18,14 @@ ghost use Rattle.bc_cached_serve.specs.Run.{HasRunOn, HasRunOver, IsAlone, kept_
 
 use crate::in_order::serve_lines;
 use crate::unsound::Unsound;
-use bc_deed::run::join;
 use bc_disk::disk::Disk;
-use bc_loaded::Loaded;
-use bc_machine::machine::{CoreParts, CoreSeat};
 use bc_replay::{OpenError, Survey};
 use bc_script::answer::Answer;
 use bc_script::line::Line;
+use bc_serve::bc_deed::run::join;
+use bc_serve::bc_machine::machine::{CoreParts, CoreSeat};
 use bc_serve::whole_run::WORKER;
+use bc_session::bc_loaded::Loaded;
 use bc_session::{Closed, NotOpened, close, open};
 use bc_super::backing::BackingSuper;
 use bc_super::state::BackingState;

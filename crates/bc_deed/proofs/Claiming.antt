@@ -22,15 +22,15 @@ use Rattle.bc_events.specs.Run as core
 use Rattle.bc_known.specs.Run as machine
 use Rattle.bc_events.specs.declared.event.Deed.{Deed}
 use Rattle.bc_events.specs.declared.event.Deed.TheVariants as deed
-use Rattle.bc_machine.specs.declared.part.CorePart.TheVariants as part
-use Rattle.bc_machine.specs.World.{World, after, data_of, is_told, claim_in, share_of, Kept, kept_of, IsCandidateOf, EachIsOf, IsAmong, AreCandidatesOf, IsFlightOf, IsFlight}
-use Rattle.bc_machine.specs.Standing.{candidates_stay, leads_each}
-use Rattle.bc_machine.specs.Bare.{IsBare}
-use Rattle.bc_machine.proofs.Viewing.{plain_view}
+use Rattle.bc_hand.specs.bc_machine.declared.part.CorePart.TheVariants as part
+use Rattle.bc_hand.specs.bc_machine.World.{World, after, data_of, is_told, claim_in, share_of, Kept, kept_of, IsCandidateOf, EachIsOf, IsAmong, AreCandidatesOf, IsFlightOf, IsFlight}
+use Rattle.bc_hand.specs.bc_machine.Standing.{candidates_stay, leads_each}
+use Rattle.bc_hand.specs.bc_machine.Bare.{IsBare}
+use Rattle.bc_hand.proofs.of_bc_machine.Viewing.{plain_view}
 use Rattle.bc_data.specs.Enabled as flow_ask
-use Rattle.bc_machine.specs.Frame.{Range, by_test}
-use Rattle.bc_machine.specs.Note.{note_of, note_after, IsFirmer}
-use Rattle.bc_machine.proofs.Noting.{note_event, other_event}
+use Rattle.bc_hand.specs.bc_machine.Frame.{Range, by_test}
+use Rattle.bc_hand.specs.bc_machine.Note.{note_of, note_after, IsFirmer}
+use Rattle.bc_hand.proofs.of_bc_machine.Noting.{note_event, other_event}
 use Rattle.bc_seats.proofs.Knowing.{held}
 use Rattle.bc_hand.specs.Seats.{by, world, note, IsCoreSeat, AtDeed, MayDo, Did}
 use Rattle.bc_hand.proofs.Knowing.{View, m, framed, note_since, note_seen, opening_seen, is_plain_at}

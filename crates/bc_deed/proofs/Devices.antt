@@ -13,9 +13,9 @@ use Rattle.bc_events.specs.declared.event.LineNumber.{LineNumber}
 use Rattle.bc_events.specs.declared.event.Failure.TheVariants as failure
 use Rattle.bc_events.specs.declared.event.Deed.TheVariants as deed
 use Rattle.bc_model.specs.declared.values.Values.{Values}
-use Rattle.bc_machine.specs.declared.part.BackingPart.{BackingPart}
-use Rattle.bc_machine.specs.Frame.{by_test}
-use Rattle.bc_machine.specs.World.{Side, side_of, is_some_image, image_of, model, behind, counted, World, after, data_of, is_told, IsBackingOf}
+use Rattle.bc_hand.specs.bc_machine.declared.part.BackingPart.{BackingPart}
+use Rattle.bc_hand.specs.bc_machine.Frame.{by_test}
+use Rattle.bc_hand.specs.bc_machine.World.{Side, side_of, is_some_image, image_of, model, behind, counted, World, after, data_of, is_told, IsBackingOf}
 use Rattle.bc_events.specs.Run.{Opening}
 use Rattle.bc_hand.specs.Seats.{by}
 

@@ -5,12 +5,12 @@ use Rattle.bc_disk.specs.Stands.{settled_model}
 use Rattle.bc_flight.specs.Flight.{InFlight, claim_of}
 use Rattle.bc_parts.specs.Machine.{StandFrom}
 use Rattle.bc_disk.specs.Disk.{DiskFacts}
-use Rattle.bc_machine.specs.declared.part.BackingPart.{BackingPart}
-use Rattle.bc_machine.specs.declared.part.CorePart.{CorePart}
-use Rattle.bc_machine.specs.declared.part.CorePart.TheVariants as part
+use Rattle.bc_hand.specs.bc_machine.declared.part.BackingPart.{BackingPart}
+use Rattle.bc_hand.specs.bc_machine.declared.part.CorePart.{CorePart}
+use Rattle.bc_hand.specs.bc_machine.declared.part.CorePart.TheVariants as part
 use Rattle.bc_data.specs.Seats.{no_candidate}
-use Rattle.bc_machine.specs.World.{World, opening, StandsAs, AreCandidatesOf, kept_of, IsFlightOf, IsBackingOf, IsBacking}
-use Rattle.bc_machine.proofs.Viewing.{plain_view}
+use Rattle.bc_hand.specs.bc_machine.World.{World, opening, StandsAs, AreCandidatesOf, kept_of, IsFlightOf, IsBackingOf, IsBacking}
+use Rattle.bc_hand.proofs.of_bc_machine.Viewing.{plain_view}
 use Rattle.bc_hand.specs.Seats.{core}
 use Rattle.bc_deed.specs.Begun.{opening_parts}
 use Rattle.bc_deed.proofs.Devices.{begins_stands}

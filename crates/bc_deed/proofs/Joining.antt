@@ -7,9 +7,9 @@ use Rattle.bc_parts.specs.Later.{SeesLater}
 use Rattle.bc_parts.specs.Seat.{PartsView, Run}
 use Rattle.bc_seats.specs.Seats.{state_seen}
 use Rattle.bc_seats.proofs.Knowing.{since_later}
-use Rattle.bc_machine.specs.declared.part.CorePart.{CorePart}
-use Rattle.bc_machine.specs.World.{data_of, IsView, InEach, opening}
-use Rattle.bc_machine.proofs.Viewing.{new_view}
+use Rattle.bc_hand.specs.bc_machine.declared.part.CorePart.{CorePart}
+use Rattle.bc_hand.specs.bc_machine.World.{data_of, IsView, InEach, opening}
+use Rattle.bc_hand.proofs.of_bc_machine.Viewing.{new_view}
 use Rattle.bc_hand.specs.Seats.{world, Works, empty}
 use Rattle.bc_hand.proofs.Knowing.{View, m, fresh_since, bare_since}
 use Rattle.bc_deed.specs.Begun.{HasJoined}

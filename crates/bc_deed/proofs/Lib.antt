@@ -6,3 +6,5 @@ pub mod Joining
 pub mod Claiming
 pub mod Ending
 pub mod Sequence
+pub use Rattle.bc_hand.proofs as of_bc_hand
+pub use Rattle.bc_hand.proofs.of_bc_machine

@@ -21,23 +21,23 @@ use Rattle.bc_events.specs.declared.event.Deed.{Deed}
 use Rattle.bc_events.specs.declared.event.Deed.TheVariants as deed
 use Rattle.bc_events.specs.declared.event.Failure.TheVariants as failure
 use Rattle.bc_disk.specs.declared.disk.Device.TheVariants as which
-use Rattle.bc_machine.specs.declared.part.CorePart.{CorePart}
-use Rattle.bc_machine.specs.declared.part.CorePart.TheVariants as part
-use Rattle.bc_machine.specs.Plain.{worker_of}
-use Rattle.bc_machine.specs.World.{World, CanFollow, IsNumbered, data_of, are_plain, opening, after, IsBackingOf, IsBacking}
-use Rattle.bc_machine.specs.Standing.{leads_each}
-use Rattle.bc_machine.proofs.Viewing.{opening_stays, plain_view}
+use Rattle.bc_hand.specs.bc_machine.declared.part.CorePart.{CorePart}
+use Rattle.bc_hand.specs.bc_machine.declared.part.CorePart.TheVariants as part
+use Rattle.bc_hand.specs.bc_machine.Plain.{worker_of}
+use Rattle.bc_hand.specs.bc_machine.World.{World, CanFollow, IsNumbered, data_of, are_plain, opening, after, IsBackingOf, IsBacking}
+use Rattle.bc_hand.specs.bc_machine.Standing.{leads_each}
+use Rattle.bc_hand.proofs.of_bc_machine.Viewing.{opening_stays, plain_view}
 use Rattle.bc_shares.specs.Touched.{NamesItsChange}
-use Rattle.bc_machine.specs.Note.{note_of}
+use Rattle.bc_hand.specs.bc_machine.Note.{note_of}
 use Rattle.bc_hand.specs.declared.hand.Hand.{Hand}
 use Rattle.bc_hand.specs.Seats.{by, world, note, IsCoreSeat, AtDeed, MayDo, Did, Works}
 use Rattle.bc_hand.proofs.Knowing.{View, m, framed, opening_seen, is_plain_at, note_waited}
 use Rattle.bc_hand.proofs.Lending.{stand_kept}
-use Rattle.bc_machine.specs.Frame.{Range, by_test}
+use Rattle.bc_hand.specs.bc_machine.Frame.{Range, by_test}
 use Rattle.bc_model.specs.declared.values.Values.{Values}
 use Rattle.bc_seats.proofs.Knowing.{held}
 use Rattle.bc_events.specs.Columns.{halt_of}
-use Rattle.bc_machine.specs.declared.part.BackingPart.{BackingPart}
+use Rattle.bc_hand.specs.bc_machine.declared.part.BackingPart.{BackingPart}
 use Rattle.bc_hand.specs.declared.error.StepError.{StepError}
 use Rattle.bc_hand.specs.declared.error.StepError.TheVariants as error
 use Rattle.bc_hand.proofs.Between.{did_between}

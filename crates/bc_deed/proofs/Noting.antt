@@ -3,7 +3,7 @@ use Rattle.std.specs.Prelude.{Result, Ok, Err, OnOk, OnErr}
 use Rattle.std.proofs.Common.{◌≡◌, Bool, Some, None, ◌∙◌}
 use Rattle.bc_disk.specs.Disk.{DiskFacts}
 use Rattle.bc_events.specs.declared.event.Deed.{Deed}
-use Rattle.bc_machine.specs.Note.{note_after}
+use Rattle.bc_hand.specs.bc_machine.Note.{note_after}
 use Rattle.bc_hand.specs.Seats.{note, IsCoreSeat, Did}
 use Rattle.bc_hand.specs.declared.error.StepError.{StepError}
 use Rattle.bc_hand.specs.declared.error.StepError.TheVariants as step

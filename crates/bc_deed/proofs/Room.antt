@@ -4,8 +4,8 @@ use Rattle.std.proofs.lemmas.List.{append-nil}
 use Rattle.bc_disk.specs.Disk.{DiskFacts}
 use Rattle.bc_parts.specs.Seat.{PartsView}
 use Rattle.bc_seats.specs.Seats.{Since, Waited, Kept, Went, own_events, state_seen}
-use Rattle.bc_machine.specs.declared.part.CorePart.{CorePart}
-use Rattle.bc_machine.specs.Note.{IsFirmer}
+use Rattle.bc_hand.specs.bc_machine.declared.part.CorePart.{CorePart}
+use Rattle.bc_hand.specs.bc_machine.Note.{IsFirmer}
 use Rattle.bc_hand.specs.declared.hand.Hand.{Hand}
 use Rattle.bc_hand.specs.Seats.{note, IsCoreSeat, Works}
 use Rattle.bc_hand.proofs.Knowing.{View, m, note_waited}

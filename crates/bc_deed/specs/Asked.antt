@@ -2,16 +2,16 @@
 use Rattle.std.specs.Prelude.{◌≡◌, ℕ, Bool, ◌+◌, ◌*◌, ◌/◌, ◌^◌, ◌<◌, ◌≤◌, List, true, false, None, Some}
 use Rattle.bc_events.specs.Columns.{halt_of}
 use Rattle.bc_events.specs.declared.event.Event.{Event}
-use Rattle.bc_machine.specs.Frame.{Range}
-use Rattle.bc_machine.specs.Note.{LastWrite, Note}
+use Rattle.bc_hand.specs.bc_machine.Frame.{Range}
+use Rattle.bc_hand.specs.bc_machine.Note.{LastWrite, Note}
 use Rattle.bc_flight.specs.Claims.{is_exclusive, conflicts}
 use Rattle.bc_flight.specs.Flight.{claim_at}
 use Rattle.bc_flight.specs.declared.claim.Claim.{Claim as FlightClaim}
 use Rattle.bc_flight.specs.declared.claim.Share.{Share}
 use Rattle.bc_events.specs.declared.event.Deed.TheVariants as deed
 use Rattle.bc_hand.specs.Seats.{world}
-use Rattle.bc_machine.specs.World.{World, data_of, claim_in, data_among}
-use Rattle.bc_machine.specs.declared.part.CorePart.{CorePart}
+use Rattle.bc_hand.specs.bc_machine.World.{World, data_of, claim_in, data_among}
+use Rattle.bc_hand.specs.bc_machine.declared.part.CorePart.{CorePart}
 use Rattle.bc_disk.specs.Disk.{DiskFacts}
 use Rattle.bc_disk.specs.declared.disk.Device.TheVariants.{Backing}
 use Rattle.bc_events.specs.declared.event.Deed.{Deed}

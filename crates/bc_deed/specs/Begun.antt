@@ -5,9 +5,9 @@ use Rattle.bc_flight.specs.Flight.{InFlight}
 use Rattle.bc_parts.specs.Machine.{events_by}
 use Rattle.bc_parts.specs.Seat.{PartsView}
 use Rattle.bc_events.specs.declared.event.Event.{Event}
-use Rattle.bc_machine.specs.declared.part.BackingPart.{BackingPart}
-use Rattle.bc_machine.specs.declared.part.CorePart.{CorePart}
-use Rattle.bc_machine.specs.declared.part.CorePart.TheVariants as part
+use Rattle.bc_hand.specs.bc_machine.declared.part.BackingPart.{BackingPart}
+use Rattle.bc_hand.specs.bc_machine.declared.part.CorePart.{CorePart}
+use Rattle.bc_hand.specs.bc_machine.declared.part.CorePart.TheVariants as part
 use Rattle.bc_hand.specs.Seats.{View, Works, core, empty}
 
 -- how many parts it has

@@ -2,7 +2,7 @@
 ghost use Rattle.std.specs.Prelude.{◌≡◌, ◌+◌, ◌<◌, ◌≤◌, ◌^◌, ◌==◌, ℕ, true, false, None, Some, All, IfOk, IfErr};
 ghost use Rattle.bc_parts.specs.Seat.{Holds};
 ghost use Rattle.bc_seats.specs.Seats.{Kept};
-ghost use Rattle.bc_machine.specs.World.{IsFlight};
+ghost use Rattle.bc_hand.specs.bc_machine.World.{IsFlight};
 ghost use Rattle.bc_events.specs.declared.event.Deed.{Deed};
 ghost use Rattle.bc_flight.specs.Claims.{conflicts_any};
 ghost use Rattle.bc_flight.specs.Flight.{IsRanged};
@@ -13,10 +13,10 @@ use bc_disk::disk::Disk;
 use bc_events::event::Deed;
 use bc_flight::claim::{Claim, Share};
 use bc_flight::flight::Flight;
+use bc_hand::bc_machine::machine::{CoreParts, CoreSeat};
 use bc_hand::error::StepError;
 use bc_hand::hand::{Hand, borrow_flight, return_flight};
 use bc_hand::seat::commit;
-use bc_machine::machine::{CoreParts, CoreSeat};
 use std::sync::Wait;
 
 /// Claims `count` sectors from `first` on. `false` says that a claim that stands conflicts; then

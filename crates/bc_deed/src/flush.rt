@@ -1,7 +1,7 @@
 //! The flush of a line, as the steps that it takes.
 ghost use Rattle.std.specs.Prelude.{◌≡◌, ◌≤◌, true, OnOk, IfErr};
-ghost use Rattle.bc_machine.specs.Plain.{worker_of};
-ghost use Rattle.bc_machine.specs.World.{are_plain};
+ghost use Rattle.bc_hand.specs.bc_machine.Plain.{worker_of};
+ghost use Rattle.bc_hand.specs.bc_machine.World.{are_plain};
 ghost use Rattle.bc_hand.specs.Seats.{Works, kinds, note};
 ghost use Rattle.bc_deed.specs.Flushed.{HasFlushed, HasStopped};
 
@@ -9,9 +9,9 @@ use crate::backing::backing_barrier;
 use crate::said::{flush_done, flush_from};
 use bc_disk::disk::Disk;
 use bc_events::event::LineNumber;
+use bc_hand::bc_machine::machine::{CoreParts, CoreSeat};
 use bc_hand::error::StepError;
 use bc_hand::hand::Hand;
-use bc_machine::machine::{CoreParts, CoreSeat};
 use std::sync::Wait;
 
 /// Flushes for a line over the backing device alone: begins the flush, makes one barrier, and

@@ -14,3 +14,7 @@ pub mod flush;
 pub mod promise;
 pub mod run;
 pub mod said;
+
+// Passed on, so that a crate above need not list these.
+pub use bc_hand;
+pub use bc_hand::bc_machine;

@@ -1,13 +1,13 @@
 //! Room for deeds, which a seat asks for before the first of a sequence: so no want of memory comes
 //! between them.
 ghost use Rattle.std.specs.Prelude.{◌≡◌, ◌+◌, [], OnOk, OnErr};
-ghost use Rattle.bc_machine.specs.Note.{IsFirmer};
+ghost use Rattle.bc_hand.specs.bc_machine.Note.{IsFirmer};
 ghost use Rattle.bc_hand.specs.Seats.{Works, note};
 ghost use Rattle.bc_deed.specs.Flushed.{HasDone};
 
 use bc_disk::disk::Disk;
+use bc_hand::bc_machine::machine::{CoreParts, CoreSeat};
 use bc_hand::hand::Hand;
-use bc_machine::machine::{CoreParts, CoreSeat};
 use bc_seats::seats;
 use std::alloc::AllocError;
 use std::sync::Wait;

@@ -1,18 +1,18 @@
 //! The steps that put an entry into the history alone, and those that begin and end a line.
 ghost use Rattle.std.specs.Prelude.{◌≡◌, ◌<◌, true, None, Some, length, OnOk, OnErr, IfErr};
 ghost use Rattle.bc_model.specs.Sector.{Gives};
-ghost use Rattle.bc_machine.specs.Plain.{worker_of};
-ghost use Rattle.bc_machine.specs.World.{are_plain};
+ghost use Rattle.bc_hand.specs.bc_machine.Plain.{worker_of};
+ghost use Rattle.bc_hand.specs.bc_machine.World.{are_plain};
 ghost use Rattle.bc_events.specs.declared.event.Deed.{Deed};
 ghost use Rattle.bc_hand.specs.Seats.{Works, Did, note, world};
 ghost use Rattle.bc_deed.specs.Asked.{IsHalted, IsHaltedOr, IsLast, IsWithin};
 
 use bc_disk::disk::Disk;
 use bc_events::event::{Deed, LineNumber};
+use bc_hand::bc_machine::machine::{CoreParts, CoreSeat};
 use bc_hand::error::StepError;
 use bc_hand::hand::Hand;
 use bc_hand::seat::commit;
-use bc_machine::machine::{CoreParts, CoreSeat};
 use bc_model::values::Values;
 use std::sync::Wait;
 

@@ -20,8 +20,8 @@ use Rattle.bc_events.specs.declared.event.Failure.TheVariants as failure
 use Rattle.bc_events.specs.declared.event.Written.TheVariants as written
 use Rattle.bc_facts.specs.Seen.{seen_entry}
 use Rattle.bc_facts.specs.Whole.{Spell, bytes_of_values}
-use Rattle.bc_hand.specs.Seats.{IsCoreSeat, MayDo, by, world}
-use Rattle.bc_hand.proofs.Knowing.{View, is_plain_at, m}
+use Rattle.bc_deed.specs.bc_hand.Seats.{IsCoreSeat, MayDo, by, world}
+use Rattle.bc_deed.proofs.of_bc_hand.Knowing.{View, is_plain_at, m}
 use Rattle.bc_deed.proofs.May.{low}
 use Rattle.bc_journal.specs.Sealed.{AreBytesOf, IsWithin, Sealed, sector_at}
 use Rattle.bc_jset.specs.EntryBytes.{IsEntry}
@@ -30,7 +30,7 @@ use Rattle.bc_known.specs.Acts.{FailCache, WriteCache}
 use Rattle.bc_known.specs.Asked.{AsksWrite}
 use Rattle.bc_known.specs.Run.{IsEnabled}
 use Rattle.bc_known.specs.Laws.{IsSound}
-use Rattle.bc_machine.specs.World.{CanFollow, FromEach, IsCourseOf, IsSeenFrom, Origin, World, are_plain, data_of, replay}
+use Rattle.bc_sealing.specs.bc_machine.World.{CanFollow, FromEach, IsCourseOf, IsSeenFrom, Origin, World, are_plain, data_of, replay}
 use Rattle.bc_meta.specs.Entries.{Entry}
 use Rattle.bc_meta.specs.Layout.{entry_len}
 use Rattle.bc_meta.specs.Records.{Fixed, Nothing, Ready, Records, Safe, Sent, Stage}

@@ -5,9 +5,9 @@ use Rattle.std.proofs.lemmas.Bool.{ltb-true}
 use Rattle.std.proofs.lemmas.List.Elements.{All-head}
 use Rattle.bc_disk.specs.Disk.{DiskFacts}
 use Rattle.bc_events.specs.declared.event.Event.{Event}
-use Rattle.bc_hand.specs.Seats.{world}
-use Rattle.bc_hand.proofs.Knowing.{View, m}
-use Rattle.bc_machine.specs.World.{World, after, replay}
+use Rattle.bc_deed.specs.bc_hand.Seats.{world}
+use Rattle.bc_deed.proofs.of_bc_hand.Knowing.{View, m}
+use Rattle.bc_sealing.specs.bc_machine.World.{World, after, replay}
 use Rattle.bc_meta.specs.Records.{Records}
 use Rattle.bc_parts.specs.Machine.{IsRun}
 use Rattle.bc_seats.specs.Seats.{Foreign}

@@ -24,15 +24,15 @@ use Rattle.bc_events.specs.declared.event.Deed.TheVariants as deed
 use Rattle.bc_events.specs.declared.event.Event.{Event}
 use Rattle.bc_events.specs.declared.event.Failure.TheVariants as failure
 use Rattle.bc_events.specs.declared.event.Written.TheVariants as what
-use Rattle.bc_machine.specs.declared.part.CorePart.{CorePart}
-use Rattle.bc_machine.specs.declared.part.CorePart.TheVariants as part
-use Rattle.bc_machine.specs.Frame.{by_test}
-use Rattle.bc_machine.specs.World.{IsCache, Side, World, after, are_plain, cache_among, called, counted, model, opening, same_device}
-use Rattle.bc_hand.specs.Seats.{Did, IsCoreSeat, MayDo, by, world}
-use Rattle.bc_hand.specs.declared.error.StepError.{StepError}
-use Rattle.bc_hand.specs.declared.error.StepError.TheVariants as error
-use Rattle.bc_hand.proofs.Between.{did_between}
-use Rattle.bc_hand.proofs.Knowing.{View, framed, m}
+use Rattle.bc_sealing.specs.bc_machine.declared.part.CorePart.{CorePart}
+use Rattle.bc_sealing.specs.bc_machine.declared.part.CorePart.TheVariants as part
+use Rattle.bc_sealing.specs.bc_machine.Frame.{by_test}
+use Rattle.bc_sealing.specs.bc_machine.World.{IsCache, Side, World, after, are_plain, cache_among, called, counted, model, opening, same_device}
+use Rattle.bc_deed.specs.bc_hand.Seats.{Did, IsCoreSeat, MayDo, by, world}
+use Rattle.bc_deed.specs.bc_hand.declared.error.StepError.{StepError}
+use Rattle.bc_deed.specs.bc_hand.declared.error.StepError.TheVariants as error
+use Rattle.bc_deed.proofs.of_bc_hand.Between.{did_between}
+use Rattle.bc_deed.proofs.of_bc_hand.Knowing.{View, framed, m}
 use Rattle.bc_deed.proofs.May.{can_alone, low}
 use Rattle.bc_entry.specs.Failed.{HasFailedAtCache}
 

@@ -11,8 +11,8 @@ use Rattle.bc_events.specs.Run as core
 use Rattle.bc_events.specs.declared.event.Event.{Event}
 use Rattle.bc_known.specs.Laws.{IsSound}
 use Rattle.bc_known.proofs.Law.{At, inv_at, order_at}
-use Rattle.bc_machine.specs.Standing.{oldest_first, replay_is, replay_runs}
-use Rattle.bc_machine.specs.World.{IsCourseOf, Origin, replay}
+use Rattle.bc_sealing.specs.bc_machine.Standing.{oldest_first, replay_is, replay_runs}
+use Rattle.bc_sealing.specs.bc_machine.World.{IsCourseOf, Origin, replay}
 use Rattle.bc_meta.specs.Records as meta
 use Rattle.bc_sealing.specs.Laws.{stage_in}
 use Rattle.bc_shares.proofs.Law.{at_state}

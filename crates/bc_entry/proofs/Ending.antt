@@ -9,19 +9,19 @@ use Rattle.bc_events.specs.Run as core
 use Rattle.bc_events.specs.declared.event.Deed.TheVariants as deed
 use Rattle.bc_events.specs.declared.event.Event.{Event}
 use Rattle.bc_facts.specs.Seen.{seen_entry}
-use Rattle.bc_hand.specs.Seats.{Did, IsCoreSeat, Works, by, world}
-use Rattle.bc_hand.specs.declared.hand.Hand.{Hand}
-use Rattle.bc_hand.proofs.Knowing.{View, framed, m}
-use Rattle.bc_hand.proofs.Lends.{works_journal}
+use Rattle.bc_deed.specs.bc_hand.Seats.{Did, IsCoreSeat, Works, by, world}
+use Rattle.bc_deed.specs.bc_hand.declared.hand.Hand.{Hand}
+use Rattle.bc_deed.proofs.of_bc_hand.Knowing.{View, framed, m}
+use Rattle.bc_deed.proofs.of_bc_hand.Lends.{works_journal}
 use Rattle.bc_deed.proofs.May.{other_number}
 use Rattle.bc_journal.specs.Journal.{Journal}
 use Rattle.bc_journal.specs.Sealed.{Sealed, numbers_of}
 use Rattle.bc_known.specs.Laws.{IsSound}
-use Rattle.bc_machine.specs.Containers.{IsJournalOf, numbers_in}
-use Rattle.bc_machine.specs.Frame.{by_test}
-use Rattle.bc_machine.specs.World.{FromEach, IsCourseOf, IsJournal, Origin, replay}
-use Rattle.bc_machine.specs.declared.part.CorePart.{CorePart}
-use Rattle.bc_machine.specs.declared.part.CorePart.TheVariants as part
+use Rattle.bc_sealing.specs.bc_machine.Containers.{IsJournalOf, numbers_in}
+use Rattle.bc_sealing.specs.bc_machine.Frame.{by_test}
+use Rattle.bc_sealing.specs.bc_machine.World.{FromEach, IsCourseOf, IsJournal, Origin, replay}
+use Rattle.bc_sealing.specs.bc_machine.declared.part.CorePart.{CorePart}
+use Rattle.bc_sealing.specs.bc_machine.declared.part.CorePart.TheVariants as part
 use Rattle.bc_sealing.proofs.Acts.{law_acts}
 use Rattle.bc_sealing.proofs.Ring.{law_ring}
 use Rattle.bc_shares.specs.Shares.{journal_share}

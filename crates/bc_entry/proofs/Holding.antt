@@ -12,13 +12,13 @@ use Rattle.bc_events.specs.declared.event.Deed.{Deed}
 use Rattle.bc_events.specs.declared.event.Deed.TheVariants as deed
 use Rattle.bc_events.specs.declared.event.Event.{Event}
 use Rattle.bc_events.specs.declared.event.Written.TheVariants as written
-use Rattle.bc_hand.specs.Seats.{Did, Works, by, numbers, with_part, with_leaves, world}
-use Rattle.bc_hand.specs.declared.hand.Hand.{Hand}
-use Rattle.bc_hand.proofs.Knowing.{View, m}
+use Rattle.bc_deed.specs.bc_hand.Seats.{Did, Works, by, numbers, with_part, with_leaves, world}
+use Rattle.bc_deed.specs.bc_hand.declared.hand.Hand.{Hand}
+use Rattle.bc_deed.proofs.of_bc_hand.Knowing.{View, m}
 use Rattle.bc_journal.specs.Sealed.{Sealed}
-use Rattle.bc_machine.specs.Standing.{needs_stay, origin_before}
-use Rattle.bc_machine.specs.World.{FromEach, IsCourseOf, IsOrigin, Origin, World, after, is_call_of, replay}
-use Rattle.bc_machine.specs.declared.part.CorePart.{CorePart}
+use Rattle.bc_sealing.specs.bc_machine.Standing.{needs_stay, origin_before}
+use Rattle.bc_sealing.specs.bc_machine.World.{FromEach, IsCourseOf, IsOrigin, Origin, World, after, is_call_of, replay}
+use Rattle.bc_sealing.specs.bc_machine.declared.part.CorePart.{CorePart}
 use Rattle.bc_meta.specs.Records.{Fixed, Nothing, Ready, Safe, Sent, Stage, after_barrier}
 use Rattle.bc_needs.specs.Needs.{NeedsFrom}
 use Rattle.bc_sealing.specs.Laws.{IsUnwritten, IsWritten, stage_in, writes_entry}

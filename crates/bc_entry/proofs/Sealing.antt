@@ -17,8 +17,8 @@ use Rattle.bc_events.specs.declared.event.Deed.TheVariants as deed
 use Rattle.bc_events.specs.declared.event.Event.{Event}
 use Rattle.bc_facts.specs.Layout.{IsLayoutOf}
 use Rattle.bc_facts.specs.Seen.{bucket_of, counted, entry_rest, seen_entry, word_of}
-use Rattle.bc_hand.specs.Seats.{Did, IsCoreSeat, MayDo, by, world}
-use Rattle.bc_hand.proofs.Knowing.{View, framed, is_plain_at, m}
+use Rattle.bc_deed.specs.bc_hand.Seats.{Did, IsCoreSeat, MayDo, by, world}
+use Rattle.bc_deed.proofs.of_bc_hand.Knowing.{View, framed, is_plain_at, m}
 use Rattle.bc_deed.proofs.May.{low}
 use Rattle.bc_journal.specs.Journal.{IsJournal as IsGoodJournal, IsSealed, Journal, newest_of, number_of, place_for, waiting_words}
 use Rattle.bc_journal.specs.Ring.{following, is_free, may_begin, sectors_for, with_entry}
@@ -31,9 +31,9 @@ use Rattle.bc_known.specs.Acts.{BeginBucket, Seal, State, after}
 use Rattle.bc_known.specs.Run.{IsEnabled}
 use Rattle.bc_known.specs.Laws.{IsSound}
 use Rattle.bc_leaves.specs.Enabled.{CanSealNext}
-use Rattle.bc_machine.specs.Containers.{IsJournalOf, IsRingOf, numbers_in, sealed_numbers}
-use Rattle.bc_machine.specs.World.{CanFollow, FromEach, IsCourseOf, IsJournal, IsSeenFrom, Origin, World, are_plain, data_of, replay}
-use Rattle.bc_machine.specs.declared.part.CorePart.TheVariants as part
+use Rattle.bc_sealing.specs.bc_machine.Containers.{IsJournalOf, IsRingOf, numbers_in, sealed_numbers}
+use Rattle.bc_sealing.specs.bc_machine.World.{CanFollow, FromEach, IsCourseOf, IsJournal, IsSeenFrom, Origin, World, are_plain, data_of, replay}
+use Rattle.bc_sealing.specs.bc_machine.declared.part.CorePart.TheVariants as part
 use Rattle.bc_meta.specs.Entries.{Entry}
 use Rattle.bc_meta.specs.Layout.{entry_len}
 use Rattle.bc_meta.specs.Records.{Fixed, Nothing, Ready, Records, Safe, Sent, Stage}

@@ -10,8 +10,8 @@ use Rattle.bc_journal.specs.Journal.{Journal}
 use Rattle.bc_journal.specs.declared.place.Numbers.{Numbers}
 use Rattle.bc_leaves.specs.Parts.{AllFrom, Coming, Draft, Free, IsLive, Leaving, NoNode, Pending, Role}
 use Rattle.bc_leaves.specs.Parts as parts
-use Rattle.bc_machine.specs.Containers.{AreEntriesOf, AreLeavesOf, IsInTree, IsJournalOf}
-use Rattle.bc_machine.specs.World.{AreLeafParts, IsOrigin, Origin, World, replay}
+use Rattle.bc_sealing.specs.bc_machine.Containers.{AreEntriesOf, AreLeavesOf, IsInTree, IsJournalOf}
+use Rattle.bc_sealing.specs.bc_machine.World.{AreLeafParts, IsOrigin, Origin, World, replay}
 use Rattle.bc_node.specs.declared.pending.Entries.{Entries}
 use Rattle.bc_shares.specs.Shares.{journal_share}
 use Rattle.bc_needs.specs.Needs.{NeedsFrom, NeedsNone}

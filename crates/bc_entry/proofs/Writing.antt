@@ -7,14 +7,14 @@ use Rattle.bc_parts.specs.Seat.{Holds, PartsView}
 use Rattle.bc_seats.specs.Seats.{Kept}
 use Rattle.bc_events.specs.declared.event.Deed.TheVariants as deed
 use Rattle.bc_events.specs.declared.event.Written.TheVariants as written
-use Rattle.bc_hand.specs.Seats.{Did, IsCoreSeat, Works, by, world}
-use Rattle.bc_hand.specs.declared.hand.Hand.{Hand}
-use Rattle.bc_hand.proofs.Knowing.{View, m}
-use Rattle.bc_hand.proofs.Lends.{works_cache}
+use Rattle.bc_deed.specs.bc_hand.Seats.{Did, IsCoreSeat, Works, by, world}
+use Rattle.bc_deed.specs.bc_hand.declared.hand.Hand.{Hand}
+use Rattle.bc_deed.proofs.of_bc_hand.Knowing.{View, m}
+use Rattle.bc_deed.proofs.of_bc_hand.Lends.{works_cache}
 use Rattle.bc_deed.proofs.May.{other_number}
 use Rattle.bc_journal.specs.Sealed.{Sealed}
-use Rattle.bc_machine.specs.World.{FromEach, IsCache, replay}
-use Rattle.bc_machine.specs.declared.part.CorePart.{CorePart}
+use Rattle.bc_sealing.specs.bc_machine.World.{FromEach, IsCache, replay}
+use Rattle.bc_sealing.specs.bc_machine.declared.part.CorePart.{CorePart}
 use Rattle.bc_shares.specs.Shares.{JournalShare}
 use Rattle.bc_shares.proofs.Law.{law_journal}
 use Rattle.bc_entry.specs.Entry.{IsReadyEntry, IsSealedAs, IsWrittenEntry}

@@ -7,12 +7,12 @@ use Rattle.bc_disk.specs.Disk.{DiskFacts}
 use Rattle.bc_events.specs.Run.{State}
 use Rattle.bc_facts.specs.Layout.{IsLayoutOf}
 use Rattle.bc_facts.specs.Seen.{seen_entry}
-use Rattle.bc_hand.specs.Seats.{View, world}
-use Rattle.bc_hand.specs.declared.hand.Hand.{Hand}
+use Rattle.bc_deed.specs.bc_hand.Seats.{View, world}
+use Rattle.bc_deed.specs.bc_hand.declared.hand.Hand.{Hand}
 use Rattle.bc_journal.specs.Sealed.{AreBytesOf, Sealed, sector_at}
 use Rattle.bc_jset.specs.declared.entry.JEntry.{JEntry}
 use Rattle.bc_disk.specs.declared.geometry.Geometry.{Geometry}
-use Rattle.bc_machine.specs.World.{FromEach, Origin}
+use Rattle.bc_sealing.specs.bc_machine.World.{FromEach, Origin}
 use Rattle.bc_meta.specs.Records.{Ready, Safe, Stage}
 use Rattle.bc_sealing.specs.Laws.{IsUnwritten, IsWritten, stage_in}
 use Rattle.bc_shares.specs.Shares.{JournalShare, journal_share}

@@ -8,9 +8,9 @@ use Rattle.bc_events.specs.declared.event.Deed.{Deed}
 use Rattle.bc_events.specs.declared.event.Deed.TheVariants as deed
 use Rattle.bc_events.specs.declared.event.Failure.TheVariants as failure
 use Rattle.bc_events.specs.declared.event.Written.TheVariants as written
-use Rattle.bc_hand.specs.Seats.{View, Did}
-use Rattle.bc_hand.specs.declared.error.StepError.{StepError}
-use Rattle.bc_hand.specs.declared.error.StepError.TheVariants as error
+use Rattle.bc_deed.specs.bc_hand.Seats.{View, Did}
+use Rattle.bc_deed.specs.bc_hand.declared.error.StepError.{StepError}
+use Rattle.bc_deed.specs.bc_hand.declared.error.StepError.TheVariants as error
 use Rattle.bc_journal.specs.Sealed.{Sealed, sector_at}
 use Rattle.bc_entry.specs.Entry.{AreValuesOf}
 

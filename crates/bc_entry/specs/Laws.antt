@@ -3,12 +3,12 @@ use Rattle.std.specs.Prelude.{◌≡◌, ℕ, ◌+◌, ◌<◌, ◌≤◌, List,
 use Rattle.bc_cache.specs.Slots.{NodeCache}
 use Rattle.bc_cache.specs.declared.slots.Cached.{Cached}
 use Rattle.bc_disk.specs.Disk.{DiskFacts}
-use Rattle.bc_hand.specs.Seats.{View, core, world}
+use Rattle.bc_deed.specs.bc_hand.Seats.{View, core, world}
 use Rattle.bc_journal.specs.Journal.{Journal}
 use Rattle.bc_journal.specs.declared.heads.Heads.{Heads}
 use Rattle.bc_jset.specs.Entries.{AreEntries, FoundEntry}
 use Rattle.bc_jset.specs.declared.entry.JEntry.{JEntry}
-use Rattle.bc_machine.specs.World.{Begun, FromEach, World}
+use Rattle.bc_sealing.specs.bc_machine.World.{Begun, FromEach, World}
 use Rattle.bc_seats.specs.Seats.{Waited}
 use Rattle.bc_needs.specs.Needs.{NeedsFrom}
 use Rattle.bc_entry.specs.Seal.{AreNamed}

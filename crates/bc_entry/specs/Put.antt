@@ -12,13 +12,13 @@ use Rattle.bc_events.specs.declared.event.Event.{Event}
 use Rattle.bc_events.specs.declared.event.Failure.TheVariants as failure
 use Rattle.bc_events.specs.declared.event.Written.TheVariants as written
 use Rattle.bc_facts.specs.Seen.{entry_rest}
-use Rattle.bc_hand.specs.Seats.{View, world}
-use Rattle.bc_hand.specs.declared.error.StepError.{StepError}
-use Rattle.bc_hand.specs.declared.error.StepError.TheVariants as error
+use Rattle.bc_deed.specs.bc_hand.Seats.{View, world}
+use Rattle.bc_deed.specs.bc_hand.declared.error.StepError.{StepError}
+use Rattle.bc_deed.specs.bc_hand.declared.error.StepError.TheVariants as error
 use Rattle.bc_journal.specs.Journal.{IsSealed, Journal, entry_now}
 use Rattle.bc_journal.specs.Sealed.{Sealed, numbers_of, sector_at}
 use Rattle.bc_journal.specs.declared.heads.Heads.{Heads}
-use Rattle.bc_machine.specs.World.{FromEach}
+use Rattle.bc_sealing.specs.bc_machine.World.{FromEach}
 use Rattle.bc_entry.specs.Entry.{AreValuesOf, IsNewestEntry}
 use Rattle.bc_entry.specs.Seal.{begun_by}
 

@@ -6,14 +6,14 @@ use Rattle.bc_disk.specs.declared.geometry.Geometry.{Geometry}
 use Rattle.bc_events.specs.Run.{State}
 use Rattle.bc_events.specs.declared.event.Deed.TheVariants as deed
 use Rattle.bc_facts.specs.Seen.{bucket_of, counted, entry_rest, word_of}
-use Rattle.bc_hand.specs.Seats.{Did, View}
+use Rattle.bc_deed.specs.bc_hand.Seats.{Did, View}
 use Rattle.bc_journal.specs.Journal.{HasRoom, Journal, number_of, waiting_words}
 use Rattle.bc_journal.specs.Ring.{following, sectors_for}
 use Rattle.bc_journal.specs.Sealed.{Sealed}
 use Rattle.bc_journal.specs.declared.heads.Heads.{Heads}
 use Rattle.bc_key.specs.declared.key.Key.{Key}
 use Rattle.bc_keys.specs.Spelling.{words_of_all}
-use Rattle.bc_machine.specs.World.{Origin}
+use Rattle.bc_sealing.specs.bc_machine.World.{Origin}
 use Rattle.bc_meta.specs.Entries.{Entry}
 use Rattle.bc_shares.specs.Shares.{journal_share}
 

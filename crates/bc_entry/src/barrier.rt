@@ -6,19 +6,19 @@ ghost use Rattle.bc_events.specs.Columns.{outlasts_halt};
 ghost use Rattle.bc_events.specs.declared.event.Deed.{Deed};
 ghost use Rattle.bc_events.specs.declared.event.Failure.{Failure};
 ghost use Rattle.bc_disk.specs.declared.disk.Device.{Device};
-ghost use Rattle.bc_machine.specs.World.{IsCache, are_plain, changes};
-ghost use Rattle.bc_hand.specs.Seats.{core, by, world, kinds};
-ghost use Rattle.bc_hand.specs.Seats.{IsCoreSeat, MayDo, Works, Did, HasNoneBehindCache};
+ghost use Rattle.bc_sealing.specs.bc_machine.World.{IsCache, are_plain, changes};
+ghost use Rattle.bc_deed.specs.bc_hand.Seats.{core, by, world, kinds};
+ghost use Rattle.bc_deed.specs.bc_hand.Seats.{IsCoreSeat, MayDo, Works, Did, HasNoneBehindCache};
 ghost use Rattle.bc_entry.specs.Entry.{HasJournalAndCache, MakesFirm};
 ghost use Rattle.bc_entry.specs.Failed.{HasFailedAtCache};
 
+use bc_deed::bc_hand::error::StepError;
+use bc_deed::bc_hand::hand::Hand;
+use bc_deed::bc_hand::lend::{borrow_cache, return_cache};
+use bc_deed::bc_hand::seat::commit;
 use bc_disk::disk::{Device, Disk};
 use bc_events::event::{Deed, Failure};
-use bc_hand::error::StepError;
-use bc_hand::hand::Hand;
-use bc_hand::lend::{borrow_cache, return_cache};
-use bc_hand::seat::commit;
-use bc_machine::machine::{CoreParts, CoreSeat};
+use bc_sealing::bc_machine::machine::{CoreParts, CoreSeat};
 use std::sync::Wait;
 
 // Commits a call of the cache device, which no halt keeps out of a seat that wasn't told of one.

@@ -3,18 +3,18 @@ ghost use Rattle.std.specs.Prelude.{◌≡◌, ◌<◌, false, None, Some, OnOk,
 ghost use Rattle.bc_deed.specs.Asked.{IsHalted};
 ghost use Rattle.bc_entry.specs.Entry.{IsNewestEntry, IsSafeEntry};
 ghost use Rattle.bc_events.specs.declared.event.Deed.{Deed};
-ghost use Rattle.bc_hand.specs.Seats.{Works, Did, world};
+ghost use Rattle.bc_deed.specs.bc_hand.Seats.{Works, Did, world};
 ghost use Rattle.bc_journal.specs.Journal.{Journal};
 ghost use Rattle.bc_journal.specs.Sealed.{numbers_of};
-ghost use Rattle.bc_machine.specs.World.{FromEach, are_plain};
+ghost use Rattle.bc_sealing.specs.bc_machine.World.{FromEach, are_plain};
 
+use bc_deed::bc_hand::error::StepError;
+use bc_deed::bc_hand::hand::Hand;
+use bc_deed::bc_hand::seat::commit;
 use bc_disk::disk::Disk;
 use bc_events::event::Deed;
-use bc_hand::error::StepError;
-use bc_hand::hand::Hand;
-use bc_hand::seat::commit;
 use bc_journal::Sealed;
-use bc_machine::machine::{CoreParts, CoreSeat};
+use bc_sealing::bc_machine::machine::{CoreParts, CoreSeat};
 use std::sync::Wait;
 
 /// Makes the entry the newest durable one, once a barrier came behind its write. The journal is in

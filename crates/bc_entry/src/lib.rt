@@ -16,3 +16,8 @@ pub mod laws;
 pub mod put;
 pub mod seal;
 pub mod write;
+
+// Passed on, so that a crate above need not list these.
+pub use bc_deed;
+pub use bc_deed::bc_hand;
+pub use bc_sealing::bc_machine;

@@ -3,20 +3,20 @@ ghost use Rattle.std.specs.Prelude.{◌≡◌, ◌*◌, ◌≤◌, false, Some, 
 ghost use Rattle.bc_entry.specs.Entry.{HasJournalAndCache};
 ghost use Rattle.bc_entry.specs.Put.{GoesOn, HasCut, HasPut, IsCause};
 ghost use Rattle.bc_entry.specs.Seal.{AreNamed, CanSeal};
-ghost use Rattle.bc_hand.specs.Seats.{Works, kinds, world};
+ghost use Rattle.bc_deed.specs.bc_hand.Seats.{Works, kinds, world};
 ghost use Rattle.bc_journal.specs.Journal.{Journal};
 ghost use Rattle.bc_jset.specs.EntryBytes.{IsLevel};
-ghost use Rattle.bc_machine.specs.World.{FromEach, are_plain, cache_among};
+ghost use Rattle.bc_sealing.specs.bc_machine.World.{FromEach, are_plain, cache_among};
 
 use crate::barrier::cache_barrier;
 use crate::durable::make_durable;
 use crate::seal::seal;
 use crate::write::write_entry;
+use bc_deed::bc_hand::error::StepError;
+use bc_deed::bc_hand::hand::Hand;
 use bc_disk::disk::Disk;
-use bc_hand::error::StepError;
-use bc_hand::hand::Hand;
 use bc_journal::Heads;
-use bc_machine::machine::{CoreParts, CoreSeat};
+use bc_sealing::bc_machine::machine::{CoreParts, CoreSeat};
 use std::alloc::Global;
 use std::sync::Wait;
 

@@ -3,24 +3,24 @@ ghost use Rattle.std.specs.Prelude.{◌≡◌, ◌+◌, ◌<◌, ◌==◌, ◌++
 ghost use Rattle.bc_deed.specs.Asked.{IsHaltedOr};
 ghost use Rattle.bc_entry.specs.Entry.{IsFixedEntry};
 ghost use Rattle.bc_entry.specs.Seal.{AreNamed, CanSeal, HasSealed, begun_by, rest_of};
-ghost use Rattle.bc_hand.specs.Seats.{core, IsCoreSeat, Works, Did, world};
+ghost use Rattle.bc_deed.specs.bc_hand.Seats.{core, IsCoreSeat, Works, Did, world};
 ghost use Rattle.bc_journal.specs.Journal.{IsSealed, Journal};
 ghost use Rattle.bc_jset.specs.EntryBytes.{IsLevel};
 ghost use Rattle.bc_key.specs.Words.{words_of};
-ghost use Rattle.bc_machine.specs.World.{FromEach, IsJournal, are_plain};
+ghost use Rattle.bc_sealing.specs.bc_machine.World.{FromEach, IsJournal, are_plain};
 ghost use Rattle.bc_parts.specs.Seat.{Holds};
 ghost use Rattle.bc_seats.specs.Seats.{Kept};
 
+use bc_deed::bc_hand::error::StepError;
+use bc_deed::bc_hand::hand::Hand;
+use bc_deed::bc_hand::seat::commit;
 use bc_disk::disk::Disk;
 use bc_events::event::Deed;
-use bc_hand::error::StepError;
-use bc_hand::hand::Hand;
-use bc_hand::seat::commit;
 use bc_journal::{Heads, Journal, Sealed};
 use bc_key::{Key, encode};
 use bc_keys::word_count;
-use bc_machine::machine::{CoreParts, CoreSeat};
 use bc_node::in_blocks;
+use bc_sealing::bc_machine::machine::{CoreParts, CoreSeat};
 use std::alloc::{AllocError, Global};
 use std::sync::Wait;
 

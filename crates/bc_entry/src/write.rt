@@ -5,21 +5,21 @@ ghost use Rattle.bc_entry.specs.Entry.{HasJournalAndCache, IsReadyEntry, IsWritt
 ghost use Rattle.bc_entry.specs.Failed.{HasFailedToWrite, HasWritten};
 ghost use Rattle.bc_events.specs.Columns.{outlasts_halt};
 ghost use Rattle.bc_events.specs.declared.event.Deed.{Deed};
-ghost use Rattle.bc_hand.specs.Seats.{core, by, IsCoreSeat, MayDo, Works, Did, world};
+ghost use Rattle.bc_deed.specs.bc_hand.Seats.{core, by, IsCoreSeat, MayDo, Works, Did, world};
 ghost use Rattle.bc_journal.specs.Sealed.{AreBytesOf};
-ghost use Rattle.bc_machine.specs.World.{FromEach, IsCache, are_plain, cache_among, changes};
+ghost use Rattle.bc_sealing.specs.bc_machine.World.{FromEach, IsCache, are_plain, cache_among, changes};
 ghost use Rattle.bc_model.specs.Sector.{values_of};
 ghost use Rattle.bc_parts.specs.Seat.{Holds};
 ghost use Rattle.bc_seats.specs.Seats.{Kept};
 
 use crate::barrier::called;
+use bc_deed::bc_hand::error::StepError;
+use bc_deed::bc_hand::hand::Hand;
 use bc_disk::disk::{Device, Disk};
 use bc_events::event::{Deed, Failure, Written};
-use bc_hand::error::StepError;
-use bc_hand::hand::Hand;
 use bc_journal::Sealed;
-use bc_machine::machine::{CoreParts, CoreSeat};
 use bc_model::values::Values;
+use bc_sealing::bc_machine::machine::{CoreParts, CoreSeat};
 use std::alloc::Global;
 use std::sync::Wait;
 

@@ -3,27 +3,27 @@ use Rattle.std.proofs.Common.{◌≡◌, inl, inr, [], ℕ, ◌+◌, ◌-◌, �
 use Rattle.std.specs.Prelude.{Contains, IfOk, IfSome, OnErr, Result, Ok, Err, is_some}
 use Rattle.bc_cache.specs.Fetch.{IsUsed}
 use Rattle.bc_cache.specs.Slots.{Misses, NodeCache}
-use Rattle.bc_deed.proofs.May.{did_nothing}
+use Rattle.bc_sight.proofs.of_bc_deed.May.{did_nothing}
 use Rattle.bc_disk.specs.Disk.{DiskFacts}
 use Rattle.bc_disk.specs.declared.disk.Device.TheVariants as device
 use Rattle.bc_events.specs.declared.event.Deed.{Deed}
 use Rattle.bc_events.specs.declared.event.Deed.TheVariants as deed
 use Rattle.bc_events.specs.declared.event.Failure.TheVariants as failure
 use Rattle.bc_fetched.proofs.Law.{law_fetched, ptr_is}
-use Rattle.bc_hand.specs.Seats.{Did, Works, numbers, with_leaves, with_part, world}
-use Rattle.bc_hand.specs.declared.error.StepError.{StepError}
-use Rattle.bc_hand.specs.declared.error.StepError.TheVariants as steps
-use Rattle.bc_hand.specs.declared.hand.Hand.{Hand}
-use Rattle.bc_hand.specs.declared.hand.LeafHand.{LeafHand}
-use Rattle.bc_hand.proofs.Between.{did_between}
-use Rattle.bc_hand.proofs.Knowing.{View, m}
+use Rattle.bc_sight.specs.bc_hand.Seats.{Did, Works, numbers, with_leaves, with_part, world}
+use Rattle.bc_sight.specs.bc_hand.declared.error.StepError.{StepError}
+use Rattle.bc_sight.specs.bc_hand.declared.error.StepError.TheVariants as steps
+use Rattle.bc_sight.specs.bc_hand.declared.hand.Hand.{Hand}
+use Rattle.bc_sight.specs.bc_hand.declared.hand.LeafHand.{LeafHand}
+use Rattle.bc_sight.proofs.of_bc_hand.Between.{did_between}
+use Rattle.bc_sight.proofs.of_bc_hand.Knowing.{View, m}
 use Rattle.bc_key.specs.Key.{ptr_at}
 use Rattle.bc_key.specs.declared.key.Key.{Key}
 use Rattle.bc_key.specs.declared.ptr.Ptr.{Ptr}
-use Rattle.bc_machine.specs.Containers.{IsLeafFor, IsTreeLeaf}
-use Rattle.bc_machine.specs.Standing.{begun_stays}
-use Rattle.bc_machine.specs.World.{AreLeaves, Begun, IsCourseOf, IsOrigin, IsSpine, Origin, World, opening, replay}
-use Rattle.bc_machine.specs.declared.part.CorePart.{CorePart}
+use Rattle.bc_sight.specs.bc_machine.Containers.{IsLeafFor, IsTreeLeaf}
+use Rattle.bc_sight.specs.bc_machine.Standing.{begun_stays}
+use Rattle.bc_sight.specs.bc_machine.World.{AreLeaves, Begun, IsCourseOf, IsOrigin, IsSpine, Origin, World, opening, replay}
+use Rattle.bc_sight.specs.bc_machine.declared.part.CorePart.{CorePart}
 use Rattle.bc_model.specs.Sector.{values_of}
 use Rattle.bc_node.specs.Leaf.{Leaf}
 use Rattle.bc_node.specs.Loading.{IsDecoded, IsNotDecoded}

@@ -11,17 +11,17 @@ use Rattle.bc_events.specs.declared.event.Deed.{Deed}
 use Rattle.bc_events.specs.declared.event.Deed.TheVariants as deed
 use Rattle.bc_events.specs.declared.event.Event.{Event}
 use Rattle.bc_events.specs.declared.event.Failure.TheVariants as failure
-use Rattle.bc_hand.specs.Seats.{Did, IsCoreSeat, MayDo, by, world}
-use Rattle.bc_hand.specs.declared.error.StepError.{StepError}
-use Rattle.bc_hand.specs.declared.error.StepError.TheVariants as error
-use Rattle.bc_hand.proofs.Between.{did_between}
-use Rattle.bc_hand.proofs.Knowing.{View, framed, m}
+use Rattle.bc_sight.specs.bc_hand.Seats.{Did, IsCoreSeat, MayDo, by, world}
+use Rattle.bc_sight.specs.bc_hand.declared.error.StepError.{StepError}
+use Rattle.bc_sight.specs.bc_hand.declared.error.StepError.TheVariants as error
+use Rattle.bc_sight.proofs.of_bc_hand.Between.{did_between}
+use Rattle.bc_sight.proofs.of_bc_hand.Knowing.{View, framed, m}
 use Rattle.bc_data.specs.Data as flow
-use Rattle.bc_deed.proofs.May.{can_alone, low}
-use Rattle.bc_machine.specs.Standing.{origin_before}
-use Rattle.bc_machine.specs.World.{IsCache, World, after, model, opening}
-use Rattle.bc_machine.specs.declared.part.CorePart.{CorePart}
-use Rattle.bc_machine.specs.declared.part.CorePart.TheVariants as part
+use Rattle.bc_sight.proofs.of_bc_deed.May.{can_alone, low}
+use Rattle.bc_sight.specs.bc_machine.Standing.{origin_before}
+use Rattle.bc_sight.specs.bc_machine.World.{IsCache, World, after, model, opening}
+use Rattle.bc_sight.specs.bc_machine.declared.part.CorePart.{CorePart}
+use Rattle.bc_sight.specs.bc_machine.declared.part.CorePart.TheVariants as part
 use Rattle.bc_parts.specs.Seat.{Holds, Run}
 use Rattle.bc_record.specs.Sectors.{Has}
 use Rattle.bc_seats.specs.Seats.{Since, Waited}

@@ -11,7 +11,7 @@ use Rattle.bc_cache.specs.declared.slots.Cached.{Cached}
 use Rattle.bc_disk.specs.Device.{next_count}
 use Rattle.bc_leaves.specs.Parts.{Pending}
 use Rattle.bc_leaves.specs.Parts as parts
-use Rattle.bc_machine.specs.Containers.{AreEntriesOf, AreLeavesOf, IsHeldIn, IsInTree, IsLeafFor}
+use Rattle.bc_sight.specs.bc_machine.Containers.{AreEntriesOf, AreLeavesOf, IsHeldIn, IsInTree, IsLeafFor}
 use Rattle.bc_node.specs.Leaf.{Leaf}
 use Rattle.bc_node.specs.declared.pending.Entries.{Entries}
 use Rattle.bc_shares.specs.Shares.{leaf_share}

@@ -3,20 +3,20 @@ use Rattle.std.proofs.Common.{◌≡◌, inl, inr, ℕ, ◌+◌, ◌-◌, ◌%�
 use Rattle.std.specs.Prelude.{is_some, length, slice_get}
 use Rattle.bc_cache.specs.Slots.{HasLeaf, IsOccupied, NodeCache}
 use Rattle.bc_cache.specs.declared.slots.Cached.{Cached}
-use Rattle.bc_deed.proofs.Sequence.{done_both, done_one, one_of}
-use Rattle.bc_deed.specs.Flushed.{HasDone}
+use Rattle.bc_sight.proofs.of_bc_deed.Sequence.{done_both, done_one, one_of}
+use Rattle.bc_sight.specs.bc_deed.Flushed.{HasDone}
 use Rattle.bc_disk.specs.Disk.{DiskFacts}
 use Rattle.bc_disk.specs.declared.disk.Device.TheVariants as device
 use Rattle.bc_events.specs.declared.event.Deed.{Deed}
 use Rattle.bc_events.specs.declared.event.Deed.TheVariants as deed
 use Rattle.bc_events.specs.declared.event.Failure.TheVariants as failure
-use Rattle.bc_hand.proofs.Knowing.{View, m}
-use Rattle.bc_hand.specs.Seats.{Did, IsCoreSeat, Kinds, Works, empty, part_of, world}
-use Rattle.bc_hand.specs.declared.error.StepError.TheVariants as steps
-use Rattle.bc_hand.specs.declared.hand.Hand.{Hand}
-use Rattle.bc_hand.specs.declared.hand.LeafHand.{LeafHand}
-use Rattle.bc_machine.specs.World.{AreLeaves, cache_among}
-use Rattle.bc_machine.specs.declared.part.CorePart.{CorePart}
+use Rattle.bc_sight.proofs.of_bc_hand.Knowing.{View, m}
+use Rattle.bc_sight.specs.bc_hand.Seats.{Did, IsCoreSeat, Kinds, Works, empty, part_of, world}
+use Rattle.bc_sight.specs.bc_hand.declared.error.StepError.TheVariants as steps
+use Rattle.bc_sight.specs.bc_hand.declared.hand.Hand.{Hand}
+use Rattle.bc_sight.specs.bc_hand.declared.hand.LeafHand.{LeafHand}
+use Rattle.bc_sight.specs.bc_machine.World.{AreLeaves, cache_among}
+use Rattle.bc_sight.specs.bc_machine.declared.part.CorePart.{CorePart}
 use Rattle.bc_parts.specs.Seat.{PartsView, Run}
 use Rattle.bc_seats.specs.Seats.{Waited}
 use Rattle.bc_spine.specs.declared.leaf.LeafRange.{LeafRange}

@@ -5,7 +5,7 @@ use Rattle.bc_cache.specs.Fetch.{IsUsed}
 use Rattle.bc_cache.specs.Slots.{HasLeaf, IsOldest, Misses, NodeCache, NoneCanGo, coming, used_with, with_slot}
 use Rattle.bc_disk.specs.Device.{Among, next_count}
 use Rattle.bc_disk.specs.Disk.{DiskFacts}
-use Rattle.bc_deed.specs.Flushed.{HasDone}
+use Rattle.bc_sight.specs.bc_deed.Flushed.{HasDone}
 use Rattle.bc_disk.specs.declared.disk.Device.{Device}
 use Rattle.bc_disk.specs.declared.disk.Device.TheVariants.{Cache}
 use Rattle.bc_disk.specs.declared.geometry.Geometry.{Geometry}
@@ -13,12 +13,12 @@ use Rattle.bc_events.specs.Columns.{halt_of}
 use Rattle.bc_events.specs.declared.event.Deed.{Deed}
 use Rattle.bc_events.specs.declared.event.Deed.TheVariants as deed
 use Rattle.bc_events.specs.declared.event.Failure.TheVariants as failure
-use Rattle.bc_hand.specs.Seats.{Did, View, empty, kinds, world}
-use Rattle.bc_hand.specs.declared.error.StepError.TheVariants as steps
-use Rattle.bc_hand.specs.declared.hand.Hand.{Hand}
-use Rattle.bc_hand.specs.declared.hand.LeafHand.{LeafHand}
+use Rattle.bc_sight.specs.bc_hand.Seats.{Did, View, empty, kinds, world}
+use Rattle.bc_sight.specs.bc_hand.declared.error.StepError.TheVariants as steps
+use Rattle.bc_sight.specs.bc_hand.declared.hand.Hand.{Hand}
+use Rattle.bc_sight.specs.bc_hand.declared.hand.LeafHand.{LeafHand}
 use Rattle.bc_key.specs.declared.key.Key.{Key}
-use Rattle.bc_machine.specs.World.{AreLeaves, IsCourseOf, IsOrigin, IsSpine, Origin, World, cache_among, replay}
+use Rattle.bc_sight.specs.bc_machine.World.{AreLeaves, IsCourseOf, IsOrigin, IsSpine, Origin, World, cache_among, replay}
 use Rattle.bc_model.specs.Sector.{Image, Value, values_of}
 use Rattle.bc_node.specs.Leaf.{Leaf}
 use Rattle.bc_node.specs.Loading.{IsNotDecoded}

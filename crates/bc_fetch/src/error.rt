@@ -1,6 +1,6 @@
 //! Why a leaf isn't had.
-use bc_hand::error::StepError;
 use bc_node::NodeError;
+use bc_sight::bc_hand::error::StepError;
 
 /// Why a leaf isn't in a slot of its part.
 #[derive(Clone, Copy, Debug, PartialEq, Eq, Drop)]

@@ -1,9 +1,9 @@
 //! The step that fetches a leaf.
 ghost use Rattle.std.specs.Prelude.{◌≡◌, ◌+◌, ◌-◌, ◌*◌, ◌/◌, ◌%◌, ◌<◌, ℕ, false, None, Some, length, IfOk, IfErr, OnOk, OnErr};
 ghost use Rattle.bc_cache.specs.Slots.{HasLeaf, Misses, NoneCanGo};
-ghost use Rattle.bc_deed.specs.Asked.{AreSectors};
-ghost use Rattle.bc_hand.specs.Seats.{HasNoneBehindCache, Works, Did};
-ghost use Rattle.bc_machine.specs.World.{are_plain, cache_among};
+ghost use Rattle.bc_sight.specs.bc_deed.Asked.{AreSectors};
+ghost use Rattle.bc_sight.specs.bc_hand.Seats.{HasNoneBehindCache, Works, Did};
+ghost use Rattle.bc_sight.specs.bc_machine.World.{are_plain, cache_among};
 ghost use Rattle.bc_model.specs.Sector.{values_of};
 ghost use Rattle.bc_fetch.specs.Fetch.{HasFetched, HasPart, HasTaken, IsInSpine, IsLeafStop, IsNoLeaf, IsSameButLeaves, MayStandAt, OfBoth, OfLeaves, node_read, refusal};
 
@@ -11,11 +11,11 @@ use crate::error::LeafError;
 use crate::node::{cache_sectors, read_node};
 use crate::slot::{put_leaf, use_slot};
 use bc_disk::disk::Disk;
-use bc_hand::error::StepError;
-use bc_hand::hand::Hand;
-use bc_machine::machine::{CoreParts, CoreSeat};
 use bc_node::{Leaf, NodeError};
 use bc_reload::key_of;
+use bc_sight::bc_hand::error::StepError;
+use bc_sight::bc_hand::hand::Hand;
+use bc_sight::bc_machine::machine::{CoreParts, CoreSeat};
 use bc_spine::LeafRange;
 use bc_worker::gate::Gate;
 use std::alloc::Global;

@@ -2,18 +2,18 @@
 ghost use Rattle.std.specs.Prelude.{◌≡◌, ◌+◌, ◌-◌, ◌%◌, ◌<◌, ◌≤◌, ◌^◌, false, None, Some, length, slice_get, IsTrue, IfOk, IfErr, IfSome, OnOk, OnErr, IfNone};
 ghost use Rattle.bc_cache.specs.Slots.{IsOccupied};
 ghost use Rattle.bc_cache.specs.declared.slots.Cached.{Cached};
-ghost use Rattle.bc_hand.specs.Seats.{core, Works, HasNoneBehindSpine, HasNoneBehindLeaves, empty};
-ghost use Rattle.bc_machine.specs.World.{are_plain};
+ghost use Rattle.bc_sight.specs.bc_hand.Seats.{core, Works, HasNoneBehindSpine, HasNoneBehindLeaves, empty};
+ghost use Rattle.bc_sight.specs.bc_machine.World.{are_plain};
 ghost use Rattle.bc_seats.specs.Seats.{Waited};
 ghost use Rattle.bc_fetch.specs.Fetch.{HasLeafFor, HasPart, HasReadOne, HasShortTree, HasStoppedAt, HasTakenIn, IsInSpine, OfLeaves};
 
 use crate::error::LeafError;
 use crate::fetch::fetch;
 use bc_disk::disk::Disk;
-use bc_hand::hand::Hand;
-use bc_hand::lend::{borrow_leaves, borrow_spine, return_leaves, return_spine};
-use bc_machine::machine::{CoreParts, CoreSeat};
-use bc_machine::part::LEAVES;
+use bc_sight::bc_hand::hand::Hand;
+use bc_sight::bc_hand::lend::{borrow_leaves, borrow_spine, return_leaves, return_spine};
+use bc_sight::bc_machine::machine::{CoreParts, CoreSeat};
+use bc_sight::bc_machine::part::LEAVES;
 use bc_spine::LeafRange;
 use bc_worker::gate::Gate;
 use std::alloc::Global;

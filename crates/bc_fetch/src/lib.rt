@@ -12,3 +12,6 @@ pub mod fetch;
 pub mod leaf;
 pub mod node;
 mod slot;
+
+// Passed on, so that a crate above need not list these.
+pub use bc_sight::{bc_deed, bc_hand, bc_machine};

@@ -1,10 +1,10 @@
 //! A read of a node of the cache device.
 ghost use Rattle.std.specs.Prelude.{◌≡◌, ◌+◌, ◌*◌, ◌/◌, ◌<◌, ◌≤◌, ◌^◌, ◌==◌, ℕ, true, false, None, Some, Option, length, [], OnOk, IfErr};
-ghost use Rattle.bc_deed.specs.Asked.{AreSectors};
+ghost use Rattle.bc_sight.specs.bc_deed.Asked.{AreSectors};
 ghost use Rattle.bc_events.specs.Columns.{outlasts_halt};
 ghost use Rattle.bc_events.specs.declared.event.Deed.{Deed};
-ghost use Rattle.bc_hand.specs.Seats.{core, by, IsCoreSeat, HasNoneBehindCache, MayDo, Works, Did, world};
-ghost use Rattle.bc_machine.specs.World.{IsCache, are_plain, cache_among, changes};
+ghost use Rattle.bc_sight.specs.bc_hand.Seats.{core, by, IsCoreSeat, HasNoneBehindCache, MayDo, Works, Did, world};
+ghost use Rattle.bc_sight.specs.bc_machine.World.{IsCache, are_plain, cache_among, changes};
 ghost use Rattle.bc_model.specs.Sector.{values_of};
 ghost use Rattle.bc_parts.specs.Seat.{Holds};
 ghost use Rattle.bc_seats.specs.Seats.{Kept, Waited};
@@ -13,12 +13,12 @@ ghost use Rattle.bc_fetch.specs.Fetch.{IsSameButCache, MayStandAt, node_read};
 
 use bc_disk::disk::{Device, Disk};
 use bc_events::event::{Deed, Failure};
-use bc_hand::error::StepError;
-use bc_hand::hand::Hand;
-use bc_hand::lend::{borrow_cache, return_cache};
-use bc_hand::seat::commit;
-use bc_machine::machine::{CoreParts, CoreSeat};
 use bc_model::values::Values;
+use bc_sight::bc_hand::error::StepError;
+use bc_sight::bc_hand::hand::Hand;
+use bc_sight::bc_hand::lend::{borrow_cache, return_cache};
+use bc_sight::bc_hand::seat::commit;
+use bc_sight::bc_machine::machine::{CoreParts, CoreSeat};
 use bc_worker::gate::{Gate, Point};
 use std::alloc::Global;
 use std::sync::Wait;

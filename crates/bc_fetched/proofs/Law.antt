@@ -26,9 +26,9 @@ use Rattle.bc_leaves.specs.Keys.{last_said, ref_said}
 use Rattle.bc_leaves.specs.Parts.{Coming, Draft, Free, IsLive, Leaving, NoNode, Pending, Role, keys_of, leaf_owner}
 use Rattle.bc_leaves.specs.Parts as parts
 use Rattle.bc_leaves.proofs.Said.{last_append, or_else}
-use Rattle.bc_machine.specs.Containers.{AreEntriesOf, IsInTree, IsLeafFor, IsTreeLeaf}
-use Rattle.bc_machine.specs.Standing.{oldest_first, replay_is, replay_runs}
-use Rattle.bc_machine.specs.World.{IsCourseOf, IsUntorn, Origin, replay}
+use Rattle.bc_begun.specs.bc_machine.Containers.{AreEntriesOf, IsInTree, IsLeafFor, IsTreeLeaf}
+use Rattle.bc_begun.specs.bc_machine.Standing.{oldest_first, replay_is, replay_runs}
+use Rattle.bc_begun.specs.bc_machine.World.{IsCourseOf, IsUntorn, Origin, replay}
 use Rattle.bc_events.specs.declared.event.Event.{Event}
 use Rattle.bc_meta.specs.Facts.{In}
 use Rattle.bc_meta.specs.Layout.{Layout, is_within, node_end, sets_from, sets_in}

@@ -7,8 +7,8 @@ use Rattle.bc_facts.specs.Layout.{IsLayoutOf}
 use Rattle.bc_image.specs.Tree.{AreSetsAt}
 use Rattle.bc_key.specs.Key.{pointer_of, ptr_at}
 use Rattle.bc_key.specs.declared.key.Key.{Key}
-use Rattle.bc_machine.specs.Containers.{IsLeafFor, IsTreeLeaf}
-use Rattle.bc_machine.specs.World.{IsCourseOf, IsOrigin, Origin, World, replay}
+use Rattle.bc_begun.specs.bc_machine.Containers.{IsLeafFor, IsTreeLeaf}
+use Rattle.bc_begun.specs.bc_machine.World.{IsCourseOf, IsOrigin, Origin, World, replay}
 use Rattle.bc_meta.specs.Layout.{sets_in}
 use Rattle.bc_meta.specs.Records.{Node}
 use Rattle.bc_meta.specs.Tree.{NodeSet}

@@ -11,11 +11,11 @@ use Rattle.bc_data.specs.Enabled.{steps_of}
 use Rattle.bc_events.specs.Run as core
 use Rattle.bc_events.specs.declared.event.Deed.TheVariants as deed
 use Rattle.bc_events.specs.declared.event.Event.{Event}
-use Rattle.bc_hand.specs.Seats.{by}
-use Rattle.bc_machine.proofs.Noting.{any_acts}
-use Rattle.bc_machine.specs.Frame.{Keeps, in_acts}
-use Rattle.bc_machine.specs.Standing.{origin_before}
-use Rattle.bc_machine.specs.World.{FromEach, IsCourseOf, IsOrigin, Origin, World, after, replay}
+use Rattle.bc_entry.specs.bc_hand.Seats.{by}
+use Rattle.bc_entry.proofs.of_bc_machine.Noting.{any_acts}
+use Rattle.bc_entry.specs.bc_machine.Frame.{Keeps, in_acts}
+use Rattle.bc_entry.specs.bc_machine.Standing.{origin_before}
+use Rattle.bc_entry.specs.bc_machine.World.{FromEach, IsCourseOf, IsOrigin, Origin, World, after, replay}
 use Rattle.bc_shares.specs.Shares.{books_of}
 use Rattle.bc_flush.specs.Durable.{AreDurable, AreSealed, HaveComeIn}
 

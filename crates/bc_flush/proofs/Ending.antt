@@ -1,16 +1,16 @@
 -- When a flush may be acknowledged, and what was done until then.
 use Rattle.std.proofs.Common.{◌≡◌, ℕ, ◌≤◌, true, false, refl, sym, ap, ◌∙◌, subst, arith}
 use Rattle.bc_data.specs.Data as flow
-use Rattle.bc_deed.proofs.May.{can_alone, low}
+use Rattle.bc_entry.proofs.of_bc_deed.May.{can_alone, low}
 use Rattle.bc_disk.specs.Disk.{DiskFacts}
 use Rattle.bc_events.specs.Run.{Opening}
 use Rattle.bc_events.specs.declared.event.Deed.TheVariants as deed
 use Rattle.bc_events.specs.declared.event.LineNumber.{LineNumber}
-use Rattle.bc_hand.specs.Seats.{IsCoreSeat, MayDo, note, world}
-use Rattle.bc_hand.proofs.Knowing.{View, is_plain_at, m}
-use Rattle.bc_machine.proofs.Viewing.{opening_stays}
-use Rattle.bc_machine.specs.Plain.{worker_of}
-use Rattle.bc_machine.specs.World.{FromEach, IsSeenFrom, Origin, World, are_plain, data_of, opening}
+use Rattle.bc_entry.specs.bc_hand.Seats.{IsCoreSeat, MayDo, note, world}
+use Rattle.bc_entry.proofs.of_bc_hand.Knowing.{View, is_plain_at, m}
+use Rattle.bc_entry.proofs.of_bc_machine.Viewing.{opening_stays}
+use Rattle.bc_entry.specs.bc_machine.Plain.{worker_of}
+use Rattle.bc_entry.specs.bc_machine.World.{FromEach, IsSeenFrom, Origin, World, are_plain, data_of, opening}
 use Rattle.bc_seats.specs.Seats.{Since}
 use Rattle.bc_seats.proofs.Knowing.{still}
 use Rattle.bc_flush.specs.Durable.{IsFlushed}

@@ -4,9 +4,9 @@ use Rattle.std.specs.Prelude.{All, Err, IfErr, Ok, OnOk, Result, Vec, fold, map}
 use Rattle.std.specs.declared.alloc.Global.{Global}
 use Rattle.std.proofs.lemmas.List.Elements.{All-append, All-cons, All-head, All-nil, All-same, All-tail}
 use Rattle.std.proofs.lemmas.List.Sums.{fold-append}
-use Rattle.bc_deed.proofs.Sequence.{barrier_firm, begun_going, done_both, done_then}
-use Rattle.bc_deed.specs.Asked.{HasFailed, IsHalted}
-use Rattle.bc_deed.specs.Flushed.{HasDone}
+use Rattle.bc_entry.proofs.of_bc_deed.Sequence.{barrier_firm, begun_going, done_both, done_then}
+use Rattle.bc_entry.specs.bc_deed.Asked.{HasFailed, IsHalted}
+use Rattle.bc_entry.specs.bc_deed.Flushed.{HasDone}
 use Rattle.bc_disk.specs.Disk.{DiskFacts}
 use Rattle.bc_disk.specs.declared.disk.Device.TheVariants.{Backing}
 use Rattle.bc_entry.specs.Put.{HasFailedBehind, HasStoppedBehind, IsCut, IsCutBehind as IsCutEntry, IsPut, failed_barrier, lost_by, put_by, seal_by, write_by}
@@ -16,17 +16,17 @@ use Rattle.bc_events.specs.declared.event.Deed.TheVariants as deed
 use Rattle.bc_events.specs.declared.event.Event.{Event}
 use Rattle.bc_events.specs.declared.event.Failure.TheVariants as failure
 use Rattle.bc_events.specs.declared.event.LineNumber.{LineNumber}
-use Rattle.bc_hand.specs.Seats.{Did, IsCoreSeat, Works, by, empty, note, world}
-use Rattle.bc_hand.specs.declared.error.StepError.{StepError}
-use Rattle.bc_hand.specs.declared.error.StepError.TheVariants as step
-use Rattle.bc_hand.proofs.Knowing.{View, m}
+use Rattle.bc_entry.specs.bc_hand.Seats.{Did, IsCoreSeat, Works, by, empty, note, world}
+use Rattle.bc_entry.specs.bc_hand.declared.error.StepError.{StepError}
+use Rattle.bc_entry.specs.bc_hand.declared.error.StepError.TheVariants as step
+use Rattle.bc_entry.proofs.of_bc_hand.Knowing.{View, m}
 use Rattle.bc_journal.specs.Journal.{Journal}
 use Rattle.bc_journal.specs.Sealed.{Sealed}
 use Rattle.bc_journal.specs.declared.heads.Heads.{Heads}
-use Rattle.bc_machine.specs.Frame.{Range, is_noted}
-use Rattle.bc_machine.specs.Note.{Note, no_note, note_after, note_by}
-use Rattle.bc_machine.specs.World.{FromEach, Origin, World, are_plain}
-use Rattle.bc_machine.specs.declared.part.CorePart.{CorePart}
+use Rattle.bc_entry.specs.bc_machine.Frame.{Range, is_noted}
+use Rattle.bc_entry.specs.bc_machine.Note.{Note, no_note, note_after, note_by}
+use Rattle.bc_entry.specs.bc_machine.World.{FromEach, Origin, World, are_plain}
+use Rattle.bc_entry.specs.bc_machine.declared.part.CorePart.{CorePart}
 use Rattle.bc_model.specs.Sector.{Value}
 use Rattle.bc_parts.specs.Seat.{PartsView, Run}
 use Rattle.bc_request.specs.Asked.{IsIdle}

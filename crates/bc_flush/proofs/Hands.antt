@@ -5,14 +5,14 @@ use Rattle.std.proofs.lemmas.Bool.{leb-false, leb-true}
 use Rattle.bc_disk.specs.Disk.{DiskFacts}
 use Rattle.bc_entry.proofs.CacheDevice.{cache_sectors}
 use Rattle.bc_entry.specs.Entry.{HasJournalAndCache}
-use Rattle.bc_hand.specs.Seats.{HasNoneBehindCache, Kinds, Works, empty, kinds, part_of, world}
-use Rattle.bc_hand.specs.declared.hand.Hand.{Hand}
-use Rattle.bc_hand.specs.declared.hand.LeafHand.{LeafHand}
-use Rattle.bc_hand.proofs.Knowing.{View}
+use Rattle.bc_entry.specs.bc_hand.Seats.{HasNoneBehindCache, Kinds, Works, empty, kinds, part_of, world}
+use Rattle.bc_entry.specs.bc_hand.declared.hand.Hand.{Hand}
+use Rattle.bc_entry.specs.bc_hand.declared.hand.LeafHand.{LeafHand}
+use Rattle.bc_entry.proofs.of_bc_hand.Knowing.{View}
 use Rattle.bc_journal.specs.Journal.{Journal}
-use Rattle.bc_machine.specs.Frame.{by_test}
-use Rattle.bc_machine.specs.World.{IsCache, IsJournal, cache_among}
-use Rattle.bc_machine.specs.declared.part.CorePart.{CorePart}
+use Rattle.bc_entry.specs.bc_machine.Frame.{by_test}
+use Rattle.bc_entry.specs.bc_machine.World.{IsCache, IsJournal, cache_among}
+use Rattle.bc_entry.specs.bc_machine.declared.part.CorePart.{CorePart}
 use Rattle.bc_parts.specs.Seat.{PartsView, Run}
 use Rattle.bc_flush.specs.Sync.{IsOutside, journal_alone, journal_and_cache}
 

@@ -7,18 +7,18 @@ use Rattle.bc_data.specs.After.{seat_after, seats_after}
 use Rattle.bc_data.specs.Data as flow
 use Rattle.bc_data.specs.Data.{Act, BackingBarrier, BackingWrite, Say}
 use Rattle.bc_data.specs.Seats.{Seat, put_seat}
-use Rattle.bc_deed.specs.Flushed.{HasDone}
+use Rattle.bc_entry.specs.bc_deed.Flushed.{HasDone}
 use Rattle.bc_disk.specs.Disk.{DiskFacts}
 use Rattle.bc_events.specs.Run as core
 use Rattle.bc_events.specs.declared.event.Deed.{Deed}
 use Rattle.bc_events.specs.declared.event.Deed.TheVariants as deed
 use Rattle.bc_events.specs.declared.event.Event.{Event}
 use Rattle.bc_events.specs.declared.event.LineNumber.{LineNumber}
-use Rattle.bc_hand.specs.Seats.{Did, by, world}
-use Rattle.bc_hand.proofs.Knowing.{View}
-use Rattle.bc_machine.proofs.Noting.{any_acts}
-use Rattle.bc_machine.specs.Frame.{Keeps, Notes, by_test, in_acts, is_noted, rows, touches}
-use Rattle.bc_machine.specs.World.{FromEach, Origin, World, after, replay}
+use Rattle.bc_entry.specs.bc_hand.Seats.{Did, by, world}
+use Rattle.bc_entry.proofs.of_bc_hand.Knowing.{View}
+use Rattle.bc_entry.proofs.of_bc_machine.Noting.{any_acts}
+use Rattle.bc_entry.specs.bc_machine.Frame.{Keeps, Notes, by_test, in_acts, is_noted, rows, touches}
+use Rattle.bc_entry.specs.bc_machine.World.{FromEach, Origin, World, after, replay}
 use Rattle.bc_shares.specs.Shares.{books_of}
 use Rattle.bc_flush.specs.Durable.{AreDurable, HaveComeIn, IsFlushed}
 use Rattle.bc_flush.proofs.Counting.{after_each, onward_event, turn_replay}

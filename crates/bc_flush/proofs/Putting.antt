@@ -8,10 +8,10 @@ use Rattle.bc_entry.specs.Seal.{begun_by}
 use Rattle.bc_events.specs.declared.event.Deed.{Deed}
 use Rattle.bc_events.specs.declared.event.Deed.TheVariants as deed
 use Rattle.bc_events.specs.declared.event.Event.{Event}
-use Rattle.bc_hand.specs.Seats.{by, world}
+use Rattle.bc_entry.specs.bc_hand.Seats.{by, world}
 use Rattle.bc_journal.specs.Journal.{Journal}
 use Rattle.bc_journal.specs.Sealed.{Sealed}
-use Rattle.bc_machine.specs.World.{FromEach, Origin, World, after}
+use Rattle.bc_entry.specs.bc_machine.World.{FromEach, Origin, World, after}
 use Rattle.bc_model.specs.Sector.{Value}
 use Rattle.bc_flush.specs.Durable.{AreDurable, AreSealed, HaveComeIn}
 use Rattle.bc_flush.specs.Laws.{LawLasts, LawPut}

@@ -18,8 +18,8 @@ use Rattle.bc_events.specs.declared.event.Deed.TheVariants as deed
 use Rattle.bc_events.specs.declared.event.Event.{Event}
 use Rattle.bc_events.specs.declared.event.NewChain.{NewChain}
 use Rattle.bc_events.specs.declared.event.NewRoot.{NewRoot}
-use Rattle.bc_hand.specs.Seats.{by, world}
-use Rattle.bc_hand.proofs.Knowing.{m}
+use Rattle.bc_entry.specs.bc_hand.Seats.{by, world}
+use Rattle.bc_entry.proofs.of_bc_hand.Knowing.{m}
 use Rattle.bc_journal.specs.Journal.{Journal}
 use Rattle.bc_journal.specs.Sealed.{Sealed}
 use Rattle.bc_journal.specs.declared.heads.Heads.{Heads}
@@ -28,16 +28,16 @@ use Rattle.bc_key.specs.declared.key.Key.{Key}
 use Rattle.bc_keyed.proofs.Came.{law_came}
 use Rattle.bc_known.specs.Acts as known
 use Rattle.bc_known.specs.Acts.{BeginBucket, Seal, State}
-use Rattle.bc_machine.specs.Containers.{IsJournalOf}
-use Rattle.bc_machine.specs.Frame.{by_test}
-use Rattle.bc_machine.specs.World.{FromEach, IsOrigin, Origin, World, after, opening, replay}
-use Rattle.bc_machine.specs.declared.part.CorePart.{CorePart}
+use Rattle.bc_entry.specs.bc_machine.Containers.{IsJournalOf}
+use Rattle.bc_entry.specs.bc_machine.Frame.{by_test}
+use Rattle.bc_entry.specs.bc_machine.World.{FromEach, IsOrigin, Origin, World, after, opening, replay}
+use Rattle.bc_entry.specs.bc_machine.declared.part.CorePart.{CorePart}
 use Rattle.bc_meta.specs.Entries.{Entry}
 use Rattle.bc_meta.specs.Records.{Nothing, Records, Stage}
 use Rattle.bc_model.specs.Sector.{Value}
 use Rattle.bc_parts.specs.Machine.{IsRun}
 use Rattle.bc_parts.specs.Seat.{Run}
-use Rattle.bc_sealing.proofs.Acts.{law_acts}
+use Rattle.bc_entry.proofs.of_bc_sealing.Acts.{law_acts}
 use Rattle.bc_shares.specs.Shares.{Entries, if_sealed, journal_share}
 use Rattle.bc_shares.specs.Touched.{touches_journal}
 use Rattle.bc_shares.proofs.Law.{law_journal}

@@ -5,18 +5,18 @@ use Rattle.std.proofs.lemmas.Bool.{ltb-true}
 use Rattle.std.proofs.lemmas.List.{append-nil, append_cancel_left}
 use Rattle.std.proofs.lemmas.List.Elements.{All-append, All-cons, All-head, All-nil, All-tail, All-weaker, filter-append}
 use Rattle.std.proofs.lemmas.List.Sums.{fold-append}
-use Rattle.bc_deed.specs.Flushed.{HasDone}
+use Rattle.bc_entry.specs.bc_deed.Flushed.{HasDone}
 use Rattle.bc_disk.specs.Disk.{DiskFacts}
 use Rattle.bc_entry.specs.Seal.{IsNamed}
 use Rattle.bc_events.specs.Run as core
 use Rattle.bc_events.specs.declared.event.Deed.{Deed}
 use Rattle.bc_events.specs.declared.event.Event.{Event}
-use Rattle.bc_hand.specs.Seats.{IsCoreSeat, by, world}
-use Rattle.bc_hand.proofs.Knowing.{View, m}
+use Rattle.bc_entry.specs.bc_hand.Seats.{IsCoreSeat, by, world}
+use Rattle.bc_entry.proofs.of_bc_hand.Knowing.{View, m}
 use Rattle.bc_journal.specs.declared.heads.Heads.{Heads}
-use Rattle.bc_machine.specs.Frame.{by_test}
-use Rattle.bc_machine.specs.World.{FromEach, Origin, World, after, opening, replay}
-use Rattle.bc_machine.specs.declared.part.CorePart.{CorePart}
+use Rattle.bc_entry.specs.bc_machine.Frame.{by_test}
+use Rattle.bc_entry.specs.bc_machine.World.{FromEach, Origin, World, after, opening, replay}
+use Rattle.bc_entry.specs.bc_machine.declared.part.CorePart.{CorePart}
 use Rattle.bc_parts.specs.Machine.{IsRun}
 use Rattle.bc_parts.specs.Seat.{Run}
 use Rattle.bc_seats.proofs.Knowing.{run_on}

@@ -3,27 +3,27 @@ use Rattle.std.proofs.Common.{◌≡◌, ◌≢◌, inl, inr, ℕ, ◌+◌, ◌<
 use Rattle.std.specs.Prelude.{IfErr, IsSome, OnOk, Ok, Err, Result, reverse}
 use Rattle.std.proofs.lemmas.List.{append-nil, reverse-reverse}
 use Rattle.std.proofs.lemmas.List.Elements.{All-nil}
-use Rattle.bc_deed.proofs.May.{did_nothing}
-use Rattle.bc_deed.proofs.Sequence.{done_both, done_one}
-use Rattle.bc_deed.specs.Flushed.{HasDone}
+use Rattle.bc_entry.proofs.of_bc_deed.May.{did_nothing}
+use Rattle.bc_entry.proofs.of_bc_deed.Sequence.{done_both, done_one}
+use Rattle.bc_entry.specs.bc_deed.Flushed.{HasDone}
 use Rattle.bc_disk.specs.Disk.{DiskFacts}
 use Rattle.bc_entry.proofs.Course.{is_sealed, nothing_course, waits_course}
 use Rattle.bc_entry.specs.Put.{HasCut, HasPut, IsCause}
 use Rattle.bc_entry.specs.Seal.{AreNamed, CanSeal}
 use Rattle.bc_events.specs.declared.event.Deed.{Deed}
-use Rattle.bc_hand.specs.Seats.{IsCoreSeat, world}
-use Rattle.bc_hand.specs.declared.error.StepError.{StepError}
-use Rattle.bc_hand.specs.declared.error.StepError.TheVariants as step
-use Rattle.bc_hand.proofs.Knowing.{View, m}
+use Rattle.bc_entry.specs.bc_hand.Seats.{IsCoreSeat, world}
+use Rattle.bc_entry.specs.bc_hand.declared.error.StepError.{StepError}
+use Rattle.bc_entry.specs.bc_hand.declared.error.StepError.TheVariants as step
+use Rattle.bc_entry.proofs.of_bc_hand.Knowing.{View, m}
 use Rattle.bc_journal.proofs.Journals.{words_two}
 use Rattle.bc_journal.specs.Journal.{IsJournal as IsGoodJournal, Journal, place_for, waiting_words}
 use Rattle.bc_journal.specs.declared.heads.Heads.{Heads}
 use Rattle.bc_key.specs.declared.key.Key.{Key}
-use Rattle.bc_machine.specs.Containers.{sealed_numbers}
-use Rattle.bc_machine.specs.World.{FromEach, IsJournal, Origin, World, replay}
+use Rattle.bc_entry.specs.bc_machine.Containers.{sealed_numbers}
+use Rattle.bc_entry.specs.bc_machine.World.{FromEach, IsJournal, Origin, World, replay}
 use Rattle.bc_meta.specs.Entries.{Entry}
 use Rattle.bc_meta.specs.Records.{Stage, Nothing, Fixed, Ready, Sent, Safe}
-use Rattle.bc_sealing.specs.Laws.{stage_in}
+use Rattle.bc_entry.specs.bc_sealing.Laws.{stage_in}
 use Rattle.bc_seats.proofs.Knowing.{waited}
 use Rattle.bc_seats.specs.Seats.{Waited}
 use Rattle.bc_shares.specs.Shares.{books_of, if_sealed, journal_share}

@@ -4,16 +4,16 @@ use Rattle.std.specs.Prelude.{◌==◌, All, filter, fold, if◌then◌else◌, 
 use Rattle.std.proofs.lemmas.List.{append_cancel_left}
 use Rattle.std.proofs.lemmas.List.Elements.{All-head, All-tail, filter-append}
 use Rattle.std.proofs.lemmas.List.Sums.{fold-append}
-use Rattle.bc_deed.specs.Flushed.{HasDone}
+use Rattle.bc_entry.specs.bc_deed.Flushed.{HasDone}
 use Rattle.bc_disk.specs.Disk.{DiskFacts}
 use Rattle.bc_events.specs.Run as core
 use Rattle.bc_events.specs.declared.event.Deed.{Deed}
 use Rattle.bc_events.specs.declared.event.Event.{Event}
-use Rattle.bc_hand.specs.Seats.{by, world}
-use Rattle.bc_hand.proofs.Knowing.{View}
-use Rattle.bc_machine.specs.Frame.{by_test}
-use Rattle.bc_machine.specs.World.{FromEach, Origin, World, after, opening}
-use Rattle.bc_machine.specs.declared.part.CorePart.{CorePart}
+use Rattle.bc_entry.specs.bc_hand.Seats.{by, world}
+use Rattle.bc_entry.proofs.of_bc_hand.Knowing.{View}
+use Rattle.bc_entry.specs.bc_machine.Frame.{by_test}
+use Rattle.bc_entry.specs.bc_machine.World.{FromEach, Origin, World, after, opening}
+use Rattle.bc_entry.specs.bc_machine.declared.part.CorePart.{CorePart}
 use Rattle.bc_parts.specs.Seat.{Run}
 use Rattle.bc_flush.proofs.Counting.{Lasts}
 

@@ -2,7 +2,7 @@
 -- which the run so far is one, and so is how many insertions are meant.
 use Rattle.std.specs.Prelude.{ℕ, ◌≤◌}
 use Rattle.bc_events.specs.Run.{State}
-use Rattle.bc_machine.specs.World.{Origin}
+use Rattle.bc_entry.specs.bc_machine.World.{Origin}
 use Rattle.bc_shares.specs.Shares.{books_of}
 
 -- So many insertions have come into the index; they are in the sealed entry or in one before it;

@@ -1,13 +1,13 @@
 -- What a seat has done that flushed for a line in a run with a cache, and where it came no further.
 use Rattle.std.specs.Prelude.{◌≡◌, ◌⊎◌, ℕ, List, [], ◌∷◌, ◌++◌}
-use Rattle.bc_deed.specs.Flushed.{HasDone}
+use Rattle.bc_entry.specs.bc_deed.Flushed.{HasDone}
 use Rattle.bc_disk.specs.Disk.{DiskFacts}
 use Rattle.bc_disk.specs.declared.disk.Device.TheVariants.{Backing}
 use Rattle.bc_events.specs.declared.event.Deed.{Deed}
 use Rattle.bc_events.specs.declared.event.Deed.TheVariants as deed
 use Rattle.bc_events.specs.declared.event.Failure.TheVariants as failure
 use Rattle.bc_events.specs.declared.event.LineNumber.{LineNumber}
-use Rattle.bc_hand.specs.Seats.{View}
+use Rattle.bc_entry.specs.bc_hand.Seats.{View}
 use Rattle.bc_journal.specs.declared.heads.Heads.{Heads}
 use Rattle.bc_flush.specs.Sync.{AreSynced, IsHaltOf, IsSyncCut}
 use Rattle.bc_flush.specs.declared.error.FlushError.{FlushError}

@@ -8,9 +8,9 @@ use Rattle.bc_events.specs.declared.event.Deed.{Deed}
 use Rattle.bc_events.specs.declared.event.Deed.TheVariants as deed
 use Rattle.bc_events.specs.declared.event.Event.{Event}
 use Rattle.bc_facts.specs.Layout.{IsLayoutOf}
-use Rattle.bc_hand.specs.Seats.{View, core, world}
+use Rattle.bc_entry.specs.bc_hand.Seats.{View, core, world}
 use Rattle.bc_journal.specs.declared.heads.Heads.{Heads}
-use Rattle.bc_machine.specs.World.{FromEach, Origin, World, after}
+use Rattle.bc_entry.specs.bc_machine.World.{FromEach, Origin, World, after}
 use Rattle.bc_meta.specs.Entries.{Entry}
 use Rattle.bc_parts.specs.Machine.{IsRun}
 use Rattle.bc_shares.specs.Shares.{JournalShare, journal_share}

@@ -1,6 +1,6 @@
 -- How far the journal is durable behind an entry, and what a seat that is alone goes on to know.
 use Rattle.std.specs.Prelude.{◌≡◌, ℕ, ◌≤◌, All, List, [], Some, fold, map}
-use Rattle.bc_deed.specs.Flushed.{HasDone}
+use Rattle.bc_entry.specs.bc_deed.Flushed.{HasDone}
 use Rattle.bc_disk.specs.Disk.{DiskFacts}
 use Rattle.bc_entry.specs.Entry.{IsNewestEntry}
 use Rattle.bc_entry.specs.Laws.{heads_of}
@@ -9,11 +9,11 @@ use Rattle.bc_entry.specs.Seal.{AreNamed}
 use Rattle.bc_events.specs.declared.event.Deed.{Deed}
 use Rattle.bc_events.specs.declared.event.Event.{Event}
 use Rattle.bc_events.specs.declared.event.LineNumber.{LineNumber}
-use Rattle.bc_hand.specs.Seats.{IsCoreSeat, View, by, world}
+use Rattle.bc_entry.specs.bc_hand.Seats.{IsCoreSeat, View, by, world}
 use Rattle.bc_journal.specs.Journal.{Journal}
 use Rattle.bc_journal.specs.Sealed.{Sealed}
 use Rattle.bc_journal.specs.declared.heads.Heads.{Heads}
-use Rattle.bc_machine.specs.World.{FromEach, Origin, World, after}
+use Rattle.bc_entry.specs.bc_machine.World.{FromEach, Origin, World, after}
 use Rattle.bc_flush.specs.Durable.{AreDurable, HaveComeIn}
 use Rattle.bc_flush.specs.Flushed.{IsFlush, IsFlushCut}
 use Rattle.bc_flush.specs.Known.{IsKnown, KeepsKnown, StaysKnown}

@@ -1,6 +1,6 @@
 -- Why a flush over a cache is refused.
-use Rattle.bc_hand.specs.declared.error.StepError.{StepError}
-use Rattle.bc_hand.specs.declared.error.StepError.TheVariants as step
+use Rattle.bc_entry.specs.bc_hand.declared.error.StepError.{StepError}
+use Rattle.bc_entry.specs.bc_hand.declared.error.StepError.TheVariants as step
 use Rattle.bc_flush.specs.declared.error.FlushError.{FlushError}
 use Rattle.bc_flush.specs.declared.error.FlushError.TheVariants as flush
 

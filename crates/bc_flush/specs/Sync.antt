@@ -1,13 +1,13 @@
 -- What a seat has done that made the journal durable, and where it came no further.
 use Rattle.std.specs.Prelude.{◌≡◌, ◌≢◌, ◌⊎◌, ℕ, ◌*◌, ◌<◌, true, false, List, [], None, Some}
-use Rattle.bc_deed.specs.Flushed.{HasDone}
+use Rattle.bc_entry.specs.bc_deed.Flushed.{HasDone}
 use Rattle.bc_disk.specs.Disk.{DiskFacts}
 use Rattle.bc_entry.specs.Put.{IsCut, IsPut}
 use Rattle.bc_events.specs.Columns.{halt_of}
 use Rattle.bc_events.specs.declared.event.Deed.{Deed}
 use Rattle.bc_events.specs.declared.event.Event.{Event}
-use Rattle.bc_hand.specs.Seats.{Kinds, View}
-use Rattle.bc_hand.specs.declared.error.StepError.TheVariants as step
+use Rattle.bc_entry.specs.bc_hand.Seats.{Kinds, View}
+use Rattle.bc_entry.specs.bc_hand.declared.error.StepError.TheVariants as step
 use Rattle.bc_journal.specs.Journal.{IsSealed, Journal}
 use Rattle.bc_journal.specs.Sealed.{Sealed}
 use Rattle.bc_journal.specs.declared.heads.Heads.{Heads}

@@ -3,7 +3,7 @@ ghost use Rattle.std.specs.Prelude.{◌≡◌};
 ghost use Rattle.bc_flush.specs.Refusals.{refusal};
 
 use bc_disk::disk::Device;
-use bc_hand::error::StepError;
+use bc_entry::bc_hand::error::StepError;
 
 /// Why a flush over a cache was refused. What it did before stands, and no acknowledgement.
 #[derive(Clone, Copy, Debug, PartialEq, Eq, Drop)]

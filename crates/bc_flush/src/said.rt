@@ -1,18 +1,18 @@
 //! The step that acknowledges a flush.
 ghost use Rattle.std.specs.Prelude.{◌≡◌, ◌<◌, true, false, None, Some, OnOk, OnErr, IfErr};
-ghost use Rattle.bc_deed.specs.Asked.{IsHalted};
+ghost use Rattle.bc_entry.specs.bc_deed.Asked.{IsHalted};
 ghost use Rattle.bc_events.specs.declared.event.Deed.{Deed};
 ghost use Rattle.bc_flush.specs.Durable.{IsFlushed};
-ghost use Rattle.bc_hand.specs.Seats.{Did, Works, note, world};
-ghost use Rattle.bc_machine.specs.Plain.{worker_of};
-ghost use Rattle.bc_machine.specs.World.{FromEach, are_plain};
+ghost use Rattle.bc_entry.specs.bc_hand.Seats.{Did, Works, note, world};
+ghost use Rattle.bc_entry.specs.bc_machine.Plain.{worker_of};
+ghost use Rattle.bc_entry.specs.bc_machine.World.{FromEach, are_plain};
 
 use bc_disk::disk::Disk;
+use bc_entry::bc_hand::error::StepError;
+use bc_entry::bc_hand::hand::Hand;
+use bc_entry::bc_hand::seat::commit;
+use bc_entry::bc_machine::machine::{CoreParts, CoreSeat};
 use bc_events::event::{Deed, LineNumber};
-use bc_hand::error::StepError;
-use bc_hand::hand::Hand;
-use bc_hand::seat::commit;
-use bc_machine::machine::{CoreParts, CoreSeat};
 use std::sync::Wait;
 
 /// Acknowledges the flush of a line in a run with a cache. All that had come into the index when it

@@ -5,18 +5,18 @@ ghost use Rattle.bc_entry.specs.Seal.{AreNamed, CanSeal};
 ghost use Rattle.bc_flush.specs.Durable.{AreDurable, HaveComeIn};
 ghost use Rattle.bc_flush.specs.Known.{StaysKnown};
 ghost use Rattle.bc_flush.specs.Sync.{HasNotSynced, HasSynced, journal_alone, journal_and_cache};
-ghost use Rattle.bc_hand.specs.Seats.{Works, empty, kinds, world};
+ghost use Rattle.bc_entry.specs.bc_hand.Seats.{Works, empty, kinds, world};
 ghost use Rattle.bc_journal.specs.Journal.{Journal};
 ghost use Rattle.bc_jset.specs.EntryBytes.{IsLevel};
-ghost use Rattle.bc_machine.specs.World.{FromEach, Origin, are_plain, cache_among};
+ghost use Rattle.bc_entry.specs.bc_machine.World.{FromEach, Origin, are_plain, cache_among};
 
 use crate::error::{FlushError, refusal};
 use bc_disk::disk::Disk;
+use bc_entry::bc_hand::hand::Hand;
+use bc_entry::bc_hand::lend::{borrow_cache, borrow_journal, return_cache, return_journal};
+use bc_entry::bc_machine::machine::{CoreParts, CoreSeat};
 use bc_entry::put::put_entry;
-use bc_hand::hand::Hand;
-use bc_hand::lend::{borrow_cache, borrow_journal, return_cache, return_journal};
 use bc_journal::{Heads, Journal};
-use bc_machine::machine::{CoreParts, CoreSeat};
 use std::alloc::Global;
 use std::sync::Wait;
 

@@ -1,22 +1,22 @@
 -- What the one seat of a run knows for its flushes.
 use Rattle.std.proofs.Common.{◌≡◌, ℕ, ◌≤◌, List, Some, refl, sym, ap, ◌∙◌, subst, arith}
 use Rattle.std.specs.Prelude.{fold, map}
-use Rattle.bc_cached.specs.declared.run.Ready.{Ready}
+use Rattle.bc_started.specs.bc_cached.declared.run.Ready.{Ready}
 use Rattle.bc_disk.specs.Disk.{DiskFacts}
 use Rattle.bc_disk.specs.declared.geometry.Geometry.{Geometry}
 use Rattle.bc_entries.specs.Journal.{Journal as Read}
-use Rattle.bc_entry.specs.Entry.{IsNewestEntry}
-use Rattle.bc_entry.specs.Laws.{heads_of}
+use Rattle.bc_started.specs.bc_entry.Entry.{IsNewestEntry}
+use Rattle.bc_started.specs.bc_entry.Laws.{heads_of}
 use Rattle.bc_events.specs.declared.event.Event.{Event}
 use Rattle.bc_flush.proofs.Flushing.{law_flushes}
 use Rattle.bc_flush.proofs.Serving.{law_first, law_served}
 use Rattle.bc_flush.proofs.Staying.{law_alone}
 use Rattle.bc_flush.specs.Known.{IsKnown}
-use Rattle.bc_hand.specs.Seats.{by, world}
-use Rattle.bc_hand.proofs.Knowing.{View}
+use Rattle.bc_started.specs.bc_hand.Seats.{by, world}
+use Rattle.bc_started.proofs.of_bc_hand.Knowing.{View}
 use Rattle.bc_journal.specs.Journal.{Journal}
-use Rattle.bc_machine.specs.World.{FromEach, World, after, opening}
-use Rattle.bc_machine.specs.declared.part.CorePart.{CorePart}
+use Rattle.bc_started.specs.bc_machine.World.{FromEach, World, after, opening}
+use Rattle.bc_started.specs.bc_machine.declared.part.CorePart.{CorePart}
 use Rattle.bc_parts.specs.Seat.{PartsView, Run}
 use Rattle.bc_resume.specs.Resume.{IsResumed}
 use Rattle.bc_started.specs.Start.{HasStarted}

@@ -1,18 +1,18 @@
 -- What the one seat of a run knows for its flushes.
 use Rattle.std.specs.Prelude.{◌≡◌, ℕ, ◌≤◌}
-use Rattle.bc_cached.specs.declared.run.Ready.{Ready}
+use Rattle.bc_started.specs.bc_cached.declared.run.Ready.{Ready}
 use Rattle.bc_disk.specs.Disk.{DiskFacts}
 use Rattle.bc_disk.specs.declared.geometry.Geometry.{Geometry}
 use Rattle.bc_entries.specs.Journal.{Journal as Read}
-use Rattle.bc_entry.specs.Laws.{heads_of}
+use Rattle.bc_started.specs.bc_entry.Laws.{heads_of}
 use Rattle.bc_events.specs.declared.event.LineNumber.{LineNumber}
 use Rattle.bc_flush.specs.Flushed.{HasFlushed, HasNotFlushed}
 use Rattle.bc_flush.specs.Known.{IsKnown, StaysKnown}
 use Rattle.bc_flush.specs.declared.error.FlushError.{FlushError}
-use Rattle.bc_hand.specs.Seats.{IsCoreSeat, View, world}
+use Rattle.bc_started.specs.bc_hand.Seats.{IsCoreSeat, View, world}
 use Rattle.bc_journal.specs.declared.heads.Heads.{Heads}
-use Rattle.bc_machine.specs.World.{FromEach}
-use Rattle.bc_machine.specs.declared.part.CorePart.{CorePart}
+use Rattle.bc_started.specs.bc_machine.World.{FromEach}
+use Rattle.bc_started.specs.bc_machine.declared.part.CorePart.{CorePart}
 use Rattle.bc_parts.specs.Seat.{PartsView}
 use Rattle.bc_resume.specs.Resume.{IsResumed}
 use Rattle.bc_started.specs.First.{HasAll}

@@ -6,3 +6,6 @@ pub mod hand;
 pub mod laws;
 pub mod lend;
 pub mod seat;
+
+// Passed on, so that a crate above need not list these.
+pub use bc_machine;

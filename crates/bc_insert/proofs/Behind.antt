@@ -8,11 +8,11 @@ use Rattle.bc_data.specs.Data as flow
 use Rattle.bc_disk.specs.Disk.{DiskFacts}
 use Rattle.bc_events.specs.Run as core
 use Rattle.bc_events.specs.declared.event.Deed.{Deed}
-use Rattle.bc_hand.specs.Seats.{Did, StandIn, Works, by, numbers, with_leaves, with_part, world}
-use Rattle.bc_hand.specs.declared.hand.Hand.{Hand}
-use Rattle.bc_hand.specs.declared.hand.LeafHand.{LeafHand}
-use Rattle.bc_hand.proofs.Knowing.{View, framed, m}
-use Rattle.bc_hand.proofs.Lending.{stand_kept}
+use Rattle.bc_place.specs.bc_hand.Seats.{Did, StandIn, Works, by, numbers, with_leaves, with_part, world}
+use Rattle.bc_place.specs.bc_hand.declared.hand.Hand.{Hand}
+use Rattle.bc_place.specs.bc_hand.declared.hand.LeafHand.{LeafHand}
+use Rattle.bc_place.proofs.of_bc_hand.Knowing.{View, framed, m}
+use Rattle.bc_place.proofs.of_bc_hand.Lending.{stand_kept}
 use Rattle.bc_journal.specs.Journal.{Journal, number_of}
 use Rattle.bc_key.specs.declared.key.Key.{Key}
 use Rattle.bc_keyed.specs.Came.{HaveCome, WereAdded}
@@ -22,12 +22,12 @@ use Rattle.bc_keyed.proofs.Journal.{law_journal}
 use Rattle.bc_keyed.proofs.Leaves.{law_leaves}
 use Rattle.bc_known.specs.Acts as known
 use Rattle.bc_known.specs.Acts.{Keyed}
-use Rattle.bc_machine.specs.Containers.{AreLeavesOf, IsJournalOf}
-use Rattle.bc_machine.specs.Standing.{needs_stay, origin_before}
-use Rattle.bc_machine.specs.World.{AreBuckets, AreLeaves, FromEach, IsCourseOf, IsJournal, IsOrigin, Origin, World, changes, replay}
-use Rattle.bc_machine.specs.declared.part.BucketsPart.{BucketsPart}
-use Rattle.bc_machine.specs.declared.part.CorePart.{CorePart}
-use Rattle.bc_machine.specs.declared.part.CorePart.TheVariants as part
+use Rattle.bc_place.specs.bc_machine.Containers.{AreLeavesOf, IsJournalOf}
+use Rattle.bc_place.specs.bc_machine.Standing.{needs_stay, origin_before}
+use Rattle.bc_place.specs.bc_machine.World.{AreBuckets, AreLeaves, FromEach, IsCourseOf, IsJournal, IsOrigin, Origin, World, changes, replay}
+use Rattle.bc_place.specs.bc_machine.declared.part.BucketsPart.{BucketsPart}
+use Rattle.bc_place.specs.bc_machine.declared.part.CorePart.{CorePart}
+use Rattle.bc_place.specs.bc_machine.declared.part.CorePart.TheVariants as part
 use Rattle.bc_needs.specs.Needs.{NeedsFrom}
 use Rattle.bc_parts.specs.Seat.{Holds, PartsView}
 use Rattle.bc_seats.specs.Seats.{Kept}

@@ -5,21 +5,21 @@ use Rattle.bc_cache.specs.Slots.{IsSlotOf}
 use Rattle.bc_cache.specs.declared.slots.Cached.{Cached}
 use Rattle.bc_data.specs.Data as flow
 use Rattle.bc_data.specs.Data.{DropKeys}
-use Rattle.bc_deed.specs.Asked.{size_of}
+use Rattle.bc_place.specs.bc_deed.Asked.{size_of}
 use Rattle.bc_disk.specs.Disk.{DiskFacts}
 use Rattle.bc_events.specs.Keys.{book_keys}
 use Rattle.bc_events.specs.declared.event.Deed.{Deed}
 use Rattle.bc_events.specs.declared.event.Deed.TheVariants as deed
 use Rattle.bc_events.specs.declared.event.Form.TheVariants as form
-use Rattle.bc_hand.specs.Seats.{Did, Works, by, note, world}
-use Rattle.bc_hand.specs.declared.hand.Hand.{Hand}
-use Rattle.bc_hand.proofs.Knowing.{View, m}
+use Rattle.bc_place.specs.bc_hand.Seats.{Did, Works, by, note, world}
+use Rattle.bc_place.specs.bc_hand.declared.hand.Hand.{Hand}
+use Rattle.bc_place.proofs.of_bc_hand.Knowing.{View, m}
 use Rattle.bc_journal.specs.Journal.{IsJournal as IsGoodJournal}
 use Rattle.bc_key.specs.declared.key.Key.{Key}
 use Rattle.bc_known.specs.Acts as known
-use Rattle.bc_machine.specs.Containers.{AreBucketsOf}
-use Rattle.bc_machine.specs.World.{AreBuckets, Origin, are_plain, changes, replay}
-use Rattle.bc_machine.specs.declared.part.CorePart.{CorePart}
+use Rattle.bc_place.specs.bc_machine.Containers.{AreBucketsOf}
+use Rattle.bc_place.specs.bc_machine.World.{AreBuckets, Origin, are_plain, changes, replay}
+use Rattle.bc_place.specs.bc_machine.declared.part.CorePart.{CorePart}
 use Rattle.bc_parts.specs.Seat.{PartsView}
 use Rattle.bc_seats.specs.Seats.{Kept}
 use Rattle.bc_shares.specs.Shares.{books_of}

@@ -14,8 +14,8 @@ use Rattle.bc_data.specs.Data as flow
 use Rattle.bc_data.specs.Data.{DropKeys, claim_of, index_of}
 use Rattle.bc_data.specs.Enabled.{CanInsert, IsBacked}
 use Rattle.bc_data.proofs.Runs.{sector_range}
-use Rattle.bc_deed.specs.Asked.{size_of}
-use Rattle.bc_deed.proofs.May.{low, size_at}
+use Rattle.bc_place.specs.bc_deed.Asked.{size_of}
+use Rattle.bc_place.proofs.of_bc_deed.May.{low, size_at}
 use Rattle.bc_disk.specs.Disk.{DiskFacts}
 use Rattle.bc_disk.specs.declared.geometry.Geometry.{Geometry}
 use Rattle.bc_facts.specs.Layout.{IsLayoutOf}
@@ -25,10 +25,10 @@ use Rattle.bc_events.specs.declared.event.Deed.{Deed}
 use Rattle.bc_events.specs.declared.event.Deed.TheVariants as deed
 use Rattle.bc_events.specs.declared.event.Form.TheVariants as form
 use Rattle.bc_events.proofs.Keys.{law_keys as same_keys}
-use Rattle.bc_hand.specs.Seats.{MayDo, Works, by, note, numbers, with_leaves, with_part, world}
-use Rattle.bc_hand.specs.declared.hand.Hand.{Hand}
-use Rattle.bc_hand.specs.declared.hand.LeafHand.{LeafHand}
-use Rattle.bc_hand.proofs.Knowing.{View, is_plain_at}
+use Rattle.bc_place.specs.bc_hand.Seats.{MayDo, Works, by, note, numbers, with_leaves, with_part, world}
+use Rattle.bc_place.specs.bc_hand.declared.hand.Hand.{Hand}
+use Rattle.bc_place.specs.bc_hand.declared.hand.LeafHand.{LeafHand}
+use Rattle.bc_place.proofs.of_bc_hand.Knowing.{View, is_plain_at}
 use Rattle.bc_image.specs.Sound.{LiesWithin}
 use Rattle.bc_key.specs.Key.{Covers, start_of}
 use Rattle.bc_key.specs.Key as key
@@ -41,13 +41,13 @@ use Rattle.bc_known.specs.Run.{IsEnabled}
 use Rattle.bc_leaves.specs.Frame.{AllWithin}
 use Rattle.bc_leaves.specs.Parts.{Coming, Draft, Free, Leaving, NoNode, Role}
 use Rattle.bc_leaves.specs.Parts as parts
-use Rattle.bc_looks.proofs.Law.{law_keys, law_slots}
-use Rattle.bc_machine.specs.Containers.{AreLeavesOf, IsInTree, IsLeafFor}
-use Rattle.bc_machine.specs.Frame.{Range, range_of}
-use Rattle.bc_machine.specs.Note.{note_of}
-use Rattle.bc_machine.specs.World.{AreBuckets, AreLeaves, CanFollow, IsJournal, changes, IsCourseOf, IsOrigin, IsSeenFrom, Origin, World, are_plain, data_of, replay}
-use Rattle.bc_machine.specs.declared.part.CorePart.{CorePart}
-use Rattle.bc_machine.specs.declared.part.CorePart.TheVariants as part
+use Rattle.bc_sight.proofs.of_bc_looks.Law.{law_keys, law_slots}
+use Rattle.bc_place.specs.bc_machine.Containers.{AreLeavesOf, IsInTree, IsLeafFor}
+use Rattle.bc_place.specs.bc_machine.Frame.{Range, range_of}
+use Rattle.bc_place.specs.bc_machine.Note.{note_of}
+use Rattle.bc_place.specs.bc_machine.World.{AreBuckets, AreLeaves, CanFollow, IsJournal, changes, IsCourseOf, IsOrigin, IsSeenFrom, Origin, World, are_plain, data_of, replay}
+use Rattle.bc_place.specs.bc_machine.declared.part.CorePart.{CorePart}
+use Rattle.bc_place.specs.bc_machine.declared.part.CorePart.TheVariants as part
 use Rattle.bc_meta.specs.Keys.{Ref}
 use Rattle.bc_node.specs.Leaf.{AreWithin, Leaf}
 use Rattle.bc_parts.specs.Seat.{Holds, PartsView}

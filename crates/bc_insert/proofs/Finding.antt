@@ -2,11 +2,11 @@
 use Rattle.std.proofs.Common.{◌≡◌, ℕ, List, Some, sym, ap, ◌∙◌, subst}
 use Rattle.bc_cache.specs.Slots.{IsSlotOf}
 use Rattle.bc_cache.specs.declared.slots.Cached.{Cached}
-use Rattle.bc_hand.specs.declared.hand.Hand.{Hand}
-use Rattle.bc_hand.specs.declared.hand.LeafHand.{LeafHand}
+use Rattle.bc_place.specs.bc_hand.declared.hand.Hand.{Hand}
+use Rattle.bc_place.specs.bc_hand.declared.hand.LeafHand.{LeafHand}
 use Rattle.bc_key.specs.declared.key.Key.{Key}
 use Rattle.bc_fill.specs.declared.fill.Placed.{Placed}
-use Rattle.bc_machine.specs.declared.part.BucketsPart.{BucketsPart}
+use Rattle.bc_place.specs.bc_machine.declared.part.BucketsPart.{BucketsPart}
 use Rattle.bc_place.specs.Next.{HasNamed}
 use Rattle.bc_insert.specs.Insert.{CanPutIn, HasPutIn}
 use Rattle.bc_insert.specs.Write.{HasPutWrite}

@@ -9,10 +9,10 @@ use Rattle.bc_disk.specs.Disk.{DiskFacts}
 use Rattle.bc_disk.specs.declared.disk.Device.TheVariants.{Backing, Cache}
 use Rattle.bc_events.specs.Columns.{call_by}
 use Rattle.bc_events.specs.declared.event.Deed.{Deed}
-use Rattle.bc_hand.specs.Seats.{Works, by, numbers, with_leaves, with_part, world}
-use Rattle.bc_hand.specs.declared.hand.Hand.{Hand}
-use Rattle.bc_hand.specs.declared.hand.LeafHand.{LeafHand}
-use Rattle.bc_hand.proofs.Knowing.{View}
+use Rattle.bc_place.specs.bc_hand.Seats.{Works, by, numbers, with_leaves, with_part, world}
+use Rattle.bc_place.specs.bc_hand.declared.hand.Hand.{Hand}
+use Rattle.bc_place.specs.bc_hand.declared.hand.LeafHand.{LeafHand}
+use Rattle.bc_place.proofs.of_bc_hand.Knowing.{View}
 use Rattle.bc_image.specs.Sound.{LiesWithin}
 use Rattle.bc_journal.specs.Journal.{Journal}
 use Rattle.bc_key.specs.declared.key.Key.{Key}
@@ -20,10 +20,10 @@ use Rattle.bc_known.specs.Acts as known
 use Rattle.bc_leaves.specs.Frame.{AllWithin}
 use Rattle.bc_leaves.specs.Parts.{Coming, Draft, Free, Leaving, NoNode, Role}
 use Rattle.bc_leaves.specs.Parts as parts
-use Rattle.bc_looks.proofs.Law.{law_keys, law_slots}
-use Rattle.bc_machine.specs.Containers.{AreLeavesOf, IsInTree, IsLeafFor}
-use Rattle.bc_machine.specs.World.{AreBuckets, AreLeaves, IsCourseOf, IsJournal, IsOrigin, Origin, World, changes, is_call_of, lies_in, replay, touches_flight, touches_leaves}
-use Rattle.bc_machine.specs.declared.part.CorePart.{CorePart}
+use Rattle.bc_sight.proofs.of_bc_looks.Law.{law_keys, law_slots}
+use Rattle.bc_place.specs.bc_machine.Containers.{AreLeavesOf, IsInTree, IsLeafFor}
+use Rattle.bc_place.specs.bc_machine.World.{AreBuckets, AreLeaves, IsCourseOf, IsJournal, IsOrigin, Origin, World, changes, is_call_of, lies_in, replay, touches_flight, touches_leaves}
+use Rattle.bc_place.specs.bc_machine.declared.part.CorePart.{CorePart}
 use Rattle.bc_meta.proofs.Lists.{by_test}
 use Rattle.bc_node.specs.Leaf.{AreWithin}
 use Rattle.bc_parts.specs.Seat.{Holds, PartsView}

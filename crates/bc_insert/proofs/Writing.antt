@@ -12,8 +12,8 @@ use Rattle.bc_data.specs.Data as flow
 use Rattle.bc_data.specs.Data.{claim_of}
 use Rattle.bc_data.specs.Enabled.{CanInsertWrite}
 use Rattle.bc_data.specs.Seats.{Covers}
-use Rattle.bc_deed.specs.Asked.{IsWithin, MayWrite, size_of}
-use Rattle.bc_deed.proofs.May.{low, size_at}
+use Rattle.bc_place.specs.bc_deed.Asked.{IsWithin, MayWrite, size_of}
+use Rattle.bc_place.proofs.of_bc_deed.May.{low, size_at}
 use Rattle.bc_disk.specs.Disk.{DiskFacts}
 use Rattle.bc_events.specs.Keys.{book_keys}
 use Rattle.bc_events.specs.Run as core
@@ -21,21 +21,21 @@ use Rattle.bc_events.specs.declared.event.Deed.{Deed}
 use Rattle.bc_events.specs.declared.event.Deed.TheVariants as deed
 use Rattle.bc_events.specs.declared.event.LineNumber.{LineNumber}
 use Rattle.bc_fill.specs.declared.fill.Placed.{Placed}
-use Rattle.bc_hand.specs.Seats.{AtDeed, MayDo, Works, by, note, world}
-use Rattle.bc_hand.specs.declared.hand.Hand.{Hand}
-use Rattle.bc_hand.proofs.Knowing.{View}
+use Rattle.bc_place.specs.bc_hand.Seats.{AtDeed, MayDo, Works, by, note, world}
+use Rattle.bc_place.specs.bc_hand.declared.hand.Hand.{Hand}
+use Rattle.bc_place.proofs.of_bc_hand.Knowing.{View}
 use Rattle.bc_image.specs.Sound.{LiesWithin}
 use Rattle.bc_key.specs.declared.key.Key.{Key}
 use Rattle.bc_known.specs.Acts as known
 use Rattle.bc_known.specs.Acts.{Keyed}
 use Rattle.bc_known.specs.Run.{IsEnabled}
-use Rattle.bc_machine.specs.Frame.{Range, range_of}
-use Rattle.bc_machine.specs.Plain.{worker_of}
-use Rattle.bc_machine.proofs.Viewing.{opening_stays}
-use Rattle.bc_machine.specs.Standing.{origin_before}
-use Rattle.bc_machine.specs.World.{AreLeaves, FromEach, IsCourseOf, IsOrigin, Origin, World, are_plain, opening, replay, seen_from}
-use Rattle.bc_machine.specs.declared.part.CorePart.{CorePart}
-use Rattle.bc_machine.specs.declared.part.CorePart.TheVariants as part
+use Rattle.bc_place.specs.bc_machine.Frame.{Range, range_of}
+use Rattle.bc_place.specs.bc_machine.Plain.{worker_of}
+use Rattle.bc_place.proofs.of_bc_machine.Viewing.{opening_stays}
+use Rattle.bc_place.specs.bc_machine.Standing.{origin_before}
+use Rattle.bc_place.specs.bc_machine.World.{AreLeaves, FromEach, IsCourseOf, IsOrigin, Origin, World, are_plain, opening, replay, seen_from}
+use Rattle.bc_place.specs.bc_machine.declared.part.CorePart.{CorePart}
+use Rattle.bc_place.specs.bc_machine.declared.part.CorePart.TheVariants as part
 use Rattle.bc_node.specs.Leaf.{AreWithin}
 use Rattle.bc_parts.specs.Seat.{PartsView}
 use Rattle.bc_place.specs.Named.{AreFilled, AreKeysFor, AreOnDevice, AreOwnIn, sectors_of}

@@ -17,17 +17,17 @@ use Rattle.bc_events.specs.declared.event.Deed.TheVariants as deed
 use Rattle.bc_events.specs.declared.event.LineNumber.{LineNumber}
 use Rattle.bc_fill.specs.Fresh.{IsOf}
 use Rattle.bc_fill.specs.declared.fill.Placed.{Placed}
-use Rattle.bc_hand.specs.Seats.{Did, Works, by, world}
-use Rattle.bc_hand.specs.declared.hand.Hand.{Hand}
-use Rattle.bc_hand.proofs.Knowing.{View, m}
+use Rattle.bc_place.specs.bc_hand.Seats.{Did, Works, by, world}
+use Rattle.bc_place.specs.bc_hand.declared.hand.Hand.{Hand}
+use Rattle.bc_place.proofs.of_bc_hand.Knowing.{View, m}
 use Rattle.bc_key.specs.declared.key.Key.{Key}
 use Rattle.bc_known.specs.Acts as known
-use Rattle.bc_machine.specs.Containers.{AreBucketsOf}
-use Rattle.bc_machine.specs.Frame.{by_test}
-use Rattle.bc_machine.specs.Standing.{origin_before}
-use Rattle.bc_machine.specs.World.{AreBuckets, FromEach, Origin, changes, replay}
-use Rattle.bc_machine.specs.declared.part.BucketsPart.{BucketsPart}
-use Rattle.bc_machine.specs.declared.part.CorePart.{CorePart}
+use Rattle.bc_place.specs.bc_machine.Containers.{AreBucketsOf}
+use Rattle.bc_place.specs.bc_machine.Frame.{by_test}
+use Rattle.bc_place.specs.bc_machine.Standing.{origin_before}
+use Rattle.bc_place.specs.bc_machine.World.{AreBuckets, FromEach, Origin, changes, replay}
+use Rattle.bc_place.specs.bc_machine.declared.part.BucketsPart.{BucketsPart}
+use Rattle.bc_place.specs.bc_machine.declared.part.CorePart.{CorePart}
 use Rattle.bc_parts.specs.Seat.{PartsView}
 use Rattle.bc_place.specs.Named.{AreKeysFor, IsApartFrom}
 use Rattle.bc_place.specs.Next.{HasNamed}

@@ -2,7 +2,7 @@
 use Rattle.std.specs.Prelude.{◌≡◌, ℕ, ◌+◌, ◌<◌, ◌≤◌, true, List, All}
 use Rattle.bc_key.specs.Key.{Covers}
 use Rattle.bc_key.specs.declared.key.Key.{Key}
-use Rattle.bc_machine.specs.Frame.{Range}
+use Rattle.bc_place.specs.bc_machine.Frame.{Range}
 use Rattle.bc_node.specs.Leaf.{Leaf}
 use Rattle.bc_sight.specs.Sight.{IsOnBacking}
 

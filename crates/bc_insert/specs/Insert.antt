@@ -2,14 +2,14 @@
 use Rattle.std.specs.Prelude.{◌≡◌, ℕ, ◌+◌, ◌-◌, ◌%◌, ◌^◌, ◌<◌, ◌≤◌, false, List, ◌++◌, length, All, Some, slice_get}
 use Rattle.bc_cache.specs.Slots.{NodeCache, with_slot}
 use Rattle.bc_cache.specs.declared.slots.Cached.{Cached}
-use Rattle.bc_hand.specs.declared.hand.Hand.{Hand}
-use Rattle.bc_hand.specs.declared.hand.LeafHand.{LeafHand}
+use Rattle.bc_place.specs.bc_hand.declared.hand.Hand.{Hand}
+use Rattle.bc_place.specs.bc_hand.declared.hand.LeafHand.{LeafHand}
 use Rattle.bc_journal.specs.Journal.{HasRoom, Journal, number_of}
 use Rattle.bc_key.specs.Key.{IsExtent}
 use Rattle.bc_key.specs.declared.key.Key.{Key}
 use Rattle.bc_keyed.specs.Came.{WereAdded}
 use Rattle.bc_keys.specs.Spelling.{words_of_all}
-use Rattle.bc_machine.specs.declared.part.BucketsPart.{BucketsPart}
+use Rattle.bc_place.specs.bc_machine.declared.part.BucketsPart.{BucketsPart}
 use Rattle.bc_node.specs.Leaf.{AreWithin, Leaf}
 
 -- The leaf of this number is in a slot, and has room for these keys of its range.

@@ -6,11 +6,11 @@ use Rattle.bc_events.specs.Run.{State}
 use Rattle.bc_events.specs.declared.event.Deed.TheVariants as deed
 use Rattle.bc_events.specs.declared.event.LineNumber.{LineNumber}
 use Rattle.bc_fill.specs.declared.fill.Placed.{Placed}
-use Rattle.bc_hand.specs.Seats.{Did, View, world}
-use Rattle.bc_hand.specs.declared.hand.Hand.{Hand}
+use Rattle.bc_place.specs.bc_hand.Seats.{Did, View, world}
+use Rattle.bc_place.specs.bc_hand.declared.hand.Hand.{Hand}
 use Rattle.bc_key.specs.declared.key.Key.{Key}
-use Rattle.bc_machine.specs.World.{FromEach, Origin}
-use Rattle.bc_machine.specs.declared.part.BucketsPart.{BucketsPart}
+use Rattle.bc_place.specs.bc_machine.World.{FromEach, Origin}
+use Rattle.bc_place.specs.bc_machine.declared.part.BucketsPart.{BucketsPart}
 use Rattle.bc_model.specs.Sector.{Value, at_run}
 use Rattle.bc_place.specs.Named.{AreFilled, IsApartFrom}
 use Rattle.bc_place.specs.Next.{HasNamed}

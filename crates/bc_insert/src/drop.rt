@@ -1,23 +1,23 @@
 //! Keys without pointers.
 ghost use Rattle.std.specs.Prelude.{◌≡◌, ◌+◌, ◌<◌, ◌≤◌, ℕ, false, length, None, Some, OnOk, OnErr, IfErr};
 ghost use Rattle.bc_cache.specs.declared.slots.Cached.{Cached};
-ghost use Rattle.bc_deed.specs.Asked.{IsHaltedOr, size_of};
+ghost use Rattle.bc_place.specs.bc_deed.Asked.{IsHaltedOr, size_of};
 ghost use Rattle.bc_events.specs.declared.event.Deed.{Deed};
 ghost use Rattle.bc_events.specs.declared.event.Form.TheVariants as form;
-ghost use Rattle.bc_hand.specs.Seats.{Did, Works, note};
+ghost use Rattle.bc_place.specs.bc_hand.Seats.{Did, Works, note};
 ghost use Rattle.bc_insert.specs.Drop.{MayDrop};
 ghost use Rattle.bc_insert.specs.Insert.{CanPutIn, HasPutIn};
-ghost use Rattle.bc_machine.specs.World.{are_plain};
+ghost use Rattle.bc_place.specs.bc_machine.World.{are_plain};
 
 use crate::put::{next_entry, put_in, slot_in};
 use bc_disk::disk::Disk;
 use bc_events::event::{Deed, Form};
-use bc_hand::error::StepError;
-use bc_hand::hand::Hand;
-use bc_hand::seat::commit;
 use bc_key::Key;
 use bc_keys::Keys;
-use bc_machine::machine::{CoreParts, CoreSeat};
+use bc_place::bc_hand::error::StepError;
+use bc_place::bc_hand::hand::Hand;
+use bc_place::bc_hand::seat::commit;
+use bc_place::bc_machine::machine::{CoreParts, CoreSeat};
 use std::alloc::Global;
 use std::sync::Wait;
 

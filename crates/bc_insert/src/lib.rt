@@ -17,3 +17,7 @@
 pub mod drop;
 mod put;
 pub mod write;
+
+// Passed on, so that a crate above need not list these.
+pub use bc_place;
+pub use bc_place::{bc_hand, bc_machine};

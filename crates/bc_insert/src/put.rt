@@ -2,13 +2,13 @@
 ghost use Rattle.std.specs.Prelude.{ℕ, ◌≡◌, Some};
 ghost use Rattle.bc_cache.specs.Slots.{HasLeaf, IsSlotOf};
 ghost use Rattle.bc_cache.specs.declared.slots.Cached.{Cached};
-ghost use Rattle.bc_hand.specs.declared.hand.LeafHand.{LeafHand};
+ghost use Rattle.bc_place.specs.bc_hand.declared.hand.LeafHand.{LeafHand};
 ghost use Rattle.bc_journal.specs.Journal.{IsJournal, Journal, number_of};
 ghost use Rattle.bc_insert.specs.Insert.{CanAdd, CanPutIn, HasAdded, HasPutIn};
 
 use bc_cache::NodeCache;
-use bc_hand::hand::Hand;
 use bc_key::Key;
+use bc_place::bc_hand::hand::Hand;
 
 /// The slot of the part in hand that has the leaf of this number.
 pub(crate) fn slot_in<C, B>(hand: &Hand<C, B>, leaf: u32) -> u32

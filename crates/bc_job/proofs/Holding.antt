@@ -8,16 +8,16 @@ use Rattle.bc_seats.specs.Seats.{Grown}
 use Rattle.bc_flight.specs.Flight.{InFlight}
 use Rattle.bc_events.specs.Columns.{halt_of}
 use Rattle.bc_events.specs.declared.event.Event.{Event}
-use Rattle.bc_machine.specs.Frame.{stays_halted}
-use Rattle.bc_machine.specs.declared.part.BackingPart.{BackingPart}
-use Rattle.bc_machine.specs.declared.part.BucketsPart.{BucketsPart}
+use Rattle.bc_deed.specs.bc_machine.Frame.{stays_halted}
+use Rattle.bc_deed.specs.bc_machine.declared.part.BackingPart.{BackingPart}
+use Rattle.bc_deed.specs.bc_machine.declared.part.BucketsPart.{BucketsPart}
 use Rattle.bc_tree.specs.Spine.{Spine}
 use Rattle.bc_journal.specs.Journal.{Journal}
-use Rattle.bc_machine.specs.declared.part.CorePart.{CorePart}
-use Rattle.bc_hand.specs.declared.hand.Hand.{Hand}
-use Rattle.bc_hand.specs.declared.hand.LeafHand.{LeafHand}
-use Rattle.bc_hand.specs.Seats.{HasNoneBehindFlight, Kinds, kinds, part_of, empty, Works}
-use Rattle.bc_hand.proofs.Knowing.{View, m}
+use Rattle.bc_deed.specs.bc_machine.declared.part.CorePart.{CorePart}
+use Rattle.bc_deed.specs.bc_hand.declared.hand.Hand.{Hand}
+use Rattle.bc_deed.specs.bc_hand.declared.hand.LeafHand.{LeafHand}
+use Rattle.bc_deed.specs.bc_hand.Seats.{HasNoneBehindFlight, Kinds, kinds, part_of, empty, Works}
+use Rattle.bc_deed.proofs.of_bc_hand.Knowing.{View, m}
 
 is_none : {A : Type 0} (o : Option A) → is_some o ≡ false → o ≡ None
 is_none None is = refl

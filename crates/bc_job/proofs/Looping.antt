@@ -6,10 +6,10 @@ use Rattle.bc_disk.specs.Disk.{DiskFacts}
 use Rattle.bc_parts.specs.Seat.{Run}
 use Rattle.bc_events.specs.declared.event.LineNumber.{LineNumber}
 use Rattle.bc_events.specs.declared.event.Deed.{Deed}
-use Rattle.bc_machine.specs.Plain.{worker_of}
-use Rattle.bc_machine.specs.declared.part.CorePart.{CorePart}
-use Rattle.bc_hand.specs.Seats.{IsCoreSeat}
-use Rattle.bc_hand.proofs.Knowing.{View}
+use Rattle.bc_deed.specs.bc_machine.Plain.{worker_of}
+use Rattle.bc_deed.specs.bc_machine.declared.part.CorePart.{CorePart}
+use Rattle.bc_deed.specs.bc_hand.Seats.{IsCoreSeat}
+use Rattle.bc_deed.proofs.of_bc_hand.Knowing.{View}
 use Rattle.bc_deed.specs.Asked.{size_of}
 use Rattle.bc_deed.specs.Flushed.{HasDone}
 use Rattle.bc_deed.proofs.May.{did_nothing}

@@ -3,15 +3,15 @@ use Rattle.std.proofs.Common.{◌≡◌, ℕ, ◌+◌, ◌≤◌, Some, None, re
 use Rattle.std.specs.Prelude.{Result, Ok, Err, OnOk, OnErr}
 use Rattle.bc_disk.specs.Disk.{DiskFacts}
 use Rattle.bc_parts.specs.Seat.{PartsView}
-use Rattle.bc_machine.specs.Frame.{Range}
-use Rattle.bc_machine.specs.Note.{IsFirmer}
-use Rattle.bc_machine.specs.declared.part.CorePart.{CorePart}
-use Rattle.bc_hand.specs.declared.hand.Hand.{Hand}
+use Rattle.bc_deed.specs.bc_machine.Frame.{Range}
+use Rattle.bc_deed.specs.bc_machine.Note.{IsFirmer}
+use Rattle.bc_deed.specs.bc_machine.declared.part.CorePart.{CorePart}
+use Rattle.bc_deed.specs.bc_hand.declared.hand.Hand.{Hand}
 use Rattle.bc_events.specs.declared.event.Deed.{Deed}
-use Rattle.bc_hand.specs.declared.error.StepError.{StepError}
-use Rattle.bc_hand.specs.declared.error.StepError.TheVariants as step
-use Rattle.bc_hand.specs.Seats.{Did, Works, empty, note}
-use Rattle.bc_hand.proofs.Knowing.{View}
+use Rattle.bc_deed.specs.bc_hand.declared.error.StepError.{StepError}
+use Rattle.bc_deed.specs.bc_hand.declared.error.StepError.TheVariants as step
+use Rattle.bc_deed.specs.bc_hand.Seats.{Did, Works, empty, note}
+use Rattle.bc_deed.proofs.of_bc_hand.Knowing.{View}
 use Rattle.bc_deed.specs.Asked.{HasFailed}
 use Rattle.bc_job.specs.Asked.{IsIdle, IsReady}
 use Rattle.bc_job.specs.declared.stock.Stock.{Stock}

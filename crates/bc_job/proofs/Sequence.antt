@@ -15,13 +15,13 @@ use Rattle.bc_events.specs.declared.event.Failure.TheVariants as failure
 use Rattle.bc_parts.specs.Seat.{PartsView, Run}
 use Rattle.bc_events.specs.Acts.{is_exclusive}
 use Rattle.bc_flight.specs.declared.claim.Claim.{Claim}
-use Rattle.bc_machine.specs.Frame.{Range}
-use Rattle.bc_machine.specs.World.{are_plain}
-use Rattle.bc_machine.specs.declared.part.CorePart.{CorePart}
-use Rattle.bc_hand.specs.Seats.{Did, IsCoreSeat, Works, empty}
-use Rattle.bc_hand.specs.declared.error.StepError.{StepError}
-use Rattle.bc_hand.specs.declared.error.StepError.TheVariants as step
-use Rattle.bc_hand.proofs.Knowing.{View, note_committed}
+use Rattle.bc_deed.specs.bc_machine.Frame.{Range}
+use Rattle.bc_deed.specs.bc_machine.World.{are_plain}
+use Rattle.bc_deed.specs.bc_machine.declared.part.CorePart.{CorePart}
+use Rattle.bc_deed.specs.bc_hand.Seats.{Did, IsCoreSeat, Works, empty}
+use Rattle.bc_deed.specs.bc_hand.declared.error.StepError.{StepError}
+use Rattle.bc_deed.specs.bc_hand.declared.error.StepError.TheVariants as step
+use Rattle.bc_deed.proofs.of_bc_hand.Knowing.{View, note_committed}
 use Rattle.bc_deed.specs.Asked.{HasClaimed, IsHalted}
 use Rattle.bc_deed.specs.Flushed.{HasDone, HasStopped}
 use Rattle.bc_deed.proofs.Sequence.{done_both, done_first, done_then}

@@ -11,13 +11,13 @@ use Rattle.bc_events.specs.declared.event.LineNumber.{LineNumber}
 use Rattle.bc_events.specs.declared.event.Deed.{Deed}
 use Rattle.bc_events.specs.declared.event.Deed.TheVariants as deed
 use Rattle.bc_events.specs.declared.event.Failure.TheVariants as failure
-use Rattle.bc_machine.specs.Frame.{Range}
-use Rattle.bc_machine.specs.World.{are_plain}
-use Rattle.bc_machine.specs.Note.{Note, IsFirmer}
-use Rattle.bc_hand.specs.Seats.{note, IsCoreSeat, Did}
-use Rattle.bc_hand.specs.declared.error.StepError.{StepError}
-use Rattle.bc_hand.specs.declared.error.StepError.TheVariants as step
-use Rattle.bc_hand.proofs.Knowing.{View, note_committed}
+use Rattle.bc_deed.specs.bc_machine.Frame.{Range}
+use Rattle.bc_deed.specs.bc_machine.World.{are_plain}
+use Rattle.bc_deed.specs.bc_machine.Note.{Note, IsFirmer}
+use Rattle.bc_deed.specs.bc_hand.Seats.{note, IsCoreSeat, Did}
+use Rattle.bc_deed.specs.bc_hand.declared.error.StepError.{StepError}
+use Rattle.bc_deed.specs.bc_hand.declared.error.StepError.TheVariants as step
+use Rattle.bc_deed.proofs.of_bc_hand.Knowing.{View, note_committed}
 use Rattle.bc_deed.specs.Asked.{HasFailed, HasFailedOr, IsHalted, IsHaltedOr, IsLast, IsWithin, MayWrite}
 use Rattle.bc_deed.specs.Flushed.{HasDone}
 use Rattle.bc_deed.proofs.Sequence.{done_first, done_then}
@@ -43,7 +43,7 @@ may_write_fresh first count o fresh = record {
   covered = within_fresh first count Exclusive o fresh;
 }
 
-pub last_of : (x : Rattle.bc_machine.specs.Note.LastWrite) (line first n m : ℕ) → n ≡ m → IsLast x line first m
+pub last_of : (x : Rattle.bc_deed.specs.bc_machine.Note.LastWrite) (line first n m : ℕ) → n ≡ m → IsLast x line first m
     → IsLast x line first n
 last_of x line first n m is h = subst (λ k. IsLast x line first k) (sym is) h
 
@@ -191,8 +191,8 @@ module _ {C B : Type 0} (cache_facts : C → DiskFacts) (backing_facts : B → D
 
   pub claimed_behind : (v w : View cache_facts backing_facts) (d : Deed) → IsCoreSeat cache_facts backing_facts v
       → Did cache_facts backing_facts (Some d) v w
-      → Rattle.bc_machine.specs.Note.note_after
-      (Rattle.bc_hand.specs.Seats.world cache_facts backing_facts v).opening.machine.flow.plain
+      → Rattle.bc_deed.specs.bc_machine.Note.note_after
+      (Rattle.bc_deed.specs.bc_hand.Seats.world cache_facts backing_facts v).opening.machine.flow.plain
       (note cache_facts backing_facts v) d ≡ note cache_facts backing_facts v
       → (note cache_facts backing_facts w).range ≡ (note cache_facts backing_facts v).range
   claimed_behind v w d seat did same = (note_committed cache_facts backing_facts v w d seat did.is).range

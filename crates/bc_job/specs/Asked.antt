@@ -3,10 +3,10 @@ use Rattle.std.specs.Prelude.{◌≡◌, ◌+◌, ◌<◌, ◌≤◌, ◌^◌, t
 use Rattle.bc_disk.specs.Disk.{DiskFacts}
 use Rattle.bc_parts.specs.Seat.{PartsView}
 use Rattle.bc_events.specs.declared.event.LineNumber.{LineNumber}
-use Rattle.bc_machine.specs.Plain.{worker_of}
-use Rattle.bc_machine.specs.World.{are_plain}
-use Rattle.bc_machine.specs.declared.part.CorePart.{CorePart}
-use Rattle.bc_hand.specs.Seats.{View, Works, empty, note}
+use Rattle.bc_deed.specs.bc_machine.Plain.{worker_of}
+use Rattle.bc_deed.specs.bc_machine.World.{are_plain}
+use Rattle.bc_deed.specs.bc_machine.declared.part.CorePart.{CorePart}
+use Rattle.bc_deed.specs.bc_hand.Seats.{View, Works, empty, note}
 use Rattle.bc_deed.specs.Asked.{size_of}
 use Rattle.bc_job.specs.declared.job.Job.{Job}
 use Rattle.bc_job.specs.declared.stock.Stock.{Stock}

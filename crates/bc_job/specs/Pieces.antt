@@ -10,11 +10,11 @@ use Rattle.bc_events.specs.Columns.{halt_of}
 use Rattle.bc_events.specs.declared.event.LineNumber.{LineNumber}
 use Rattle.bc_events.specs.declared.event.Failure.TheVariants as failure
 use Rattle.bc_events.specs.declared.event.Deed.TheVariants as deed
-use Rattle.bc_machine.specs.Note.{Note}
-use Rattle.bc_machine.specs.World.{are_plain}
-use Rattle.bc_hand.specs.Seats.{View, note}
-use Rattle.bc_hand.specs.declared.error.StepError.{StepError}
-use Rattle.bc_hand.specs.declared.error.StepError.TheVariants as error
+use Rattle.bc_deed.specs.bc_machine.Note.{Note}
+use Rattle.bc_deed.specs.bc_machine.World.{are_plain}
+use Rattle.bc_deed.specs.bc_hand.Seats.{View, note}
+use Rattle.bc_deed.specs.bc_hand.declared.error.StepError.{StepError}
+use Rattle.bc_deed.specs.bc_hand.declared.error.StepError.TheVariants as error
 use Rattle.bc_deed.specs.Asked.{IsClaim}
 use Rattle.bc_deed.specs.Flushed.{HasDone}
 

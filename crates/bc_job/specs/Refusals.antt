@@ -1,6 +1,6 @@
 -- Why requests are refused.
-use Rattle.bc_hand.specs.declared.error.StepError.{StepError}
-use Rattle.bc_hand.specs.declared.error.StepError.TheVariants as step
+use Rattle.bc_deed.specs.bc_hand.declared.error.StepError.{StepError}
+use Rattle.bc_deed.specs.bc_hand.declared.error.StepError.TheVariants as step
 use Rattle.bc_job.specs.declared.error.RequestError.{RequestError}
 use Rattle.bc_job.specs.declared.error.RequestError.TheVariants as request
 

@@ -5,7 +5,7 @@ use Rattle.bc_model.specs.Pieces.{Piece, pieces, piece_of, ServedUpTo}
 use Rattle.bc_disk.specs.Disk.{DiskFacts}
 use Rattle.bc_events.specs.declared.event.LineNumber.{LineNumber}
 use Rattle.bc_events.specs.declared.event.Deed.{Deed}
-use Rattle.bc_hand.specs.Seats.{View}
+use Rattle.bc_deed.specs.bc_hand.Seats.{View}
 use Rattle.bc_deed.specs.Flushed.{HasDone}
 use Rattle.bc_job.specs.Asked.{line_of}
 use Rattle.bc_job.specs.Deeds.{IsHaltOf, AreReadDeeds, ReadStop, writes_deeds, WriteStop, flush_deeds, FlushStop}

@@ -2,15 +2,15 @@
 ghost use Rattle.std.specs.Prelude.{◌≡◌, ◌+◌, ◌<◌, ◌≤◌, ◌^◌, [], IfOk, IfErr};
 ghost use Rattle.bc_deed.specs.Asked.{IsHalted, size_of};
 ghost use Rattle.bc_deed.specs.Flushed.{HasDone};
-ghost use Rattle.bc_hand.specs.Seats.{Works, empty, note};
+ghost use Rattle.bc_deed.specs.bc_hand.Seats.{Works, empty, note};
 ghost use Rattle.bc_job.specs.Pieces.{HasMadeClaim};
 
+use bc_deed::bc_hand::error::StepError;
+use bc_deed::bc_hand::hand::Hand;
+use bc_deed::bc_machine::machine::{CoreParts, CoreSeat};
 use bc_deed::claims::claim;
 use bc_disk::disk::Disk;
 use bc_flight::claim::{Claim, Share};
-use bc_hand::error::StepError;
-use bc_hand::hand::Hand;
-use bc_machine::machine::{CoreParts, CoreSeat};
 use crossbeam_utils::Backoff;
 use std::sync::Wait;
 

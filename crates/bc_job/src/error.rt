@@ -2,8 +2,8 @@
 ghost use Rattle.std.specs.Prelude.{◌≡◌};
 ghost use Rattle.bc_job.specs.Refusals.{refusal};
 
+use bc_deed::bc_hand::error::StepError;
 use bc_disk::disk::Device;
-use bc_hand::error::StepError;
 
 /// Why a request was refused. What it did before stands.
 #[derive(Clone, Copy, Debug, PartialEq, Eq, Drop)]

@@ -1,22 +1,22 @@
 //! Flushes.
 ghost use Rattle.std.specs.Prelude.{◌≡◌, ◌+◌, ◌≤◌, true, OnOk, IfErr};
 ghost use Rattle.bc_deed.specs.Flushed.{HasFlushed, HasStopped};
-ghost use Rattle.bc_hand.specs.Seats.{Works, kinds, note};
+ghost use Rattle.bc_deed.specs.bc_hand.Seats.{Works, kinds, note};
 ghost use Rattle.bc_job.specs.Asked.{IsFor, IsReady, line_of};
 ghost use Rattle.bc_job.specs.Requests.{HasFlushedFor, HasNotFlushed};
-ghost use Rattle.bc_machine.specs.Plain.{worker_of};
-ghost use Rattle.bc_machine.specs.World.{are_plain};
+ghost use Rattle.bc_deed.specs.bc_machine.Plain.{worker_of};
+ghost use Rattle.bc_deed.specs.bc_machine.World.{are_plain};
 
 use crate::error::{RequestError, refusal};
 use crate::job::Job;
 use crate::stock::{Stock, take_room};
 use bc_deed::backing::backing_barrier;
+use bc_deed::bc_hand::error::StepError;
+use bc_deed::bc_hand::hand::Hand;
+use bc_deed::bc_machine::machine::{CoreParts, CoreSeat};
 use bc_deed::said::{flush_done, flush_from};
 use bc_disk::disk::Disk;
 use bc_events::event::LineNumber;
-use bc_hand::error::StepError;
-use bc_hand::hand::Hand;
-use bc_machine::machine::{CoreParts, CoreSeat};
 use bc_worker::gate::Gate;
 use std::sync::Wait;
 

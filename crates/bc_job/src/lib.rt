@@ -23,3 +23,7 @@ pub mod piece;
 pub mod read;
 pub mod stock;
 pub mod write;
+
+// Passed on, so that a crate above need not list these.
+pub use bc_deed;
+pub use bc_deed::{bc_hand, bc_machine};

@@ -1,7 +1,7 @@
 //! Reads.
 ghost use Rattle.std.specs.Prelude.{◌≡◌, ◌+◌, ◌*◌, ◌/◌, ◌<◌, ◌≤◌, ◌^◌, List, ◌++◌, length, [], MatchOption, OnOk, IfOk, IfErr};
 ghost use Rattle.bc_model.specs.Sector.{Value, sectors, values_of};
-ghost use Rattle.bc_machine.specs.Plain.{worker_of};
+ghost use Rattle.bc_deed.specs.bc_machine.Plain.{worker_of};
 ghost use Rattle.bc_deed.specs.Asked.{size_of};
 ghost use Rattle.bc_deed.specs.Flushed.{HasDone};
 ghost use Rattle.bc_job.specs.Asked.{IsFor, IsReady, IsRange};
@@ -12,9 +12,9 @@ use crate::error::RequestError;
 use crate::job::{Job, Piece};
 use crate::piece::read_piece;
 use crate::stock::Stock;
+use bc_deed::bc_machine::machine::{CoreParts, CoreSeat};
 use bc_disk::disk::Disk;
 use bc_events::event::LineNumber;
-use bc_machine::machine::{CoreParts, CoreSeat};
 use bc_model::values::Values;
 use bc_worker::gate::Gate;
 use std::alloc::Global;

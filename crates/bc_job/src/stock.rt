@@ -1,13 +1,13 @@
 //! What a seat has at hand from one piece of its requests to the next.
 ghost use Rattle.std.specs.Prelude.{◌≡◌, ◌+◌, ◌≤◌, [], OnOk};
 ghost use Rattle.bc_deed.specs.Flushed.{HasDone};
-ghost use Rattle.bc_hand.specs.Seats.{empty};
+ghost use Rattle.bc_deed.specs.bc_hand.Seats.{empty};
 ghost use Rattle.bc_job.specs.Asked.{IsReady};
 
+use bc_deed::bc_hand::hand::Hand;
+use bc_deed::bc_machine::machine::{CoreParts, CoreSeat};
 use bc_deed::promise::promise;
 use bc_disk::disk::Disk;
-use bc_hand::hand::Hand;
-use bc_machine::machine::{CoreParts, CoreSeat};
 use std::alloc::AllocError;
 use std::sync::Wait;
 

@@ -8,9 +8,9 @@ use Rattle.bc_known.specs.Laws.{IsSound}
 use Rattle.bc_known.proofs.Law.{At, inv_at}
 use Rattle.bc_leaves.specs.Fits.{Ordered}
 use Rattle.bc_leaves.specs.Parts.{AllUpTo, Coming, Draft, Free, IsLive, Leaving, NoNode, Pending, Role, next_number, sealed_number}
-use Rattle.bc_machine.specs.Containers.{IsInTree, IsJournalOf, numbers_in, sealed_numbers}
-use Rattle.bc_machine.specs.Standing.{oldest_first, replay_is, replay_runs}
-use Rattle.bc_machine.specs.World.{IsCourseOf, Origin, replay}
+use Rattle.bc_begun.specs.bc_machine.Containers.{IsInTree, IsJournalOf, numbers_in, sealed_numbers}
+use Rattle.bc_begun.specs.bc_machine.Standing.{oldest_first, replay_is, replay_runs}
+use Rattle.bc_begun.specs.bc_machine.World.{IsCourseOf, Origin, replay}
 use Rattle.bc_meta.specs.Records.{Fixed, Nothing, Ready, Records, Safe, Sent, Stage}
 use Rattle.bc_shares.specs.Shares.{if_sealed, journal_share}
 use Rattle.bc_shares.proofs.Law.{at_state}

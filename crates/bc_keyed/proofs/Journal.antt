@@ -6,7 +6,7 @@ use Rattle.bc_journal.specs.Journal.{Journal}
 use Rattle.bc_journal.specs.Ring.{Ring}
 use Rattle.bc_key.specs.declared.key.Key.{Key}
 use Rattle.bc_known.specs.Acts.{Keyed, after}
-use Rattle.bc_machine.specs.Containers.{IsJournalOf, IsRingOf, behind_sealed, numbers_in, sealed_numbers}
+use Rattle.bc_begun.specs.bc_machine.Containers.{IsJournalOf, IsRingOf, behind_sealed, numbers_in, sealed_numbers}
 use Rattle.bc_meta.specs.Entries.{Entry}
 use Rattle.bc_meta.specs.Facts.{In}
 use Rattle.bc_shares.specs.Shares.{Entries, JournalShare, journal_share}

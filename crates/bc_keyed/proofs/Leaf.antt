@@ -9,7 +9,7 @@ use Rattle.bc_key.specs.declared.ptr.Ptr.{Ptr}
 use Rattle.bc_leaves.specs.Keys.{last_said, ref_said}
 use Rattle.bc_leaves.specs.Parts.{AllFrom, AllUpTo, Pending, keys_of}
 use Rattle.bc_leaves.proofs.Said.{last_append, or_else, or_said}
-use Rattle.bc_machine.specs.Containers.{AreEntriesOf, HasLists, IsLeafFor, IsTreeLeaf}
+use Rattle.bc_begun.specs.bc_machine.Containers.{AreEntriesOf, HasLists, IsLeafFor, IsTreeLeaf}
 use Rattle.bc_meta.specs.Facts.{In}
 use Rattle.bc_meta.specs.Tree.{set_keys}
 use Rattle.bc_node.specs.Leaf as node

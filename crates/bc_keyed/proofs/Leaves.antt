@@ -10,7 +10,7 @@ use Rattle.bc_cache.proofs.Changed.{set_same}
 use Rattle.bc_key.specs.declared.key.Key.{Key}
 use Rattle.bc_leaves.specs.Parts.{Free, Leaf, Leaving, Role, next_number}
 use Rattle.bc_leaves.specs.Parts as parts
-use Rattle.bc_machine.specs.Containers.{AreLeavesOf, IsHeldIn, IsInTree, IsLeafFor}
+use Rattle.bc_begun.specs.bc_machine.Containers.{AreLeavesOf, IsHeldIn, IsInTree, IsLeafFor}
 use Rattle.bc_meta.specs.Records.{Node}
 use Rattle.bc_node.specs.Leaf as node
 use Rattle.bc_shares.specs.Shares.{LeafShare, leaf_share, node_share}

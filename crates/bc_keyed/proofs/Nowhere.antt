@@ -6,8 +6,8 @@ use Rattle.bc_books.specs.Index as index
 use Rattle.bc_books.specs.Index.{Kind, dirties, if_dirty, if_points, names, touches}
 use Rattle.bc_books.specs.Marks.{Mark, Dirtied, Metadata, Reclaimable, Unmarked, with_key}
 use Rattle.bc_books.specs.Shelves.{Owner, Spent}
-use Rattle.bc_machine.specs.Containers.{AreBucketsOf, pins_in, pins_of}
-use Rattle.bc_machine.specs.declared.part.BucketsPart.{BucketsPart}
+use Rattle.bc_begun.specs.bc_machine.Containers.{AreBucketsOf, pins_in, pins_of}
+use Rattle.bc_begun.specs.bc_machine.declared.part.BucketsPart.{BucketsPart}
 use Rattle.bc_places.specs.Stands.{StandFor}
 use Rattle.bc_shares.specs.Shares.{use_of}
 use Rattle.bc_whole.specs.State.{Opening}

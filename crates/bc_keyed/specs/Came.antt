@@ -6,7 +6,7 @@ use Rattle.bc_key.specs.declared.key.Key.{Key}
 use Rattle.bc_known.specs.Acts.{Keyed, State, after}
 use Rattle.bc_leaves.specs.Parts.{AllUpTo, Change, InnerNode, Leaf, Pending, next_number}
 use Rattle.bc_leaves.specs.Parts as parts
-use Rattle.bc_machine.specs.Containers.{IsJournalOf, IsLeafFor}
+use Rattle.bc_begun.specs.bc_machine.Containers.{IsJournalOf, IsLeafFor}
 use Rattle.bc_node.specs.Leaf as node
 use Rattle.bc_node.specs.Leaf.{ArePut, AreAdded, IsSameNode, noted_for}
 use Rattle.bc_shares.specs.Shares.{LeafShare, entries_in, journal_share}

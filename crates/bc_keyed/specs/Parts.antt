@@ -9,8 +9,8 @@ use Rattle.bc_cache.specs.declared.slots.Cached.{Cached}
 use Rattle.bc_key.specs.declared.key.Key.{Key}
 use Rattle.bc_leaves.specs.Parts.{AllUpTo, Free, next_number}
 use Rattle.bc_leaves.specs.Parts as parts
-use Rattle.bc_machine.specs.Containers.{AreBucketsOf, AreLeavesOf}
-use Rattle.bc_machine.specs.declared.part.BucketsPart.{BucketsPart}
+use Rattle.bc_begun.specs.bc_machine.Containers.{AreBucketsOf, AreLeavesOf}
+use Rattle.bc_begun.specs.bc_machine.declared.part.BucketsPart.{BucketsPart}
 use Rattle.bc_node.specs.Leaf as node
 use Rattle.bc_whole.specs.State.{Opening}
 use Rattle.bc_keyed.specs.Came.{HaveCome, WereAdded}

@@ -10,3 +10,6 @@
 #![tactic(auto)]
 
 pub mod laws;
+
+// Passed on, so that a crate above need not list these.
+pub use bc_machine;

@@ -5,3 +5,6 @@ pub mod Odd
 pub mod Search
 pub mod Exits
 pub mod Stops
+pub use Rattle.bc_entered.proofs as of_bc_entered
+pub use Rattle.bc_entered.proofs.of_bc_ranges
+pub use Rattle.bc_entered.proofs.of_bc_reopened

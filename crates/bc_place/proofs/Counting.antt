@@ -6,7 +6,7 @@ use Rattle.bc_books.specs.Index.{within}
 use Rattle.bc_books.specs.Shelves.{Fresh, Own, Owner, Spent, put_run}
 use Rattle.bc_books.proofs.Cases.{by_within}
 use Rattle.bc_shares.specs.Shares.{Pinned, Unused, Use, Used, use_of}
-use Rattle.bc_machine.specs.Containers.{pins_in, pins_of}
+use Rattle.bc_deed.specs.bc_machine.Containers.{pins_in, pins_of}
 
 -- how many of so many places from this one on lie in the run
 abbrev pub both_in : (at n place : ℕ) → ℕ → ℕ

@@ -7,8 +7,8 @@ use Rattle.bc_bucket.specs.Buckets.{Buckets, changed}
 use Rattle.bc_fill.specs.Fill.{AreOpen, IsCut, IsOpened, Places, after, shut_if_full, with_opened}
 use Rattle.bc_fill.specs.declared.fill.Open as fill
 use Rattle.bc_fill.specs.declared.fill.Placed.{Placed}
-use Rattle.bc_machine.specs.Frame.{by_test}
-use Rattle.bc_machine.specs.declared.part.BucketsPart.{BucketsPart}
+use Rattle.bc_deed.specs.bc_machine.Frame.{by_test}
+use Rattle.bc_deed.specs.bc_machine.declared.part.BucketsPart.{BucketsPart}
 use Rattle.bc_places.proofs.Ends.{fills_is}
 use Rattle.bc_place.specs.Next.{IsNext}
 use Rattle.bc_place.specs.Place.{IsUpTo}

@@ -8,7 +8,7 @@ use Rattle.bc_bucket.specs.Buckets.{Buckets, changed}
 use Rattle.bc_fill.proofs.Opens.{first_below, first_free}
 use Rattle.bc_fill.specs.Fill.{AreOpen}
 use Rattle.bc_fill.specs.declared.fill.Open.{Open}
-use Rattle.bc_machine.specs.declared.part.BucketsPart.{BucketsPart}
+use Rattle.bc_deed.specs.bc_machine.declared.part.BucketsPart.{BucketsPart}
 use Rattle.bc_place.proofs.Parts.{are_open}
 
 -- a change of a record that leaves alone whether its bucket is held

@@ -8,9 +8,9 @@ use Rattle.bc_fill.specs.Fresh.{IsOf}
 use Rattle.bc_holds.proofs.Law.{law_pinned}
 use Rattle.bc_holds.specs.Laws.{StaysPinned}
 use Rattle.bc_journal.specs.Journal.{Journal}
-use Rattle.bc_machine.specs.Containers.{IsJournalOf}
-use Rattle.bc_machine.specs.Standing.{oldest_first, origin_before, replay_is, replay_runs}
-use Rattle.bc_machine.specs.World.{IsCourseOf, IsOrigin, Origin, World, replay}
+use Rattle.bc_deed.specs.bc_machine.Containers.{IsJournalOf}
+use Rattle.bc_deed.specs.bc_machine.Standing.{oldest_first, origin_before, replay_is, replay_runs}
+use Rattle.bc_deed.specs.bc_machine.World.{IsCourseOf, IsOrigin, Origin, World, replay}
 use Rattle.bc_shares.specs.Laws.{Happens}
 use Rattle.bc_shares.specs.Shares.{books_of, journal_share}
 use Rattle.bc_place.specs.Laws.{LawBefore, LawOwn}

@@ -21,7 +21,7 @@ use Rattle.bc_fill.specs.Fresh.{IsOf}
 use Rattle.bc_fill.specs.declared.fill.Placed.{Placed}
 use Rattle.bc_key.specs.declared.key.Key.{Key}
 use Rattle.bc_key.specs.Key.{start_of}
-use Rattle.bc_machine.specs.World.{Origin}
+use Rattle.bc_deed.specs.bc_machine.World.{Origin}
 use Rattle.bc_shares.specs.Shares.{books_of}
 use Rattle.bc_place.specs.Named.{AreFilled, AreKeysFor, IsFilled, IsKeyFor, sectors_of}
 

@@ -20,11 +20,11 @@ use Rattle.bc_events.specs.declared.event.UnpinKind.TheVariants as unpin
 use Rattle.bc_events.specs.declared.event.Written.TheVariants as written
 use Rattle.bc_fill.specs.Fresh.{IsApart}
 use Rattle.bc_fill.specs.declared.fill.Placed.{Placed}
-use Rattle.bc_hand.specs.Seats.{Did, IsCoreSeat, by, world}
-use Rattle.bc_hand.proofs.Knowing.{View, m}
+use Rattle.bc_deed.specs.bc_hand.Seats.{Did, IsCoreSeat, by, world}
+use Rattle.bc_deed.proofs.of_bc_hand.Knowing.{View, m}
 use Rattle.bc_holds.proofs.Law.{law_pinned}
-use Rattle.bc_machine.specs.Standing.{oldest_first, origin_before, replay_is}
-use Rattle.bc_machine.specs.World.{FromEach, IsCourseOf, IsOrigin, Origin, World, after, replay}
+use Rattle.bc_deed.specs.bc_machine.Standing.{oldest_first, origin_before, replay_is}
+use Rattle.bc_deed.specs.bc_machine.World.{FromEach, IsCourseOf, IsOrigin, Origin, World, after, replay}
 use Rattle.bc_seats.specs.Seats.{Since, Waited}
 use Rattle.bc_seats.proofs.Knowing.{still}
 use Rattle.bc_shares.specs.Shares.{books_of}

@@ -6,13 +6,13 @@ use Rattle.bc_seats.specs.Seats.{Since}
 use Rattle.bc_seats.proofs.Knowing.{held, still}
 use Rattle.bc_events.specs.Run as core
 use Rattle.bc_events.specs.declared.event.Deed.{Deed}
-use Rattle.bc_hand.specs.Seats.{AtDeed, Did, IsCoreSeat, MayDo, by, world}
-use Rattle.bc_hand.proofs.Knowing.{View, framed, is_plain_at, m}
+use Rattle.bc_deed.specs.bc_hand.Seats.{AtDeed, Did, IsCoreSeat, MayDo, by, world}
+use Rattle.bc_deed.proofs.of_bc_hand.Knowing.{View, framed, is_plain_at, m}
 use Rattle.bc_deed.proofs.May.{low}
-use Rattle.bc_machine.specs.Standing.{origin_before}
-use Rattle.bc_machine.specs.World.{AreBuckets, CanFollow, FromEach, IsCourseOf, IsNumbered, IsOrigin, IsSeenFrom, Origin, World, are_plain, replay, seen_from}
-use Rattle.bc_machine.specs.declared.part.BucketsPart.{BucketsPart}
-use Rattle.bc_machine.specs.declared.part.CorePart.TheVariants as part
+use Rattle.bc_deed.specs.bc_machine.Standing.{origin_before}
+use Rattle.bc_deed.specs.bc_machine.World.{AreBuckets, CanFollow, FromEach, IsCourseOf, IsNumbered, IsOrigin, IsSeenFrom, Origin, World, are_plain, replay, seen_from}
+use Rattle.bc_deed.specs.bc_machine.declared.part.BucketsPart.{BucketsPart}
+use Rattle.bc_deed.specs.bc_machine.declared.part.CorePart.TheVariants as part
 use Rattle.bc_shares.specs.Touched.{NamesItsChange}
 use Rattle.bc_events.specs.Columns.{outlasts_halt}
 use Rattle.bc_place.specs.Place.{HasBefore}

@@ -17,3 +17,6 @@ mod Naming
 pub mod Inserting
 pub mod Marking
 pub mod Saying
+pub use Rattle.bc_deed.proofs as of_bc_deed
+pub use Rattle.bc_deed.proofs.of_bc_hand
+pub use Rattle.bc_deed.proofs.of_bc_machine

@@ -26,8 +26,8 @@ use Rattle.bc_fill.specs.Fresh.{IsApart, IsOf}
 use Rattle.bc_fill.specs.declared.fill.Open.{Open}
 use Rattle.bc_fill.specs.declared.fill.Placed.{Placed}
 use Rattle.bc_key.specs.declared.key.Key.{Key}
-use Rattle.bc_machine.specs.Containers.{AreBucketsOf, IsBucketFor, pins_in, pins_of}
-use Rattle.bc_machine.specs.Frame.{by_test}
+use Rattle.bc_deed.specs.bc_machine.Containers.{AreBucketsOf, IsBucketFor, pins_in, pins_of}
+use Rattle.bc_deed.specs.bc_machine.Frame.{by_test}
 use Rattle.bc_places.specs.Stands.{IsCutInto, StandFor}
 use Rattle.bc_shares.specs.Shares.{buckets_in, use_of}
 use Rattle.bc_whole.specs.State as whole

@@ -13,9 +13,9 @@ use Rattle.bc_fill.specs.declared.fill.Open.{Open}
 use Rattle.bc_known.proofs.Law.{At, order_at}
 use Rattle.bc_known.specs.Known.{AreLaid}
 use Rattle.bc_known.specs.Laws.{IsSound}
-use Rattle.bc_machine.specs.Standing.{oldest_first, replay_is, replay_runs}
-use Rattle.bc_machine.specs.World.{IsCourseOf, Origin, replay}
-use Rattle.bc_machine.specs.declared.part.BucketsPart.{BucketsPart}
+use Rattle.bc_deed.specs.bc_machine.Standing.{oldest_first, replay_is, replay_runs}
+use Rattle.bc_deed.specs.bc_machine.World.{IsCourseOf, Origin, replay}
+use Rattle.bc_deed.specs.bc_machine.declared.part.BucketsPart.{BucketsPart}
 use Rattle.bc_places.specs.Laws.{AreSpread}
 use Rattle.bc_places.specs.Stands.{IsCutInto}
 use Rattle.bc_shares.proofs.Law.{at_state}

@@ -23,12 +23,12 @@ use Rattle.bc_fill.specs.Fill.{AreOpen, after, bucket_numbers, shut_if_full}
 use Rattle.bc_fill.specs.Fresh.{IsOf}
 use Rattle.bc_fill.specs.declared.fill.Open as fill
 use Rattle.bc_fill.specs.declared.fill.Placed.{Placed}
-use Rattle.bc_hand.specs.Seats.{by}
+use Rattle.bc_deed.specs.bc_hand.Seats.{by}
 use Rattle.bc_known.specs.Laws.{IsSound}
 use Rattle.bc_leaves.proofs.Chains.{put_else, put_there}
-use Rattle.bc_machine.specs.Containers.{AreBucketsOf, IsBucketFor, is_held, pins_in}
-use Rattle.bc_machine.specs.World.{IsCourseOf, Origin, replay}
-use Rattle.bc_machine.specs.declared.part.BucketsPart.{BucketsPart}
+use Rattle.bc_deed.specs.bc_machine.Containers.{AreBucketsOf, IsBucketFor, is_held, pins_in}
+use Rattle.bc_deed.specs.bc_machine.World.{IsCourseOf, Origin, replay}
+use Rattle.bc_deed.specs.bc_machine.declared.part.BucketsPart.{BucketsPart}
 use Rattle.bc_places.proofs.Cut.{can_pin, cut_stands, shuts}
 use Rattle.bc_places.proofs.Ends.{fills_is}
 use Rattle.bc_places.proofs.Lists.{counted, first_in}

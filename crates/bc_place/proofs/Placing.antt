@@ -13,15 +13,15 @@ use Rattle.bc_events.specs.Run as core
 use Rattle.bc_events.specs.declared.event.Deed.{Deed}
 use Rattle.bc_events.specs.declared.event.Deed.TheVariants as deed
 use Rattle.bc_fill.specs.declared.fill.Placed.{Placed}
-use Rattle.bc_hand.specs.Seats.{Did, IsCoreSeat, world}
-use Rattle.bc_hand.specs.declared.hand.Hand.{Hand}
-use Rattle.bc_hand.specs.declared.error.StepError.{StepError}
-use Rattle.bc_hand.specs.declared.error.StepError.TheVariants as error
-use Rattle.bc_hand.proofs.Between.{did_between}
-use Rattle.bc_hand.proofs.Knowing.{View, m}
-use Rattle.bc_machine.specs.Frame.{by_test}
-use Rattle.bc_machine.specs.World.{FromEach, Origin, World}
-use Rattle.bc_machine.specs.declared.part.BucketsPart.{BucketsPart}
+use Rattle.bc_deed.specs.bc_hand.Seats.{Did, IsCoreSeat, world}
+use Rattle.bc_deed.specs.bc_hand.declared.hand.Hand.{Hand}
+use Rattle.bc_deed.specs.bc_hand.declared.error.StepError.{StepError}
+use Rattle.bc_deed.specs.bc_hand.declared.error.StepError.TheVariants as error
+use Rattle.bc_deed.proofs.of_bc_hand.Between.{did_between}
+use Rattle.bc_deed.proofs.of_bc_hand.Knowing.{View, m}
+use Rattle.bc_deed.specs.bc_machine.Frame.{by_test}
+use Rattle.bc_deed.specs.bc_machine.World.{FromEach, Origin, World}
+use Rattle.bc_deed.specs.bc_machine.declared.part.BucketsPart.{BucketsPart}
 use Rattle.bc_parts.specs.Seat.{Holds}
 use Rattle.bc_seats.specs.Seats.{Kept, Waited}
 use Rattle.bc_seats.proofs.Between.{same_both, seen_alike}

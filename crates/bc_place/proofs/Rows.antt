@@ -30,8 +30,8 @@ use Rattle.bc_events.specs.declared.event.Written.{Written}
 use Rattle.bc_events.specs.declared.event.Written.TheVariants as written
 use Rattle.bc_known.specs.Acts as known
 use Rattle.bc_known.specs.Acts.{Alone, WriteCache, FailCache}
-use Rattle.bc_machine.proofs.Noting.{any_acts}
-use Rattle.bc_machine.specs.Frame.{AllData, AllOf, IsOf, Keeps, by_test, in_acts}
+use Rattle.bc_deed.proofs.of_bc_machine.Noting.{any_acts}
+use Rattle.bc_deed.specs.bc_machine.Frame.{AllData, AllOf, IsOf, Keeps, by_test, in_acts}
 use Rattle.bc_whole.specs.State as whole
 use Rattle.bc_whole.specs.State.{Root, OfEntry, OfInner, OfLeaf, OfParent, OfPriorities, OfSet}
 use Rattle.bc_whole.specs.Together.{shelved}

@@ -5,15 +5,15 @@ use Rattle.bc_alloc.specs.Reserves.{list_of}
 use Rattle.bc_alloc.specs.declared.purpose.Purpose.TheVariants as list
 use Rattle.bc_disk.specs.Disk.{DiskFacts}
 use Rattle.bc_events.specs.Run as core
-use Rattle.bc_machine.specs.Containers.{AreBucketsOf}
+use Rattle.bc_deed.specs.bc_machine.Containers.{AreBucketsOf}
 use Rattle.bc_shares.specs.Shares.{books_of}
 use Rattle.bc_events.specs.declared.event.Deed.TheVariants as deed
 use Rattle.bc_events.specs.declared.event.UnpinKind.TheVariants as unpin
 use Rattle.bc_fill.specs.declared.fill.Placed.{Placed}
-use Rattle.bc_hand.specs.Seats.{Did, IsCoreSeat, MayDo, by, world}
-use Rattle.bc_hand.proofs.Knowing.{View}
-use Rattle.bc_machine.specs.World.{AreBuckets, FromEach, are_plain, replay}
-use Rattle.bc_machine.specs.declared.part.BucketsPart.{BucketsPart}
+use Rattle.bc_deed.specs.bc_hand.Seats.{Did, IsCoreSeat, MayDo, by, world}
+use Rattle.bc_deed.proofs.of_bc_hand.Knowing.{View}
+use Rattle.bc_deed.specs.bc_machine.World.{AreBuckets, FromEach, are_plain, replay}
+use Rattle.bc_deed.specs.bc_machine.declared.part.BucketsPart.{BucketsPart}
 use Rattle.bc_parts.specs.Seat.{Holds}
 use Rattle.bc_place.specs.Next.{HasCut, HasFirst, IsLetGo, IsNext}
 use Rattle.bc_place.specs.Place.{HasBefore, HasNoBucket, IsOwn}

@@ -19,17 +19,17 @@ use Rattle.bc_events.specs.declared.event.Failure.TheVariants as failure
 use Rattle.bc_events.specs.declared.event.UnpinKind.TheVariants as unpin
 use Rattle.bc_events.specs.declared.event.Written.TheVariants as what
 use Rattle.bc_fill.specs.declared.fill.Placed.{Placed}
-use Rattle.bc_hand.specs.Seats.{Did, IsCoreSeat, MayDo, by, world}
-use Rattle.bc_hand.specs.declared.hand.Hand.{Hand}
-use Rattle.bc_hand.specs.declared.error.StepError.{StepError}
-use Rattle.bc_hand.specs.declared.error.StepError.TheVariants as error
-use Rattle.bc_hand.proofs.Between.{did_between}
-use Rattle.bc_hand.proofs.Knowing.{View, framed, m}
+use Rattle.bc_deed.specs.bc_hand.Seats.{Did, IsCoreSeat, MayDo, by, world}
+use Rattle.bc_deed.specs.bc_hand.declared.hand.Hand.{Hand}
+use Rattle.bc_deed.specs.bc_hand.declared.error.StepError.{StepError}
+use Rattle.bc_deed.specs.bc_hand.declared.error.StepError.TheVariants as error
+use Rattle.bc_deed.proofs.of_bc_hand.Between.{did_between}
+use Rattle.bc_deed.proofs.of_bc_hand.Knowing.{View, framed, m}
 use Rattle.bc_known.specs.Asked.{IsInBucket}
-use Rattle.bc_machine.specs.Frame.{by_test}
-use Rattle.bc_machine.specs.World.{FromEach, IsCache, Origin, Side, World, after, are_plain, cache_among, called, counted, model, opening, replay, same_device}
-use Rattle.bc_machine.specs.declared.part.CorePart.{CorePart}
-use Rattle.bc_machine.specs.declared.part.CorePart.TheVariants as part
+use Rattle.bc_deed.specs.bc_machine.Frame.{by_test}
+use Rattle.bc_deed.specs.bc_machine.World.{FromEach, IsCache, Origin, Side, World, after, are_plain, cache_among, called, counted, model, opening, replay, same_device}
+use Rattle.bc_deed.specs.bc_machine.declared.part.CorePart.{CorePart}
+use Rattle.bc_deed.specs.bc_machine.declared.part.CorePart.TheVariants as part
 use Rattle.bc_meta.specs.Layout.{Layout}
 use Rattle.bc_parts.specs.Seat.{Holds, PartsView, Run}
 use Rattle.bc_seats.specs.Seats.{Waited}

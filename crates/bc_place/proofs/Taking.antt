@@ -17,12 +17,12 @@ use Rattle.bc_bucket.specs.declared.bucket.Bucket.{Bucket}
 use Rattle.bc_events.specs.Run as core
 use Rattle.bc_events.specs.declared.event.Deed.TheVariants as deed
 use Rattle.bc_fill.specs.Fill.{AreOpen}
-use Rattle.bc_hand.specs.Seats.{by}
+use Rattle.bc_deed.specs.bc_hand.Seats.{by}
 use Rattle.bc_known.specs.Laws.{IsSound}
 use Rattle.bc_leaves.proofs.Chains.{put_else, put_there}
-use Rattle.bc_machine.specs.Containers.{AreBucketsOf, IsBucketFor, is_held, pins_in}
-use Rattle.bc_machine.specs.World.{IsCourseOf, Origin, replay}
-use Rattle.bc_machine.specs.declared.part.BucketsPart.{BucketsPart}
+use Rattle.bc_deed.specs.bc_machine.Containers.{AreBucketsOf, IsBucketFor, is_held, pins_in}
+use Rattle.bc_deed.specs.bc_machine.World.{IsCourseOf, Origin, replay}
+use Rattle.bc_deed.specs.bc_machine.declared.part.BucketsPart.{BucketsPart}
 use Rattle.bc_places.proofs.Lists.{first_in, there}
 use Rattle.bc_places.proofs.Open.{opened_stands}
 use Rattle.bc_places.proofs.Others.{law_refused}

@@ -17,10 +17,10 @@ use Rattle.bc_events.specs.declared.event.Event.{Event}
 use Rattle.bc_events.specs.declared.event.UnpinKind.TheVariants as unpin
 use Rattle.bc_fill.specs.declared.fill.Open as fill
 use Rattle.bc_fill.specs.declared.fill.Placed.{Placed}
-use Rattle.bc_hand.specs.Seats.{by}
-use Rattle.bc_machine.specs.Containers.{AreBucketsOf, IsBucketFor, pins_in}
-use Rattle.bc_machine.specs.World.{Origin, replay}
-use Rattle.bc_machine.specs.declared.part.BucketsPart.{BucketsPart}
+use Rattle.bc_deed.specs.bc_hand.Seats.{by}
+use Rattle.bc_deed.specs.bc_machine.Containers.{AreBucketsOf, IsBucketFor, pins_in}
+use Rattle.bc_deed.specs.bc_machine.World.{Origin, replay}
+use Rattle.bc_deed.specs.bc_machine.declared.part.BucketsPart.{BucketsPart}
 use Rattle.bc_places.specs.Stands.{IsCutInto, StandFor}
 use Rattle.bc_shares.specs.Shares.{books_of, buckets_in}
 use Rattle.bc_whole.specs.State as whole

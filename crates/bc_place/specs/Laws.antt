@@ -8,9 +8,9 @@ use Rattle.bc_events.specs.declared.event.Event.{Event}
 use Rattle.bc_fill.specs.declared.fill.Placed.{Placed}
 use Rattle.bc_journal.specs.Journal.{Journal}
 use Rattle.bc_key.specs.declared.key.Key.{Key}
-use Rattle.bc_machine.specs.Containers.{AreBucketsOf}
-use Rattle.bc_machine.specs.World.{FromEach, World, after}
-use Rattle.bc_machine.specs.declared.part.BucketsPart.{BucketsPart}
+use Rattle.bc_deed.specs.bc_machine.Containers.{AreBucketsOf}
+use Rattle.bc_deed.specs.bc_machine.World.{FromEach, World, after}
+use Rattle.bc_deed.specs.bc_machine.declared.part.BucketsPart.{BucketsPart}
 use Rattle.bc_whole.specs.State.{Opening}
 use Rattle.bc_whole.specs.Together.{SayTheSame}
 use Rattle.bc_place.specs.Named.{AreKeysFor, AreOnDevice, AreOwnIn}

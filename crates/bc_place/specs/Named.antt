@@ -9,7 +9,7 @@ use Rattle.bc_fill.specs.Fresh.{IsApart, IsOf}
 use Rattle.bc_fill.specs.declared.fill.Placed.{Placed}
 use Rattle.bc_key.specs.Key.{pointer_of}
 use Rattle.bc_key.specs.declared.key.Key.{Key}
-use Rattle.bc_machine.specs.World.{Origin}
+use Rattle.bc_deed.specs.bc_machine.World.{Origin}
 use Rattle.bc_whole.specs.State.{Opening}
 use Rattle.bc_place.specs.Place.{IsOwn, LiesIn}
 use Rattle.bc_place.specs.Written.{IsWrittenAt}

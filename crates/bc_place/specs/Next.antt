@@ -9,7 +9,7 @@ use Rattle.bc_bucket.specs.declared.bucket.Mark.TheVariants as marks
 use Rattle.bc_fill.specs.Fill.{IsCut, IsPlacedIn, just_opened}
 use Rattle.bc_fill.specs.declared.fill.Open.{Open}
 use Rattle.bc_fill.specs.declared.fill.Placed.{Placed}
-use Rattle.bc_machine.specs.declared.part.BucketsPart.{BucketsPart}
+use Rattle.bc_deed.specs.bc_machine.declared.part.BucketsPart.{BucketsPart}
 use Rattle.bc_places.specs.Steps.{fills}
 
 -- a count of 32 bits stands still at its end

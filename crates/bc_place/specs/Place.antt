@@ -12,10 +12,10 @@ use Rattle.bc_events.specs.declared.event.Deed.{Deed}
 use Rattle.bc_events.specs.declared.event.Deed.TheVariants as deed
 use Rattle.bc_fill.specs.Fresh.{IsOf}
 use Rattle.bc_fill.specs.declared.fill.Placed.{Placed}
-use Rattle.bc_hand.specs.Seats.{Did, View, world}
-use Rattle.bc_hand.specs.declared.error.StepError.{StepError}
-use Rattle.bc_hand.specs.declared.error.StepError.TheVariants as error
-use Rattle.bc_machine.specs.World.{FromEach, Origin}
+use Rattle.bc_deed.specs.bc_hand.Seats.{Did, View, world}
+use Rattle.bc_deed.specs.bc_hand.declared.error.StepError.{StepError}
+use Rattle.bc_deed.specs.bc_hand.declared.error.StepError.TheVariants as error
+use Rattle.bc_deed.specs.bc_machine.World.{FromEach, Origin}
 use Rattle.bc_meta.specs.Layout.{Layout}
 use Rattle.bc_places.specs.Laws.{HasNone}
 use Rattle.bc_shares.specs.Shares.{books_of}

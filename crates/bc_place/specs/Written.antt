@@ -15,10 +15,10 @@ use Rattle.bc_events.specs.declared.event.UnpinKind.TheVariants as unpin
 use Rattle.bc_events.specs.declared.event.Written.TheVariants as written
 use Rattle.bc_fill.specs.Fresh.{IsApart}
 use Rattle.bc_fill.specs.declared.fill.Placed.{Placed}
-use Rattle.bc_hand.specs.Seats.{Did, View, world}
-use Rattle.bc_hand.specs.declared.error.StepError.{StepError}
-use Rattle.bc_hand.specs.declared.error.StepError.TheVariants as error
-use Rattle.bc_machine.specs.World.{FromEach, Origin}
+use Rattle.bc_deed.specs.bc_hand.Seats.{Did, View, world}
+use Rattle.bc_deed.specs.bc_hand.declared.error.StepError.{StepError}
+use Rattle.bc_deed.specs.bc_hand.declared.error.StepError.TheVariants as error
+use Rattle.bc_deed.specs.bc_machine.World.{FromEach, Origin}
 use Rattle.bc_shares.specs.Shares.{books_of}
 use Rattle.bc_place.specs.Place.{HasBefore, IsOwn}
 

@@ -20,3 +20,7 @@ pub mod name;
 pub mod pin;
 pub mod unpin;
 pub mod write;
+
+// Passed on, so that a crate above need not list these.
+pub use bc_deed;
+pub use bc_deed::{bc_hand, bc_machine};

@@ -4,8 +4,8 @@ ghost use Rattle.bc_place.specs.Next.{HasNamed, all_named, named_at, place_named
 
 use crate::unpin::unpin_each;
 use bc_bucket::{Buckets, Mark};
+use bc_deed::bc_machine::part::BucketsPart;
 use bc_fill::Placed;
-use bc_machine::part::BucketsPart;
 
 /// Notes that dirty keys name these places, each in all of its sectors: they are pinned no more, and
 /// their buckets have data that the backing device lacks. Takes no memory.

@@ -3,8 +3,8 @@ ghost use Rattle.std.specs.Prelude.{◌≡◌, ◌≢◌, ◌+◌, ◌<◌, ◌�
 ghost use Rattle.bc_alloc.specs.Reserves.{list_of};
 ghost use Rattle.bc_bucket.specs.Buckets.{changed};
 ghost use Rattle.bc_deed.specs.Asked.{IsHalted};
-ghost use Rattle.bc_hand.specs.Seats.{core, world, kinds, IsCoreSeat, Works, Did, HasNoneBehindBuckets};
-ghost use Rattle.bc_machine.specs.World.{FromEach, AreBuckets, are_plain};
+ghost use Rattle.bc_deed.specs.bc_hand.Seats.{core, world, kinds, IsCoreSeat, Works, Did, HasNoneBehindBuckets};
+ghost use Rattle.bc_deed.specs.bc_machine.World.{FromEach, AreBuckets, are_plain};
 ghost use Rattle.bc_parts.specs.Seat.{Holds};
 ghost use Rattle.bc_place.specs.Next.{HasCut, HasFirst, IsNext, with_pins};
 ghost use Rattle.bc_place.specs.Place.{HasBefore, HasHalted, HasOpened, HasPinned, HasPlaced, IsOwn};
@@ -13,16 +13,16 @@ ghost use Rattle.bc_seats.specs.Seats.{Kept};
 
 use bc_alloc::{NoBucket, Purpose};
 use bc_bucket::Buckets;
+use bc_deed::bc_hand::error::StepError;
+use bc_deed::bc_hand::hand::Hand;
+use bc_deed::bc_hand::lend::{borrow_buckets, return_buckets};
+use bc_deed::bc_hand::seat::commit;
+use bc_deed::bc_machine::machine::{CoreParts, CoreSeat};
+use bc_deed::bc_machine::part::BucketsPart;
 use bc_disk::disk::Disk;
 use bc_events::event::Deed;
 use bc_fill::{Placed, place};
-use bc_hand::error::StepError;
-use bc_hand::hand::Hand;
-use bc_hand::lend::{borrow_buckets, return_buckets};
-use bc_hand::seat::commit;
 use bc_key::Ptr;
-use bc_machine::machine::{CoreParts, CoreSeat};
-use bc_machine::part::BucketsPart;
 use std::sync::Wait;
 
 /// Gives the seat a place for `count` sectors of data, or for as many as fit up to the end of an

@@ -1,8 +1,8 @@
 //! The step that lets a place go.
 ghost use Rattle.std.specs.Prelude.{◌≡◌, ◌<◌, ◌==◌, ℕ, false, None, Some, length};
 ghost use Rattle.bc_bucket.specs.Buckets.{changed};
-ghost use Rattle.bc_hand.specs.Seats.{core, world, kinds, IsCoreSeat, Works, Did, HasNoneBehindBuckets};
-ghost use Rattle.bc_machine.specs.World.{FromEach, AreBuckets, are_plain};
+ghost use Rattle.bc_deed.specs.bc_hand.Seats.{core, world, kinds, IsCoreSeat, Works, Did, HasNoneBehindBuckets};
+ghost use Rattle.bc_deed.specs.bc_machine.World.{FromEach, AreBuckets, are_plain};
 ghost use Rattle.bc_parts.specs.Seat.{Holds};
 ghost use Rattle.bc_place.specs.Next.{IsLetGo, without_pins};
 ghost use Rattle.bc_place.specs.Place.{IsOwn};
@@ -10,14 +10,14 @@ ghost use Rattle.bc_place.specs.Written.{HasUnpinned};
 ghost use Rattle.bc_seats.specs.Seats.{Kept};
 
 use bc_bucket::Buckets;
+use bc_deed::bc_hand::hand::Hand;
+use bc_deed::bc_hand::lend::{borrow_buckets, return_buckets};
+use bc_deed::bc_hand::seat::commit;
+use bc_deed::bc_machine::machine::{CoreParts, CoreSeat};
+use bc_deed::bc_machine::part::BucketsPart;
 use bc_disk::disk::Disk;
 use bc_events::event::{Deed, UnpinKind};
 use bc_fill::Placed;
-use bc_hand::hand::Hand;
-use bc_hand::lend::{borrow_buckets, return_buckets};
-use bc_hand::seat::commit;
-use bc_machine::machine::{CoreParts, CoreSeat};
-use bc_machine::part::BucketsPart;
 use std::sync::Wait;
 
 /// Lets a place go that the seat pinned, and that no key names, also after a halt. Nobody writes

@@ -12,16 +12,16 @@ use Rattle.bc_events_example.proofs.Stored.{t20}
 use Rattle.bc_fill.specs.Fresh.{IsOf}
 use Rattle.bc_fill.specs.declared.fill.Placed.{Placed}
 use Rattle.bc_key.specs.declared.ptr.Ptr.{Ptr}
-use Rattle.bc_machine.specs.Frame.{by_test}
-use Rattle.bc_machine.specs.World.{Origin}
+use Rattle.bc_insert.specs.bc_machine.Frame.{by_test}
+use Rattle.bc_insert.specs.bc_machine.World.{Origin}
 use Rattle.bc_shares.specs.Shares.{books_of}
 use Rattle.bc_whole.proofs.Built.{s0}
 use Rattle.bc_known_example.proofs.Opened.{sound}
 use Rattle.bc_whole.proofs.Start.{held}
 use Rattle.bc_whole.proofs.Stored.{nine}
-use Rattle.bc_place.specs.Named.{IsFilled}
-use Rattle.bc_place.specs.Place.{IsOwn}
-use Rattle.bc_place.specs.Written.{HasWritten, IsWrittenAt}
+use Rattle.bc_insert.specs.bc_place.Named.{IsFilled}
+use Rattle.bc_insert.specs.bc_place.Place.{IsOwn}
+use Rattle.bc_insert.specs.bc_place.Written.{HasWritten, IsWrittenAt}
 use Rattle.bc_place_example.specs.Example.{HasExample, HasPlace}
 
 -- a run's beginning is a run

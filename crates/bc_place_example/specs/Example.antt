@@ -6,10 +6,10 @@ use Rattle.bc_events.specs.declared.event.Event.{Event}
 use Rattle.bc_fill.specs.declared.fill.Placed.{Placed}
 use Rattle.bc_insert.specs.Write.{AreReady}
 use Rattle.bc_known.specs.Laws.{IsSound}
-use Rattle.bc_machine.specs.World.{Origin}
-use Rattle.bc_place.specs.Named.{IsFilled}
-use Rattle.bc_place.specs.Place.{IsOwn}
-use Rattle.bc_place.specs.Written.{HasWritten}
+use Rattle.bc_insert.specs.bc_machine.World.{Origin}
+use Rattle.bc_insert.specs.bc_place.Named.{IsFilled}
+use Rattle.bc_insert.specs.bc_place.Place.{IsOwn}
+use Rattle.bc_insert.specs.bc_place.Written.{HasWritten}
 
 -- The place has more than one sector; the first holds this value, which a write of this sector wants.
 -- With that alone the place is ready for a write of one sector.

@@ -23,7 +23,7 @@ use Rattle.bc_events.specs.declared.event.Failure.TheVariants as failure
 use Rattle.bc_events.specs.declared.event.Deed.{Deed}
 use Rattle.bc_events.specs.declared.event.Deed.TheVariants as deed
 use Rattle.bc_events.specs.declared.event.Event.{Event}
-use Rattle.bc_machine.specs.Frame.{Notes, touches, Keeps, in_acts, is_noted, rows}
+use Rattle.bc_hand.specs.bc_machine.Frame.{Notes, touches, Keeps, in_acts, is_noted, rows}
 
 -- ---- by seats
 

@@ -8,10 +8,10 @@ use Rattle.bc_data.specs.Seats.{Claim, Covers, new_claim}
 use Rattle.bc_data.specs.Enabled.{IsBare}
 use Rattle.bc_data.specs.Example.{zero_value, one_value}
 use Rattle.bc_data.proofs.Asked.{run_one}
-use Rattle.bc_machine.specs.declared.part.BackingPart.{BackingPart}
-use Rattle.bc_machine.specs.declared.part.CorePart.TheVariants as part
-use Rattle.bc_machine.specs.World.{World, opening, IsBackingOf, IsEnabled, after}
-use Rattle.bc_machine.proofs.Viewing.{plain_view}
+use Rattle.bc_hand.specs.bc_machine.declared.part.BackingPart.{BackingPart}
+use Rattle.bc_hand.specs.bc_machine.declared.part.CorePart.TheVariants as part
+use Rattle.bc_hand.specs.bc_machine.World.{World, opening, IsBackingOf, IsEnabled, after}
+use Rattle.bc_hand.proofs.of_bc_machine.Viewing.{plain_view}
 use Rattle.bc_events.specs.declared.event.Deed.TheVariants.{Claim as ClaimDeed, BackingWrite, BackingBarrier}
 use Rattle.bc_flight.specs.declared.claim.Share.TheVariants.{Exclusive}
 use Rattle.bc_events.specs.declared.event.Event.{Event}

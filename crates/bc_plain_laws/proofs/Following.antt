@@ -5,8 +5,8 @@ use Rattle.bc_disk.specs.Disk.{DiskFacts}
 use Rattle.bc_parts.specs.Machine.{IsRun}
 use Rattle.bc_events.specs.Run as core
 use Rattle.bc_events.specs.declared.event.Event.{Event}
-use Rattle.bc_machine.specs.World.{World, after, is_plain, is_told}
-use Rattle.bc_machine.specs.Standing.{told_event}
+use Rattle.bc_hand.specs.bc_machine.World.{World, after, is_plain, is_told}
+use Rattle.bc_hand.specs.bc_machine.Standing.{told_event}
 use Rattle.bc_hand.specs.Seats.{core as machine}
 
 pub told_events : (x : World) (es : List Event) → is_told (fold after x es) ≡ is_told x

@@ -18,8 +18,8 @@ use Rattle.bc_events.specs.declared.event.Failure.TheVariants as failure
 use Rattle.bc_events.specs.declared.event.Deed.{Deed}
 use Rattle.bc_events.specs.declared.event.Deed.TheVariants as deed
 use Rattle.bc_events.specs.declared.event.Event.{Event}
-use Rattle.bc_machine.specs.Frame.{Halts, stays_event}
-use Rattle.bc_machine.specs.World.{Side, World}
+use Rattle.bc_hand.specs.bc_machine.Frame.{Halts, stays_event}
+use Rattle.bc_hand.specs.bc_machine.World.{Side, World}
 
 told_some : (h : Option Device) (d : Device) → true ≡ is_some (first_halt h (Some d))
 told_some None d = refl

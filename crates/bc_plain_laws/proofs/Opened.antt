@@ -4,8 +4,8 @@ use Rattle.std.proofs.lemmas.Bool.{ltb-true}
 use Rattle.bc_model.specs.Sector.{Image}
 use Rattle.bc_data.specs.Laws.{IsPair}
 use Rattle.bc_events.specs.Laws.{HaveWorkers}
-use Rattle.bc_machine.specs.Frame.{by_test}
-use Rattle.bc_machine.specs.Plain.{bare_data, bare_opening, worker_of}
+use Rattle.bc_hand.specs.bc_machine.Frame.{by_test}
+use Rattle.bc_hand.specs.bc_machine.Plain.{bare_data, bare_opening, worker_of}
 
 pub pair_of : (plain : Bool) (size : ℕ) (cache held : Image)
     → IsPair (bare_data plain size cache held)

@@ -16,7 +16,7 @@ use Rattle.bc_events.specs.Acts.{acts_of}
 use Rattle.bc_events.specs.Run as core
 use Rattle.bc_events.specs.Run.{IsSome, CanDo, AreAlone, acts_or_none}
 use Rattle.bc_events.specs.declared.event.Event.{Event}
-use Rattle.bc_machine.specs.Frame.{by_test}
+use Rattle.bc_hand.specs.bc_machine.Frame.{by_test}
 
 -- the claim lies within the data
 abbrev IsInside : ℕ → Claim → Type 0

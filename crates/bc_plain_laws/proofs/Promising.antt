@@ -15,11 +15,11 @@ use Rattle.bc_events.specs.Columns.{entries_of, halt_of}
 use Rattle.bc_events.proofs.Plain as plain_law
 use Rattle.bc_events.proofs.Names.{law_workers}
 use Rattle.bc_events.specs.declared.event.Event.{Event}
-use Rattle.bc_machine.specs.declared.part.BackingPart.{BackingPart}
-use Rattle.bc_machine.specs.declared.part.CorePart.{CorePart}
-use Rattle.bc_machine.specs.declared.part.CorePart.TheVariants as part
-use Rattle.bc_machine.specs.Plain.{no_parts}
-use Rattle.bc_machine.specs.World.{World, behind, data_of, is_told, is_some_image, image_of, cache_among, are_plain, data_among, opening, IsBackingOf, IsBacking}
+use Rattle.bc_hand.specs.bc_machine.declared.part.BackingPart.{BackingPart}
+use Rattle.bc_hand.specs.bc_machine.declared.part.CorePart.{CorePart}
+use Rattle.bc_hand.specs.bc_machine.declared.part.CorePart.TheVariants as part
+use Rattle.bc_hand.specs.bc_machine.Plain.{no_parts}
+use Rattle.bc_hand.specs.bc_machine.World.{World, behind, data_of, is_told, is_some_image, image_of, cache_among, are_plain, data_among, opening, IsBackingOf, IsBacking}
 use Rattle.bc_hand.specs.Seats.{core as machine}
 use Rattle.bc_plain_laws.specs.Promises.{Survives, LeavesLastWrites, IsOutside, IsUntouched}
 use Rattle.bc_plain_laws.specs.Laws.{HasHistory, EndsFirmly, IsPlainRun, last, data_offset, data_size, LawHistory, LawLegal, LawSurvives, LawStable, LawOutside, Promises, LawPromises}

@@ -12,9 +12,9 @@ use Rattle.bc_events.specs.declared.event.LineNumber.{LineNumber}
 use Rattle.bc_events.specs.declared.event.Deed.{Deed}
 use Rattle.bc_events.specs.declared.event.Deed.TheVariants.{Claim, BackingWrite, BackingBarrier, Answer}
 use Rattle.bc_events.specs.declared.event.Event.{Event}
-use Rattle.bc_machine.specs.declared.part.BackingPart.{BackingPart}
-use Rattle.bc_machine.specs.declared.part.CorePart.TheVariants as part
-use Rattle.bc_machine.specs.World.{no_device, opening, IsBacking}
+use Rattle.bc_hand.specs.bc_machine.declared.part.BackingPart.{BackingPart}
+use Rattle.bc_hand.specs.bc_machine.declared.part.CorePart.TheVariants as part
+use Rattle.bc_hand.specs.bc_machine.World.{no_device, opening, IsBacking}
 use Rattle.bc_hand.specs.Seats.{core}
 use Rattle.bc_plain_laws.specs.Promises.{LeavesLastWrites}
 use Rattle.bc_plain_laws.specs.Laws.{EndsFirmly, IsPlainRun, last}

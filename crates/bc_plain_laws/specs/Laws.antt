@@ -10,10 +10,10 @@ use Rattle.bc_events.specs.Run.{history_of}
 use Rattle.bc_events.specs.Columns.{entries_of, halt_of}
 use Rattle.bc_events.specs.declared.event.Deed.TheVariants.{BackingBarrier}
 use Rattle.bc_events.specs.declared.event.Event.{Event}
-use Rattle.bc_machine.specs.declared.part.BackingPart.{BackingPart}
-use Rattle.bc_machine.specs.declared.part.CorePart.{CorePart}
-use Rattle.bc_machine.specs.declared.part.CorePart.TheVariants as part
-use Rattle.bc_machine.specs.World.{World, data_of, are_plain, data_among, opening, IsBacking}
+use Rattle.bc_hand.specs.bc_machine.declared.part.BackingPart.{BackingPart}
+use Rattle.bc_hand.specs.bc_machine.declared.part.CorePart.{CorePart}
+use Rattle.bc_hand.specs.bc_machine.declared.part.CorePart.TheVariants as part
+use Rattle.bc_hand.specs.bc_machine.World.{World, data_of, are_plain, data_among, opening, IsBacking}
 use Rattle.bc_hand.specs.Seats.{core}
 use Rattle.bc_plain_laws.specs.Promises.{Survives, LeavesLastWrites, IsUntouched}
 

@@ -18,3 +18,7 @@
 #![tactic(auto)]
 
 pub mod laws;
+
+// Passed on, so that a crate above need not list these.
+pub use bc_hand;
+pub use bc_hand::bc_machine;

@@ -13,7 +13,7 @@ use Rattle.bc_reads.specs.Reads.{AreRuns, IsReadFrom, IsRun, moved}
 use Rattle.bc_reads.specs.declared.runs.ReadRun.{ReadRun}
 use Rattle.bc_reads.specs.declared.source.ReadFrom.{ReadFrom}
 use Rattle.bc_reads.specs.declared.source.ReadFrom.TheVariants.{Backing, Cache}
-use Rattle.bc_sight.specs.Sight.{MayAnswer, said_in}
+use Rattle.bc_reads.specs.bc_sight.Sight.{MayAnswer, said_in}
 use Rattle.bc_reader.specs.Known.{IsReadAs}
 use Rattle.bc_reader.specs.Noted.{AreNoted, AreNotedFor, IsUnchanged, noted_of}
 use Rattle.bc_reader.specs.declared.noted.Noted.{Noted}

@@ -6,22 +6,22 @@ use Rattle.bc_bucket.specs.Buckets.{Buckets}
 use Rattle.bc_cache.specs.Fetch.{IsLeafIn}
 use Rattle.bc_cache.specs.Slots.{HasLeaf as SlotHas, IsSlotOf, Misses}
 use Rattle.bc_cache.specs.declared.slots.Cached.{Cached}
-use Rattle.bc_deed.proofs.Sequence.{done_both, done_one}
-use Rattle.bc_deed.specs.Flushed.{HasDone}
+use Rattle.bc_fetch.proofs.of_bc_deed.Sequence.{done_both, done_one}
+use Rattle.bc_fetch.specs.bc_deed.Flushed.{HasDone}
 use Rattle.bc_disk.specs.Disk.{DiskFacts}
 use Rattle.bc_events.specs.declared.event.Deed.{Deed}
 use Rattle.bc_events.specs.declared.event.Event.{Event}
 use Rattle.bc_fetch.specs.Fetch.{HasReadOne, node_read}
 use Rattle.bc_fetch.specs.declared.error.LeafError.TheVariants as errors
-use Rattle.bc_hand.specs.declared.error.StepError.TheVariants as step
-use Rattle.bc_hand.proofs.Knowing.{View, m}
-use Rattle.bc_hand.specs.Seats.{by, note, IsCoreSeat}
-use Rattle.bc_hand.specs.declared.hand.Hand.{Hand}
-use Rattle.bc_hand.specs.declared.hand.LeafHand.{LeafHand}
-use Rattle.bc_machine.specs.Note.{no_note, note_after, note_by}
-use Rattle.bc_machine.specs.World.{are_plain}
-use Rattle.bc_machine.specs.declared.part.BucketsPart.{BucketsPart}
-use Rattle.bc_machine.specs.declared.part.CorePart.{CorePart}
+use Rattle.bc_fetch.specs.bc_hand.declared.error.StepError.TheVariants as step
+use Rattle.bc_fetch.proofs.of_bc_hand.Knowing.{View, m}
+use Rattle.bc_fetch.specs.bc_hand.Seats.{by, note, IsCoreSeat}
+use Rattle.bc_fetch.specs.bc_hand.declared.hand.Hand.{Hand}
+use Rattle.bc_fetch.specs.bc_hand.declared.hand.LeafHand.{LeafHand}
+use Rattle.bc_fetch.specs.bc_machine.Note.{no_note, note_after, note_by}
+use Rattle.bc_fetch.specs.bc_machine.World.{are_plain}
+use Rattle.bc_fetch.specs.bc_machine.declared.part.BucketsPart.{BucketsPart}
+use Rattle.bc_fetch.specs.bc_machine.declared.part.CorePart.{CorePart}
 use Rattle.bc_node.specs.Leaf.{Leaf}
 use Rattle.bc_parts.specs.Seat.{Run}
 use Rattle.bc_reads.specs.Reads.{AreRuns, IsReadFrom, IsRun, moved}
@@ -29,7 +29,7 @@ use Rattle.bc_reads.specs.declared.runs.ReadRun.{ReadRun}
 use Rattle.bc_reads.specs.declared.source.ReadFrom.{ReadFrom}
 use Rattle.bc_reads.specs.declared.source.ReadFrom.TheVariants.{Cache}
 use Rattle.bc_seats.specs.Seats.{Waited, own_events}
-use Rattle.bc_sight.specs.Sight.{HasLeaf}
+use Rattle.bc_reads.specs.bc_sight.Sight.{HasLeaf}
 use Rattle.bc_reader.specs.Look.{HasBoth, IsFound, IsLostBy, IsNotFound, IsSeenBy, IsWay, NotSeenBy}
 use Rattle.bc_reader.specs.Noted.{LieInBuckets}
 use Rattle.bc_reader.specs.declared.error.ReadError.{ReadError}

@@ -6,3 +6,6 @@ pub mod Running
 pub mod Series
 pub mod Turning
 pub mod Uses
+pub use Rattle.bc_fetch.proofs.of_bc_fetched
+pub use Rattle.bc_reads.proofs.of_bc_looks
+pub use Rattle.bc_reads.proofs.of_bc_sight

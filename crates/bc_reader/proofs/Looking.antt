@@ -2,28 +2,28 @@
 use Rattle.std.specs.Prelude.{is_some}
 use Rattle.std.proofs.Common.{◌≡◌, inr, ℕ, false, true, List, [], ◌∷◌, Option, Some, None, refl, sym, ap, ◌∙◌, subst, arith}
 use Rattle.bc_cache.specs.declared.slots.Cached.{Cached}
-use Rattle.bc_deed.proofs.Sequence.{done_both, done_first}
-use Rattle.bc_deed.specs.Asked.{IsHalted}
-use Rattle.bc_deed.specs.Flushed.{HasDone}
+use Rattle.bc_fetch.proofs.of_bc_deed.Sequence.{done_both, done_first}
+use Rattle.bc_fetch.specs.bc_deed.Asked.{IsHalted}
+use Rattle.bc_fetch.specs.bc_deed.Flushed.{HasDone}
 use Rattle.bc_disk.specs.Disk.{DiskFacts}
 use Rattle.bc_events.specs.declared.event.Deed.{Deed}
 use Rattle.bc_events.specs.declared.event.Deed.TheVariants as deed
 use Rattle.bc_fetch.specs.Fetch.{HasPart, HasReadOne, IsSameButCache}
 use Rattle.bc_fetch.specs.declared.error.LeafError.TheVariants as errors
-use Rattle.bc_hand.specs.declared.error.StepError.{StepError}
-use Rattle.bc_hand.specs.declared.error.StepError.TheVariants as step
-use Rattle.bc_hand.proofs.Knowing.{View, m}
-use Rattle.bc_hand.specs.Seats.{Did, IsCoreSeat, Works, empty, note}
-use Rattle.bc_hand.specs.declared.hand.Hand.{Hand}
-use Rattle.bc_machine.specs.Frame.{Range}
-use Rattle.bc_machine.specs.World.{cache_among}
-use Rattle.bc_machine.specs.Note.{Note}
-use Rattle.bc_machine.specs.declared.part.BucketsPart.{BucketsPart}
-use Rattle.bc_machine.specs.declared.part.CorePart.{CorePart}
+use Rattle.bc_fetch.specs.bc_hand.declared.error.StepError.{StepError}
+use Rattle.bc_fetch.specs.bc_hand.declared.error.StepError.TheVariants as step
+use Rattle.bc_fetch.proofs.of_bc_hand.Knowing.{View, m}
+use Rattle.bc_fetch.specs.bc_hand.Seats.{Did, IsCoreSeat, Works, empty, note}
+use Rattle.bc_fetch.specs.bc_hand.declared.hand.Hand.{Hand}
+use Rattle.bc_fetch.specs.bc_machine.Frame.{Range}
+use Rattle.bc_fetch.specs.bc_machine.World.{cache_among}
+use Rattle.bc_fetch.specs.bc_machine.Note.{Note}
+use Rattle.bc_fetch.specs.bc_machine.declared.part.BucketsPart.{BucketsPart}
+use Rattle.bc_fetch.specs.bc_machine.declared.part.CorePart.{CorePart}
 use Rattle.bc_parts.specs.Seat.{PartsView}
 use Rattle.bc_seats.specs.Seats.{Waited}
-use Rattle.bc_sight.proofs.Reading.{knows_waited}
-use Rattle.bc_sight.specs.Sight.{HasLeaf, Knows, OfClaim}
+use Rattle.bc_reads.proofs.of_bc_sight.Reading.{knows_waited}
+use Rattle.bc_reads.specs.bc_sight.Sight.{HasLeaf, Knows, OfClaim}
 use Rattle.bc_reader.specs.Look.{HasSeen, IsFound, IsNotFound, IsOver, IsStoppedIn, IsWay, LookStop, NotSeen}
 use Rattle.bc_reader.specs.declared.error.ReadError.{ReadError}
 use Rattle.bc_reader.specs.declared.error.ReadError.TheVariants as error

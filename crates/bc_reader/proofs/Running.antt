@@ -10,24 +10,24 @@ use Rattle.bc_disk.specs.Disk.{DiskFacts}
 use Rattle.bc_events.specs.Run as core
 use Rattle.bc_events.specs.declared.event.Deed.{Deed}
 use Rattle.bc_events.specs.declared.event.Deed.TheVariants as deed
-use Rattle.bc_hand.proofs.Knowing.{View, note_committed, note_waited}
-use Rattle.bc_hand.specs.Seats.{by, note, IsCoreSeat, Did}
-use Rattle.bc_hand.specs.declared.error.StepError.{StepError}
-use Rattle.bc_hand.specs.declared.error.StepError.TheVariants as error
-use Rattle.bc_machine.specs.Frame.{by_test}
-use Rattle.bc_machine.specs.Note.{Note, note_after}
-use Rattle.bc_machine.specs.World.{replay}
+use Rattle.bc_fetch.proofs.of_bc_hand.Knowing.{View, note_committed, note_waited}
+use Rattle.bc_fetch.specs.bc_hand.Seats.{by, note, IsCoreSeat, Did}
+use Rattle.bc_fetch.specs.bc_hand.declared.error.StepError.{StepError}
+use Rattle.bc_fetch.specs.bc_hand.declared.error.StepError.TheVariants as error
+use Rattle.bc_fetch.specs.bc_machine.Frame.{by_test}
+use Rattle.bc_fetch.specs.bc_machine.Note.{Note, note_after}
+use Rattle.bc_fetch.specs.bc_machine.World.{replay}
 use Rattle.bc_model.proofs.Runs.{at_miss, at_range}
 use Rattle.bc_model.specs.Sector.{Value, at_run}
 use Rattle.bc_node.specs.Leaf.{Leaf}
-use Rattle.bc_deed.proofs.May.{did_nothing}
-use Rattle.bc_deed.proofs.Sequence.{done_one, done_then, one_of}
-use Rattle.bc_deed.specs.Asked.{HasFailedOr}
-use Rattle.bc_deed.specs.Flushed.{HasDone}
-use Rattle.bc_sight.proofs.Claims.{claim_committed}
-use Rattle.bc_sight.proofs.Reading.{knows_read}
-use Rattle.bc_sight.specs.Asked.{HasFailedReadOr}
-use Rattle.bc_sight.specs.Sight.{IsOnBacking, Knows, OfClaim, but_firm, with_values}
+use Rattle.bc_fetch.proofs.of_bc_deed.May.{did_nothing}
+use Rattle.bc_fetch.proofs.of_bc_deed.Sequence.{done_one, done_then, one_of}
+use Rattle.bc_fetch.specs.bc_deed.Asked.{HasFailedOr}
+use Rattle.bc_fetch.specs.bc_deed.Flushed.{HasDone}
+use Rattle.bc_reads.proofs.of_bc_sight.Claims.{claim_committed}
+use Rattle.bc_reads.proofs.of_bc_sight.Reading.{knows_read}
+use Rattle.bc_reads.specs.bc_sight.Asked.{HasFailedReadOr}
+use Rattle.bc_reads.specs.bc_sight.Sight.{IsOnBacking, Knows, OfClaim, but_firm, with_values}
 use Rattle.bc_reads.proofs.Still.{law_backing, law_clean}
 use Rattle.bc_reads.specs.Reads.{IsReadFrom, IsRun, moved}
 use Rattle.bc_reads.specs.declared.runs.ReadRun.{ReadRun}
@@ -102,7 +102,7 @@ module _ {C B : Type 0} (cache_facts : C → DiskFacts) (backing_facts : B → D
 
   knows_failed : (v w : View cache_facts backing_facts) → IsCoreSeat cache_facts backing_facts v
       → Did cache_facts backing_facts (Some cache_fault) v w
-      → (P : Rattle.bc_machine.specs.World.Origin → Rattle.bc_data.specs.Seats.Claim → Type 0)
+      → (P : Rattle.bc_fetch.specs.bc_machine.World.Origin → Rattle.bc_data.specs.Seats.Claim → Type 0)
       → OfClaim cache_facts backing_facts v P → OfClaim cache_facts backing_facts w P
   knows_failed v w seat did P knows = claim_committed cache_facts backing_facts v w cache_fault seat P P did
       (λ o is course h. subst (P o)

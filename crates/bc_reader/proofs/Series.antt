@@ -3,15 +3,15 @@ use Rattle.std.specs.Prelude.{drop, take}
 use Rattle.std.proofs.Common.{◌≡◌, ℕ, zero, suc, get_or, ◌+◌, ◌*◌, ◌<◌, ◌≤◌, List, [], ◌∷◌, ◌++◌, length, None, refl, sym, ap, ◌∙◌, subst, arith}
 use Rattle.std.proofs.lemmas.List.{append-nil, append_assoc, length-append, take_more}
 use Rattle.bc_bucket.specs.Buckets.{Buckets}
-use Rattle.bc_deed.proofs.Sequence.{done_both}
-use Rattle.bc_deed.specs.Asked.{IsWithin}
-use Rattle.bc_deed.specs.Flushed.{HasDone}
+use Rattle.bc_fetch.proofs.of_bc_deed.Sequence.{done_both}
+use Rattle.bc_fetch.specs.bc_deed.Asked.{IsWithin}
+use Rattle.bc_fetch.specs.bc_deed.Flushed.{HasDone}
 use Rattle.bc_disk.specs.Disk.{DiskFacts}
 use Rattle.bc_events.specs.declared.event.Deed.{Deed}
-use Rattle.bc_hand.proofs.Knowing.{View}
-use Rattle.bc_hand.specs.declared.error.StepError.{StepError}
-use Rattle.bc_hand.specs.declared.hand.Hand.{Hand}
-use Rattle.bc_machine.specs.Frame.{Range}
+use Rattle.bc_fetch.proofs.of_bc_hand.Knowing.{View}
+use Rattle.bc_fetch.specs.bc_hand.declared.error.StepError.{StepError}
+use Rattle.bc_fetch.specs.bc_hand.declared.hand.Hand.{Hand}
+use Rattle.bc_fetch.specs.bc_machine.Frame.{Range}
 use Rattle.bc_model.specs.Sector.{Value, sectors}
 use Rattle.bc_node.specs.Leaf.{Leaf}
 use Rattle.bc_reads.proofs.Said.{one_more}

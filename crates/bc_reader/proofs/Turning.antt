@@ -2,33 +2,33 @@
 use Rattle.std.proofs.Common.{◌≡◌, inl, inr, ℕ, ◌+◌, ◌<◌, ◌≤◌, Bool, false, true, List, [], ◌∷◌, length, Option, Some, None, refl, sym, ap, ◌∙◌, subst, arith}
 use Rattle.std.specs.Prelude.{All, MatchBool, Result, Ok, Err, IfErr, OnOk, OnErr, is_some}
 use Rattle.bc_bucket.specs.Buckets.{Buckets}
-use Rattle.bc_deed.proofs.May.{did_nothing}
-use Rattle.bc_deed.proofs.Sequence.{done_both, done_first}
-use Rattle.bc_deed.specs.Asked.{IsHaltedOr, IsWithin}
-use Rattle.bc_deed.specs.Flushed.{HasDone}
+use Rattle.bc_fetch.proofs.of_bc_deed.May.{did_nothing}
+use Rattle.bc_fetch.proofs.of_bc_deed.Sequence.{done_both, done_first}
+use Rattle.bc_fetch.specs.bc_deed.Asked.{IsHaltedOr, IsWithin}
+use Rattle.bc_fetch.specs.bc_deed.Flushed.{HasDone}
 use Rattle.bc_disk.specs.Disk.{DiskFacts}
 use Rattle.bc_events.specs.declared.event.Deed.{Deed}
 use Rattle.bc_events.specs.declared.event.Deed.TheVariants as deed
 use Rattle.bc_events.specs.declared.event.Event.{Event}
 use Rattle.bc_events.specs.declared.event.LineNumber.{LineNumber}
 use Rattle.bc_fetch.specs.declared.error.LeafError.TheVariants as leaf
-use Rattle.bc_hand.proofs.Knowing.{View, m, note_committed_is, note_waited_is}
-use Rattle.bc_hand.specs.Seats.{Did, IsCoreSeat, Kinds, Works, by, empty, kinds, note}
-use Rattle.bc_hand.specs.declared.error.StepError.{StepError}
-use Rattle.bc_hand.specs.declared.error.StepError.TheVariants as step
-use Rattle.bc_hand.specs.declared.hand.Hand.{Hand}
-use Rattle.bc_machine.specs.Frame.{Range}
-use Rattle.bc_machine.specs.Note.{Note}
-use Rattle.bc_machine.specs.declared.part.BackingPart.{BackingPart}
-use Rattle.bc_machine.specs.declared.part.BucketsPart.{BucketsPart}
-use Rattle.bc_machine.specs.declared.part.CorePart.{CorePart}
+use Rattle.bc_fetch.proofs.of_bc_hand.Knowing.{View, m, note_committed_is, note_waited_is}
+use Rattle.bc_fetch.specs.bc_hand.Seats.{Did, IsCoreSeat, Kinds, Works, by, empty, kinds, note}
+use Rattle.bc_fetch.specs.bc_hand.declared.error.StepError.{StepError}
+use Rattle.bc_fetch.specs.bc_hand.declared.error.StepError.TheVariants as step
+use Rattle.bc_fetch.specs.bc_hand.declared.hand.Hand.{Hand}
+use Rattle.bc_fetch.specs.bc_machine.Frame.{Range}
+use Rattle.bc_fetch.specs.bc_machine.Note.{Note}
+use Rattle.bc_fetch.specs.bc_machine.declared.part.BackingPart.{BackingPart}
+use Rattle.bc_fetch.specs.bc_machine.declared.part.BucketsPart.{BucketsPart}
+use Rattle.bc_fetch.specs.bc_machine.declared.part.CorePart.{CorePart}
 use Rattle.bc_model.specs.Sector.{Value}
 use Rattle.bc_node.specs.Leaf.{Leaf}
 use Rattle.bc_parts.specs.Seat.{PartsView}
 use Rattle.bc_reads.specs.Reads.{AreRuns}
 use Rattle.bc_reads.specs.declared.runs.ReadRun.{ReadRun}
 use Rattle.bc_seats.specs.Seats.{Waited}
-use Rattle.bc_sight.proofs.Reading.{knows_waited}
+use Rattle.bc_reads.proofs.of_bc_sight.Reading.{knows_waited}
 use Rattle.bc_reader.specs.Claimed.{HasAnswered, HasAnsweredAtOnce, HasNotAnswered, HasReadSeen, HasStoppedAtOnce, HasTried, HasTurnedBack, MayAnswerWith, ReadStop}
 use Rattle.bc_reader.specs.Deeds.{AreRunsDeeds, HasDoneSome, HasStoppedBy, IsHaltAt, RunsStop}
 use Rattle.bc_reader.specs.Known.{HasValues, IsReadAs, IsSameButDevices}

@@ -1,21 +1,21 @@
 -- The reads of a claim, from its look to its answer.
 use Rattle.std.specs.Prelude.{◌≡◌, ◌⊎◌, ℕ, ◌+◌, ◌≤◌, All, Bool, true, false, List, [], ◌∷◌, Option, Some}
 use Rattle.bc_bucket.specs.Buckets.{Buckets}
-use Rattle.bc_deed.specs.Flushed.{HasDone}
+use Rattle.bc_fetch.specs.bc_deed.Flushed.{HasDone}
 use Rattle.bc_disk.specs.Disk.{DiskFacts}
 use Rattle.bc_events.specs.declared.event.Deed.TheVariants as deed
 use Rattle.bc_events.specs.declared.event.LineNumber.{LineNumber}
 use Rattle.bc_fetch.specs.declared.error.LeafError.TheVariants as leaf
-use Rattle.bc_hand.specs.Seats.{View, Works, note}
-use Rattle.bc_hand.specs.declared.error.StepError.{StepError}
-use Rattle.bc_hand.specs.declared.error.StepError.TheVariants as step
-use Rattle.bc_hand.specs.declared.hand.Hand.{Hand}
-use Rattle.bc_machine.specs.declared.part.BucketsPart.{BucketsPart}
-use Rattle.bc_machine.specs.declared.part.CorePart.{CorePart}
+use Rattle.bc_fetch.specs.bc_hand.Seats.{View, Works, note}
+use Rattle.bc_fetch.specs.bc_hand.declared.error.StepError.{StepError}
+use Rattle.bc_fetch.specs.bc_hand.declared.error.StepError.TheVariants as step
+use Rattle.bc_fetch.specs.bc_hand.declared.hand.Hand.{Hand}
+use Rattle.bc_fetch.specs.bc_machine.declared.part.BucketsPart.{BucketsPart}
+use Rattle.bc_fetch.specs.bc_machine.declared.part.CorePart.{CorePart}
 use Rattle.bc_model.specs.Sector.{Gives, Value}
 use Rattle.bc_node.specs.Leaf.{Leaf}
 use Rattle.bc_parts.specs.Seat.{PartsView}
-use Rattle.bc_sight.specs.Sight.{Knows, MayAnswer, OfClaim}
+use Rattle.bc_reads.specs.bc_sight.Sight.{Knows, MayAnswer, OfClaim}
 use Rattle.bc_reader.specs.Deeds.{AreRunsDeeds, HasDoneSome, HasStoppedBy, IsHaltAt, RunsStop}
 use Rattle.bc_reader.specs.Known.{HasValues}
 use Rattle.bc_reader.specs.Look.{HasBuckets, HasSeen, NotSeen}

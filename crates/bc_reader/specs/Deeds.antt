@@ -7,10 +7,10 @@ use Rattle.bc_events.specs.declared.event.Deed.{Deed}
 use Rattle.bc_events.specs.declared.event.Deed.TheVariants as deed
 use Rattle.bc_events.specs.declared.event.Event.{Event}
 use Rattle.bc_events.specs.declared.event.Failure.TheVariants as failure
-use Rattle.bc_deed.specs.Flushed.{HasDone}
-use Rattle.bc_hand.specs.Seats.{View}
-use Rattle.bc_hand.specs.declared.error.StepError.{StepError}
-use Rattle.bc_hand.specs.declared.error.StepError.TheVariants as error
+use Rattle.bc_fetch.specs.bc_deed.Flushed.{HasDone}
+use Rattle.bc_fetch.specs.bc_hand.Seats.{View}
+use Rattle.bc_fetch.specs.bc_hand.declared.error.StepError.{StepError}
+use Rattle.bc_fetch.specs.bc_hand.declared.error.StepError.TheVariants as error
 use Rattle.bc_model.specs.Sector.{Value}
 use Rattle.bc_reads.specs.declared.runs.ReadRun.{ReadRun}
 use Rattle.bc_reads.specs.declared.source.ReadFrom.TheVariants.{Backing, Cache}

@@ -2,15 +2,15 @@
 use Rattle.std.specs.Prelude.{◌≡◌, ◌⊎◌, ℕ, Bool, List, Option, Some}
 use Rattle.bc_bucket.specs.Buckets.{Buckets}
 use Rattle.bc_disk.specs.Disk.{DiskFacts}
-use Rattle.bc_hand.specs.Seats.{View, kinds, note}
-use Rattle.bc_hand.specs.declared.hand.Hand.{Hand}
-use Rattle.bc_machine.specs.Note.{Note}
+use Rattle.bc_fetch.specs.bc_hand.Seats.{View, kinds, note}
+use Rattle.bc_fetch.specs.bc_hand.declared.hand.Hand.{Hand}
+use Rattle.bc_fetch.specs.bc_machine.Note.{Note}
 use Rattle.bc_model.specs.Sector.{Gives, Value}
 use Rattle.bc_node.specs.Leaf.{Leaf}
 use Rattle.bc_reads.specs.Reads.{IsReadFrom, IsRun}
 use Rattle.bc_reads.specs.declared.runs.ReadRun.{ReadRun}
 use Rattle.bc_reads.specs.declared.source.ReadFrom.TheVariants.{Cache}
-use Rattle.bc_sight.specs.Sight.{IsOnBacking, Knows, OfClaim}
+use Rattle.bc_reads.specs.bc_sight.Sight.{IsOnBacking, Knows, OfClaim}
 
 -- the devices alone may be other ones
 pub record IsSameButDevices {C B : Type 0} (old new : Hand C B) : Type 0 where

@@ -1,26 +1,26 @@
 -- What a look finds, and why there is none.
 use Rattle.std.specs.Prelude.{◌≡◌, ◌⊎◌, ℕ, ◌+◌, ◌<◌, List, [], ◌∷◌, ◌++◌, Some, None, true}
 use Rattle.bc_cache.specs.declared.slots.Cached.{Cached}
-use Rattle.bc_deed.specs.Flushed.{HasDone}
+use Rattle.bc_fetch.specs.bc_deed.Flushed.{HasDone}
 use Rattle.bc_disk.specs.Disk.{DiskFacts}
 use Rattle.bc_events.specs.Columns.{halt_of}
 use Rattle.bc_events.specs.declared.event.Deed.{Deed}
 use Rattle.bc_events.specs.declared.event.Deed.TheVariants as deed
 use Rattle.bc_fetch.specs.Fetch.{HasStoppedAt, node_read}
 use Rattle.bc_fetch.specs.declared.error.LeafError.TheVariants as leaf
-use Rattle.bc_hand.specs.Seats.{View, Works, note}
-use Rattle.bc_hand.specs.declared.error.StepError.TheVariants as step
-use Rattle.bc_hand.specs.declared.hand.Hand.{Hand}
+use Rattle.bc_fetch.specs.bc_hand.Seats.{View, Works, note}
+use Rattle.bc_fetch.specs.bc_hand.declared.error.StepError.TheVariants as step
+use Rattle.bc_fetch.specs.bc_hand.declared.hand.Hand.{Hand}
 use Rattle.bc_bucket.specs.Buckets.{Buckets}
-use Rattle.bc_machine.specs.Frame.{Range}
-use Rattle.bc_machine.specs.World.{cache_among}
-use Rattle.bc_machine.specs.declared.part.BucketsPart.{BucketsPart}
-use Rattle.bc_machine.specs.declared.part.CorePart.{CorePart}
+use Rattle.bc_fetch.specs.bc_machine.Frame.{Range}
+use Rattle.bc_fetch.specs.bc_machine.World.{cache_among}
+use Rattle.bc_fetch.specs.bc_machine.declared.part.BucketsPart.{BucketsPart}
+use Rattle.bc_fetch.specs.bc_machine.declared.part.CorePart.{CorePart}
 use Rattle.bc_parts.specs.Seat.{PartsView}
 use Rattle.bc_node.specs.Leaf.{Leaf}
 use Rattle.bc_reads.specs.Reads.{AreRuns, HasLost}
 use Rattle.bc_reads.specs.declared.runs.ReadRun.{ReadRun}
-use Rattle.bc_sight.specs.Sight.{HasLeaf, Knows, OfClaim}
+use Rattle.bc_reads.specs.bc_sight.Sight.{HasLeaf, Knows, OfClaim}
 use Rattle.bc_reader.specs.Noted.{AreNoted}
 use Rattle.bc_reader.specs.Runs.{LieWithin}
 use Rattle.bc_reader.specs.declared.error.ReadError.{ReadError}

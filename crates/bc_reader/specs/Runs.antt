@@ -2,13 +2,13 @@
 use Rattle.std.specs.Prelude.{◌≡◌, ℕ, ◌+◌, ◌≤◌, All, Bool, List, ◌++◌, length, None}
 use Rattle.bc_bucket.specs.Buckets.{Buckets}
 use Rattle.bc_disk.specs.Disk.{DiskFacts}
-use Rattle.bc_hand.specs.Seats.{View}
+use Rattle.bc_fetch.specs.bc_hand.Seats.{View}
 use Rattle.bc_model.specs.Sector.{Value, sectors}
 use Rattle.bc_node.specs.Leaf.{Leaf}
 use Rattle.bc_reads.specs.Reads.{AreRuns, IsRun}
 use Rattle.bc_reads.specs.declared.runs.ReadRun.{ReadRun}
 use Rattle.bc_reads.specs.declared.source.ReadFrom.TheVariants.{Cache}
-use Rattle.bc_sight.specs.Sight.{Knows, OfClaim}
+use Rattle.bc_reads.specs.bc_sight.Sight.{Knows, OfClaim}
 use Rattle.bc_reader.specs.Deeds.{AreRunDeeds, AreRunsDeeds, HasDoneSome}
 use Rattle.bc_reader.specs.Known.{HasValues}
 

@@ -3,8 +3,8 @@ ghost use Rattle.std.specs.Prelude.{◌≡◌};
 ghost use Rattle.bc_fetch.specs.declared.error.LeafError.{LeafError};
 ghost use Rattle.bc_reader.specs.declared.error.ReadError.{ReadError};
 
+use bc_fetch::bc_hand::error::StepError;
 use bc_fetch::error::LeafError;
-use bc_hand::error::StepError;
 
 /// Why sectors of a claim weren't read.
 #[derive(Clone, Copy, Debug, PartialEq, Eq, Drop)]

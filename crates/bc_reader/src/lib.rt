@@ -11,3 +11,7 @@ pub mod look;
 pub mod noted;
 pub mod run;
 pub mod runs;
+
+// Passed on, so that a crate above need not list these.
+pub use bc_fetch;
+pub use bc_reads;

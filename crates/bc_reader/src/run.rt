@@ -1,12 +1,12 @@
 //! The reads of runs.
 ghost use Rattle.std.specs.Prelude.{◌≡◌, ◌+◌, ◌*◌, ◌/◌, ◌<◌, ◌≤◌, ◌^◌, ◌++◌, ℕ, Bool, true, false, List, MatchBool, None, Some, length, OnOk, IfErr};
 ghost use Rattle.bc_bucket.specs.Buckets.{Buckets};
-ghost use Rattle.bc_deed.specs.Asked.{AreSectors, HasFailedOr, IsWithin, size_of};
+ghost use Rattle.bc_fetch.specs.bc_deed.Asked.{AreSectors, HasFailedOr, IsWithin, size_of};
 ghost use Rattle.bc_disk.specs.declared.disk.Device.{Device};
 ghost use Rattle.bc_events.specs.declared.event.Deed.{Deed};
-ghost use Rattle.bc_hand.specs.declared.error.StepError.{StepError};
-ghost use Rattle.bc_hand.specs.Seats.{Did, HasNoneBehindCache, Works, kinds, note};
-ghost use Rattle.bc_machine.specs.World.{are_plain, cache_among};
+ghost use Rattle.bc_fetch.specs.bc_hand.declared.error.StepError.{StepError};
+ghost use Rattle.bc_fetch.specs.bc_hand.Seats.{Did, HasNoneBehindCache, Works, kinds, note};
+ghost use Rattle.bc_fetch.specs.bc_machine.World.{are_plain, cache_among};
 ghost use Rattle.bc_model.specs.Pieces.{piece_sectors};
 ghost use Rattle.bc_model.specs.Sector.{Value, values_of};
 ghost use Rattle.bc_node.specs.Leaf.{Leaf};
@@ -15,14 +15,14 @@ ghost use Rattle.bc_reads.specs.declared.source.ReadFrom.{ReadFrom};
 ghost use Rattle.bc_reader.specs.Deeds.{AreRunDeeds, HasDoneSome, HasStoppedBy, RunStop, backing_fault};
 ghost use Rattle.bc_reader.specs.Known.{HasValues, IsSameClaim, IsSeenRun, IsSameButDevices};
 
-use bc_deed::backing;
 use bc_disk::disk::Disk;
-use bc_hand::error::StepError;
-use bc_hand::hand::Hand;
-use bc_machine::machine::{CoreParts, CoreSeat};
+use bc_fetch::bc_deed::backing;
+use bc_fetch::bc_hand::error::StepError;
+use bc_fetch::bc_hand::hand::Hand;
+use bc_fetch::bc_machine::machine::{CoreParts, CoreSeat};
+use bc_reads::bc_sight::cache::cache_read;
 use bc_reads::runs::ReadRun;
 use bc_reads::source::ReadFrom;
-use bc_sight::cache::cache_read;
 use bc_worker::gate::Gate;
 use std::alloc::Global;
 use std::sync::Wait;

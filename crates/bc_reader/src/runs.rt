@@ -1,8 +1,8 @@
 //! The reads of runs, one behind the other.
 ghost use Rattle.std.specs.Prelude.{◌≡◌, ◌+◌, ◌*◌, ◌<◌, ◌≤◌, ◌^◌, ℕ, Bool, true, false, None, OnOk, IfErr, length};
-ghost use Rattle.bc_deed.specs.Asked.{IsWithin, size_of};
-ghost use Rattle.bc_hand.specs.Seats.{HasNoneBehindCache, Works, note};
-ghost use Rattle.bc_machine.specs.World.{are_plain, cache_among};
+ghost use Rattle.bc_fetch.specs.bc_deed.Asked.{IsWithin, size_of};
+ghost use Rattle.bc_fetch.specs.bc_hand.Seats.{HasNoneBehindCache, Works, note};
+ghost use Rattle.bc_fetch.specs.bc_machine.World.{are_plain, cache_among};
 ghost use Rattle.bc_model.specs.Pieces.{piece_sectors};
 ghost use Rattle.bc_model.specs.Sector.{values_of};
 ghost use Rattle.bc_reads.specs.declared.source.ReadFrom.{ReadFrom};
@@ -12,9 +12,9 @@ ghost use Rattle.bc_reader.specs.Runs.{HasReadAll, HasReadAt, IsSeenAll, LieWith
 
 use crate::run::read_run;
 use bc_disk::disk::Disk;
-use bc_hand::error::StepError;
-use bc_hand::hand::Hand;
-use bc_machine::machine::{CoreParts, CoreSeat};
+use bc_fetch::bc_hand::error::StepError;
+use bc_fetch::bc_hand::hand::Hand;
+use bc_fetch::bc_machine::machine::{CoreParts, CoreSeat};
 use bc_reads::runs::ReadRun;
 use bc_worker::gate::Gate;
 use std::alloc::Global;

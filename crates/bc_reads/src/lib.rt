@@ -12,3 +12,6 @@ pub mod runs;
 pub mod source;
 #[cfg(test)]
 mod tests;
+
+// Passed on, so that a crate above need not list these.
+pub use bc_sight;

@@ -25,7 +25,7 @@ use Rattle.bc_known.specs.Run as machine
 use Rattle.bc_machine.specs.Standing.{oldest_first, replay_is, replay_runs}
 use Rattle.bc_machine.specs.World.{IsCourseOf, Origin, replay}
 use Rattle.bc_model.specs.Sector.{Value}
-use Rattle.bc_ranges.specs.Made.{AreWellMade, Frame}
+use Rattle.bc_reopened.specs.bc_ranges.Made.{AreWellMade, Frame}
 use Rattle.bc_whole.specs.State as whole
 use Rattle.bc_whole.specs.State.{OfData, OfEntry, OfPriorities}
 use Rattle.bc_recoverable.specs.Made.{AreMade, LawBringsNothing, brings}

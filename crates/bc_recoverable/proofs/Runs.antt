@@ -22,12 +22,12 @@ use Rattle.bc_model.specs.Sector.{Image}
 use Rattle.bc_opening.specs.Choices.{Choices}
 use Rattle.bc_opening.specs.Opening.{IsOpenedAs}
 use Rattle.bc_opening_runs.proofs.Law as shown
-use Rattle.bc_ranges.specs.Laws.{frame_of}
-use Rattle.bc_ranges.specs.Made.{AreWellMade}
-use Rattle.bc_ranges.proofs.Law.{run_new}
+use Rattle.bc_reopened.specs.bc_ranges.Laws.{frame_of}
+use Rattle.bc_reopened.specs.bc_ranges.Made.{AreWellMade}
+use Rattle.bc_reopened.proofs.of_bc_ranges.Law.{run_new}
 use Rattle.bc_reopened.proofs.Law.{law_opened}
-use Rattle.bc_sound.specs.Laws.{IsLeftOf, IsSoundAgain, view_with}
-use Rattle.bc_sound.proofs.Events as sound
+use Rattle.bc_reopened.specs.bc_sound.Laws.{IsLeftOf, IsSoundAgain, view_with}
+use Rattle.bc_reopened.proofs.of_bc_sound.Events as sound
 use Rattle.bc_recoverable.specs.Runs.{IsKept, IsRunFrom, LawRuns, Recovers}
 use Rattle.bc_recoverable.proofs.Made.{all_made}
 

@@ -15,8 +15,8 @@ use Rattle.bc_meta.specs.Layout.{Layout}
 use Rattle.bc_model.specs.History.{Allowed, IsLegal}
 use Rattle.bc_model.specs.declared.history.Entry.{Entry}
 use Rattle.bc_opening.specs.Opening.{IsOpeningOf}
-use Rattle.bc_ranges.specs.Laws.{frame_of}
-use Rattle.bc_sound.specs.Laws.{IsLeftOf, view_with}
+use Rattle.bc_reopened.specs.bc_ranges.Laws.{frame_of}
+use Rattle.bc_reopened.specs.bc_sound.Laws.{IsLeftOf, view_with}
 use Rattle.bc_recoverable.specs.Made.{AreMade}
 
 -- The events of a run on a sound pair, seen from an opening that stands for the parts that were

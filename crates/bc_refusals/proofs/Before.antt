@@ -1,15 +1,15 @@
 -- What a run is seen from, it was seen from before.
 use Rattle.std.proofs.Common.{List, [], ◌∷◌, subst}
 use Rattle.std.specs.Prelude.{fold}
-use Rattle.bc_deed.specs.Flushed.{HasDone}
+use Rattle.bc_request.specs.bc_deed.Flushed.{HasDone}
 use Rattle.bc_disk.specs.Disk.{DiskFacts}
 use Rattle.bc_disk.specs.declared.geometry.Geometry.{Geometry}
 use Rattle.bc_events.specs.declared.event.Deed.{Deed}
 use Rattle.bc_events.specs.declared.event.Event.{Event}
-use Rattle.bc_hand.specs.Seats.{View, world}
-use Rattle.bc_machine.specs.Standing.{origin_before}
-use Rattle.bc_machine.specs.World.{IsCourseOf, IsOrigin, Origin, World, after, cache_among}
-use Rattle.bc_machine.specs.declared.part.CorePart.{CorePart}
+use Rattle.bc_request.specs.bc_hand.Seats.{View, world}
+use Rattle.bc_request.specs.bc_machine.Standing.{origin_before}
+use Rattle.bc_request.specs.bc_machine.World.{IsCourseOf, IsOrigin, Origin, World, after, cache_among}
+use Rattle.bc_request.specs.bc_machine.declared.part.CorePart.{CorePart}
 use Rattle.bc_parts.specs.Seat.{Run}
 use Rattle.bc_refusals.specs.Over.{IsOfDevice, IsOver}
 

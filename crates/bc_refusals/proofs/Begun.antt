@@ -3,8 +3,8 @@ use Rattle.std.proofs.Common.{◌≡◌, ◌≢◌, inl, inr, ℕ, zero, suc, �
 use Rattle.std.specs.Prelude.{slice_get}
 use Rattle.bc_cache.specs.Slots.{NodeCache}
 use Rattle.bc_cache.specs.declared.slots.Cached.{Cached}
-use Rattle.bc_chosen.specs.Parts.{choices_of}
-use Rattle.bc_chosen.specs.Waiting.{all_waiting}
+use Rattle.bc_session.specs.bc_chosen.Parts.{choices_of}
+use Rattle.bc_session.specs.bc_chosen.Waiting.{all_waiting}
 use Rattle.bc_disk.specs.Disk.{DiskFacts}
 use Rattle.bc_disk.specs.declared.geometry.Geometry.{Geometry}
 use Rattle.bc_image.specs.Tree.{Node}
@@ -12,12 +12,12 @@ use Rattle.bc_leaves.specs.Parts as parts
 use Rattle.bc_meta.specs.Facts.{In}
 use Rattle.bc_opening.specs.Read.{leaf_of}
 use Rattle.bc_pending.specs.declared.numbered.Numbered.{Numbered}
-use Rattle.bc_slots.proofs.Filled.{filled_at}
-use Rattle.bc_slots.proofs.Leaves.{four_more, no_other}
-use Rattle.bc_slots.proofs.Passed.{found, once}
-use Rattle.bc_slots.proofs.Steps.{in_part}
-use Rattle.bc_slots.specs.Parts.{IsLeafPart, IsOpened}
-use Rattle.bc_slots.specs.Places.{has_keys, is_in, numbers_in}
+use Rattle.bc_session.proofs.of_bc_slots.Filled.{filled_at}
+use Rattle.bc_session.proofs.of_bc_slots.Leaves.{four_more, no_other}
+use Rattle.bc_session.proofs.of_bc_slots.Passed.{found, once}
+use Rattle.bc_session.proofs.of_bc_slots.Steps.{in_part}
+use Rattle.bc_session.specs.bc_slots.Parts.{IsLeafPart, IsOpened}
+use Rattle.bc_session.specs.bc_slots.Places.{has_keys, is_in, numbers_in}
 use Rattle.bc_spine.specs.declared.leaf.LeafRange.{LeafRange}
 use Rattle.bc_refusals.specs.Room.{LawBegun}
 

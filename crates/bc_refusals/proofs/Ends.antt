@@ -9,7 +9,7 @@ use Rattle.bc_leaves.specs.After as parts_step
 use Rattle.bc_leaves.specs.Events as parts_event
 use Rattle.bc_leaves.specs.Laws.{Step, parts_of}
 use Rattle.bc_leaves.specs.Parts as parts
-use Rattle.bc_machine.specs.World.{Origin, replay}
+use Rattle.bc_request.specs.bc_machine.World.{Origin, replay}
 use Rattle.bc_whole.specs.Run as whole_run
 use Rattle.bc_whole.specs.State as whole
 use Rattle.bc_whole.specs.Together.{steps_of}

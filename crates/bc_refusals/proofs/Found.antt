@@ -7,10 +7,10 @@ use Rattle.bc_facts.proofs.Nodes.{sets_are}
 use Rattle.bc_facts.proofs.Stood.{in_all}
 use Rattle.bc_facts.specs.Layout.{IsLayoutOf}
 use Rattle.bc_facts.specs.Seen.{seen_sets, word_of}
-use Rattle.bc_fetch.specs.Fetch.{MayStandIn, node_read}
-use Rattle.bc_fetched.proofs.Law.{law_found, law_sets, ptr_is}
-use Rattle.bc_fetched.specs.Fetched.{MayBeRead}
-use Rattle.bc_hand.specs.Seats.{world}
+use Rattle.bc_request.specs.bc_fetch.Fetch.{MayStandIn, node_read}
+use Rattle.bc_request.proofs.of_bc_fetched.Law.{law_found, law_sets, ptr_is}
+use Rattle.bc_request.specs.bc_fetched.Fetched.{MayBeRead}
+use Rattle.bc_request.specs.bc_hand.Seats.{world}
 use Rattle.bc_image.specs.Pair.{Pair}
 use Rattle.bc_image.specs.Reading as pairs
 use Rattle.bc_image.specs.Sound.{LiesWithin}
@@ -20,8 +20,8 @@ use Rattle.bc_key.specs.Key.{ptr_at}
 use Rattle.bc_key.specs.Words.{ptr_word}
 use Rattle.bc_key.specs.declared.key.Key.{Key}
 use Rattle.bc_key.specs.declared.ptr.Ptr.{Ptr}
-use Rattle.bc_machine.specs.Containers.{IsTreeLeaf}
-use Rattle.bc_machine.specs.World.{IsCourseOf, IsOrigin, Origin, World, replay}
+use Rattle.bc_request.specs.bc_machine.Containers.{IsTreeLeaf}
+use Rattle.bc_request.specs.bc_machine.World.{IsCourseOf, IsOrigin, Origin, World, replay}
 use Rattle.bc_meta.specs.Facts.{In}
 use Rattle.bc_meta.specs.Layout.{is_within, sets_in}
 use Rattle.bc_meta.specs.Tree.{NodeSet, Owner, set_keys}
@@ -31,7 +31,7 @@ use Rattle.bc_node.specs.declared.error.NodeError.{NodeError}
 use Rattle.bc_node.specs.declared.error.NodeError.TheVariants as nodes
 use Rattle.bc_node.specs.Loading.{IsNotDecoded}
 use Rattle.bc_opened.specs.Opening.{IsSoundOpeningOf}
-use Rattle.bc_ranges.specs.Laws.{frame_of}
+use Rattle.bc_session.specs.bc_ranges.Laws.{frame_of}
 use Rattle.bc_record.proofs.Parts.{bytes_in-has}
 use Rattle.bc_record.specs.Sectors.{Has, bytes_in, bytes_to}
 use Rattle.bc_reload.specs.Reload.{NamesLeaf}

@@ -5,11 +5,11 @@ use Rattle.std.proofs.lemmas.List.Elements.{All-contains}
 use Rattle.bc_disk.specs.Disk.{DiskFacts}
 use Rattle.bc_disk.specs.declared.geometry.Geometry.{Geometry}
 use Rattle.bc_facts.specs.Layout.{IsLayoutOf}
-use Rattle.bc_fetch.specs.Fetch.{HasShortLeaf, HasShortTree, HasStoppedAt, LiesOutside}
-use Rattle.bc_fetch.specs.declared.error.LeafError.TheVariants as leaf
-use Rattle.bc_hand.specs.Seats.{View, world}
-use Rattle.bc_machine.specs.Containers.{IsTreeLeaf}
-use Rattle.bc_machine.specs.World.{Origin, cache_among, replay}
+use Rattle.bc_request.specs.bc_fetch.Fetch.{HasShortLeaf, HasShortTree, HasStoppedAt, LiesOutside}
+use Rattle.bc_request.specs.bc_fetch.declared.error.LeafError.TheVariants as leaf
+use Rattle.bc_request.specs.bc_hand.Seats.{View, world}
+use Rattle.bc_request.specs.bc_machine.Containers.{IsTreeLeaf}
+use Rattle.bc_request.specs.bc_machine.World.{Origin, cache_among, replay}
 use Rattle.bc_meta.specs.Layout.{Layout}
 use Rattle.bc_shares.specs.Shares.{shape_of}
 use Rattle.bc_spine.specs.Leaves.{EndsAtCut}

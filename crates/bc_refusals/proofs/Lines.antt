@@ -2,25 +2,25 @@
 use Rattle.std.proofs.Common.{◌≡◌, inl, inr, ℕ, ◌^◌, ◌≤◌, ◌<◌, List, [], ◌∷◌, sym, ap, ◌∙◌, subst, arith}
 use Rattle.bc_disk.specs.Disk.{DiskFacts}
 use Rattle.bc_disk.specs.declared.geometry.Geometry.{Geometry}
-use Rattle.bc_deed.specs.Asked.{size_of}
-use Rattle.bc_deed.specs.Flushed.{HasDone}
+use Rattle.bc_request.specs.bc_deed.Asked.{size_of}
+use Rattle.bc_request.specs.bc_deed.Flushed.{HasDone}
 use Rattle.bc_events.specs.declared.event.Deed.{Deed}
 use Rattle.bc_events.specs.declared.event.Deed.TheVariants as deed
-use Rattle.bc_fetch.specs.Fetch.{HasStoppedAt}
-use Rattle.bc_fetch.specs.declared.error.LeafError.TheVariants as leaf
-use Rattle.bc_hand.specs.Seats.{View}
-use Rattle.bc_hand.specs.declared.error.StepError.{StepError}
-use Rattle.bc_hand.specs.declared.error.StepError.TheVariants as step
+use Rattle.bc_request.specs.bc_fetch.Fetch.{HasStoppedAt}
+use Rattle.bc_request.specs.bc_fetch.declared.error.LeafError.TheVariants as leaf
+use Rattle.bc_request.specs.bc_hand.Seats.{View}
+use Rattle.bc_request.specs.bc_hand.declared.error.StepError.{StepError}
+use Rattle.bc_request.specs.bc_hand.declared.error.StepError.TheVariants as step
 use Rattle.bc_events.specs.Run.{Opening}
-use Rattle.bc_job.specs.declared.job.Job.{Job}
-use Rattle.bc_machine.proofs.Viewing.{opening_stays}
-use Rattle.bc_machine.specs.World.{Origin, opening}
-use Rattle.bc_machine.specs.declared.part.CorePart.{CorePart}
+use Rattle.bc_request.specs.bc_job.declared.job.Job.{Job}
+use Rattle.bc_request.proofs.of_bc_machine.Viewing.{opening_stays}
+use Rattle.bc_request.specs.bc_machine.World.{Origin, opening}
+use Rattle.bc_request.specs.bc_machine.declared.part.CorePart.{CorePart}
 use Rattle.bc_node.specs.declared.error.NodeError.{NodeError}
 use Rattle.bc_parts.specs.Seat.{PartsView}
-use Rattle.bc_reader.specs.Claimed.{ReadStop}
-use Rattle.bc_reader.specs.declared.error.ReadError.{ReadError}
-use Rattle.bc_reader.specs.declared.error.ReadError.TheVariants as error
+use Rattle.bc_request.specs.bc_reader.Claimed.{ReadStop}
+use Rattle.bc_request.specs.bc_reader.declared.error.ReadError.{ReadError}
+use Rattle.bc_request.specs.bc_reader.declared.error.ReadError.TheVariants as error
 use Rattle.bc_request.specs.Line.{HasNotReadLine, HasRefusedAt}
 use Rattle.bc_request.specs.Piece.{HasNotReadPiece}
 use Rattle.bc_request.specs.Refusals.{of_step, refusal}

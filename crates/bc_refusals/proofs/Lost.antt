@@ -9,21 +9,21 @@ use Rattle.bc_cache.specs.Slots.{NodeCache}
 use Rattle.bc_cache.specs.declared.slots.Cached.{Cached}
 use Rattle.bc_disk.specs.Disk.{DiskFacts}
 use Rattle.bc_disk.specs.declared.geometry.Geometry.{Geometry}
-use Rattle.bc_hand.specs.Seats.{world}
-use Rattle.bc_looks.proofs.Law.{law_keys}
-use Rattle.bc_machine.specs.World.{AreBuckets, AreLeaves, IsCourseOf, IsOrigin, Origin, World, cache_among, replay}
-use Rattle.bc_machine.specs.declared.part.BucketsPart.{BucketsPart}
-use Rattle.bc_machine.specs.declared.part.CorePart.{CorePart}
+use Rattle.bc_request.specs.bc_hand.Seats.{world}
+use Rattle.bc_request.proofs.of_bc_looks.Law.{law_keys}
+use Rattle.bc_request.specs.bc_machine.World.{AreBuckets, AreLeaves, IsCourseOf, IsOrigin, Origin, World, cache_among, replay}
+use Rattle.bc_request.specs.bc_machine.declared.part.BucketsPart.{BucketsPart}
+use Rattle.bc_request.specs.bc_machine.declared.part.CorePart.{CorePart}
 use Rattle.bc_node.specs.Leaf.{Leaf}
 use Rattle.bc_parts.specs.Seat.{Run}
-use Rattle.bc_reader.specs.Look.{IsLostBy}
-use Rattle.bc_reader.specs.Runs.{EndsBy, LieWithin}
-use Rattle.bc_reads.specs.Reads.{AreRuns, HasLost, IsReadFrom, moved}
-use Rattle.bc_reads.specs.declared.runs.ReadRun.{ReadRun}
-use Rattle.bc_reads.specs.declared.source.ReadFrom.{ReadFrom}
+use Rattle.bc_request.specs.bc_reader.Look.{IsLostBy}
+use Rattle.bc_request.specs.bc_reader.Runs.{EndsBy, LieWithin}
+use Rattle.bc_request.specs.bc_reads.Reads.{AreRuns, HasLost, IsReadFrom, moved}
+use Rattle.bc_request.specs.bc_reads.declared.runs.ReadRun.{ReadRun}
+use Rattle.bc_request.specs.bc_reads.declared.source.ReadFrom.{ReadFrom}
 use Rattle.bc_shares.specs.Shares.{books_of}
-use Rattle.bc_sight.proofs.Looking.{some_of}
-use Rattle.bc_sight.specs.Sight.{said_in}
+use Rattle.bc_request.proofs.of_bc_sight.Looking.{some_of}
+use Rattle.bc_request.specs.bc_sight.Sight.{said_in}
 use Rattle.bc_whole.specs.Together.{ref_of}
 use Rattle.bc_refusals.specs.Laws.{LawLost}
 use Rattle.bc_refusals.specs.Over.{IsOfDevice}

@@ -1,31 +1,31 @@
 -- Each key of a leaf's sets lies in the leaf's range.
 use Rattle.std.proofs.Common.{◌≡◌, ◌≢◌, ◌⊎◌, inl, inr, ℕ, Bool, true, false, List, [], ◌∷◌, Some, refl, sym, ap, ◌∙◌, subst}
 use Rattle.std.specs.Prelude.{fold}
-use Rattle.bc_deed.specs.Flushed.{HasDone}
+use Rattle.bc_request.specs.bc_deed.Flushed.{HasDone}
 use Rattle.bc_disk.specs.Disk.{DiskFacts}
 use Rattle.bc_events.specs.Acts.{acts_of}
 use Rattle.bc_events.specs.Run.{acts, by}
 use Rattle.bc_events.specs.declared.event.Deed.{Deed}
 use Rattle.bc_events.specs.declared.event.Event.{Event}
 use Rattle.bc_facts.proofs.Stood.{in_either}
-use Rattle.bc_fetched.specs.Fetched.{AreWritten}
-use Rattle.bc_hand.specs.Seats.{View, world}
+use Rattle.bc_request.specs.bc_fetched.Fetched.{AreWritten}
+use Rattle.bc_request.specs.bc_hand.Seats.{View, world}
 use Rattle.bc_image.specs.Pair.{Pair}
 use Rattle.bc_image.specs.Reading as pairs
 use Rattle.bc_key.specs.declared.key.Key.{Key}
 use Rattle.bc_known.specs.Laws.{IsSound}
 use Rattle.bc_leaves.specs.Parts.{NoNode}
-use Rattle.bc_machine.specs.World.{IsCourseOf, Origin, World, after, replay}
+use Rattle.bc_request.specs.bc_machine.World.{IsCourseOf, Origin, World, after, replay}
 use Rattle.bc_meta.specs.Facts.{In}
 use Rattle.bc_meta.specs.Records.{Node}
 use Rattle.bc_meta.specs.Tree.{NodeSet, set_keys}
 use Rattle.bc_opened.specs.Opening.{IsSoundOpeningOf}
-use Rattle.bc_ranges.proofs.Acts.{Stage, made_run}
-use Rattle.bc_ranges.proofs.Slots.{AreMade, LeafMade, Lies}
-use Rattle.bc_ranges.proofs.Start.{opened_made}
-use Rattle.bc_ranges.proofs.Steps.{opened}
-use Rattle.bc_ranges.specs.Laws.{frame_of}
-use Rattle.bc_ranges.specs.Made.{Frame}
+use Rattle.bc_session.proofs.of_bc_ranges.Acts.{Stage, made_run}
+use Rattle.bc_session.proofs.of_bc_ranges.Slots.{AreMade, LeafMade, Lies}
+use Rattle.bc_session.proofs.of_bc_ranges.Start.{opened_made}
+use Rattle.bc_session.proofs.of_bc_ranges.Steps.{opened}
+use Rattle.bc_session.specs.bc_ranges.Laws.{frame_of}
+use Rattle.bc_session.specs.bc_ranges.Made.{Frame}
 use Rattle.bc_shares.proofs.Law.{in_order}
 use Rattle.bc_shares.specs.Shares.{LeafShare, NodeShare, lost_set, node_share, written_sets}
 use Rattle.bc_refusals.specs.Made.{AreMadeIn, IsOfPair, TouchNoLeaf}

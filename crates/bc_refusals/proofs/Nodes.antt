@@ -10,9 +10,9 @@ use Rattle.bc_key.specs.declared.ptr.Ptr.{Ptr}
 use Rattle.bc_known.proofs.Law.{At, inv_at}
 use Rattle.bc_known.specs.Laws.{IsSound}
 use Rattle.bc_leaves.specs.Parts.{Coming, Draft, Free, IsLive, Leaving, NoNode, Role, leaf_owner}
-use Rattle.bc_machine.specs.Containers.{IsInTree, IsTreeLeaf}
-use Rattle.bc_machine.specs.Standing.{oldest_first, replay_is, replay_runs}
-use Rattle.bc_machine.specs.World.{IsCourseOf, Origin, replay}
+use Rattle.bc_request.specs.bc_machine.Containers.{IsInTree, IsTreeLeaf}
+use Rattle.bc_request.specs.bc_machine.Standing.{oldest_first, replay_is, replay_runs}
+use Rattle.bc_request.specs.bc_machine.World.{IsCourseOf, Origin, replay}
 use Rattle.bc_meta.proofs.Place.{NodeInv, within_of}
 use Rattle.bc_meta.specs.Layout.{Layout, is_within, node_end, sets_from, sets_in}
 use Rattle.bc_meta.specs.Records.{Node, Records}

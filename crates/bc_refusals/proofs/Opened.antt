@@ -1,39 +1,39 @@
 -- A run over a sound pair that was opened.
 use Rattle.std.proofs.Common.{◌≡◌, inr, ℕ, ◌*◌, ◌≤◌, List, [], ◌∷◌, refl, sym, ap, ◌∙◌, subst, arith}
 use Rattle.std.specs.Prelude.{fold, map}
-use Rattle.bc_begun.specs.Begin.{parts_of}
-use Rattle.bc_cached.specs.Laws.{parts_in}
-use Rattle.bc_chosen.proofs.Parts.{law_chosen}
-use Rattle.bc_chosen.specs.Parts.{ArePartsOf, choices_of}
+use Rattle.bc_session.specs.bc_begun.Begin.{parts_of}
+use Rattle.bc_session.specs.bc_cached.Laws.{parts_in}
+use Rattle.bc_session.proofs.of_bc_chosen.Parts.{law_chosen}
+use Rattle.bc_session.specs.bc_chosen.Parts.{ArePartsOf, choices_of}
 use Rattle.bc_disk.specs.Disk.{DiskFacts}
 use Rattle.bc_events.specs.declared.event.Deed.{Deed}
 use Rattle.bc_events.specs.declared.event.Event.{Event}
 use Rattle.bc_facts.specs.Layout.{IsLayoutOf}
-use Rattle.bc_hand.specs.Seats.{View, by, world}
+use Rattle.bc_request.specs.bc_hand.Seats.{View, by, world}
 use Rattle.bc_image.proofs.Unique.{one_view}
 use Rattle.bc_image.specs.Pair.{Pair}
 use Rattle.bc_image.specs.Reading as pairs
 use Rattle.bc_jset.specs.Entries.{FoundEntry}
-use Rattle.bc_loaded.specs.declared.loading.Loaded.{Loaded}
-use Rattle.bc_machine.specs.Standing.{told_event}
-use Rattle.bc_machine.specs.World.{IsCourseOf, IsEnabled, IsOrigin, Origin, World, after, cache_among, opening}
-use Rattle.bc_machine.specs.declared.part.CorePart.{CorePart}
+use Rattle.bc_session.specs.bc_loaded.declared.loading.Loaded.{Loaded}
+use Rattle.bc_request.specs.bc_machine.Standing.{told_event}
+use Rattle.bc_request.specs.bc_machine.World.{IsCourseOf, IsEnabled, IsOrigin, Origin, World, after, cache_among, opening}
+use Rattle.bc_request.specs.bc_machine.declared.part.CorePart.{CorePart}
 use Rattle.bc_meta.specs.Layout.{Layout}
 use Rattle.bc_model.specs.Sector.{Image}
-use Rattle.bc_open.proofs.States.{told_of}
+use Rattle.bc_session.proofs.of_bc_open.States.{told_of}
 use Rattle.bc_pair.specs.Found.{pair_of}
 use Rattle.bc_parts.specs.Course.{IsCourse}
 use Rattle.bc_parts.specs.Seat.{PartsView, Run}
 use Rattle.bc_pending.specs.Entries.{keys_in}
 use Rattle.bc_pending.specs.Pieces.{ArePending}
 use Rattle.bc_recover.specs.Read.{IsReadOf}
-use Rattle.bc_regrow.specs.Tree.{IsTreeOf}
-use Rattle.bc_reopened.proofs.Law as reopened
+use Rattle.bc_session.specs.bc_regrow.Tree.{IsTreeOf}
+use Rattle.bc_session.proofs.of_bc_reopened.Law as reopened
 use Rattle.bc_replay.specs.declared.held.Survey.{Survey}
 use Rattle.bc_session.proofs.Seen.{law_session, now}
 use Rattle.bc_session.specs.Laws.{HoldSound}
 use Rattle.bc_session.specs.Open.{IsRunOver, ready_of}
-use Rattle.bc_started.specs.Laws.{AreUntorn}
+use Rattle.bc_session.specs.bc_started.Laws.{AreUntorn}
 use Rattle.bc_super.specs.declared.backing.BackingSuper.{BackingSuper}
 use Rattle.bc_refusals.specs.Made.{TouchNoLeaf}
 use Rattle.bc_refusals.specs.Over.{IsOfDevice}

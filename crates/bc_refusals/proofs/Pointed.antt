@@ -10,12 +10,12 @@ use Rattle.bc_disk.specs.declared.geometry.Geometry.{Geometry}
 use Rattle.bc_events.specs.Run.{State}
 use Rattle.bc_facts.specs.Seen.{counted}
 use Rattle.bc_known.proofs.Law.{order_at}
-use Rattle.bc_machine.specs.Containers.{AreBucketsOf}
-use Rattle.bc_machine.specs.World.{IsCourseOf, IsOrigin, Origin, World, replay}
-use Rattle.bc_machine.specs.declared.part.BucketsPart.{BucketsPart}
+use Rattle.bc_request.specs.bc_machine.Containers.{AreBucketsOf}
+use Rattle.bc_request.specs.bc_machine.World.{IsCourseOf, IsOrigin, Origin, World, replay}
+use Rattle.bc_request.specs.bc_machine.declared.part.BucketsPart.{BucketsPart}
 use Rattle.bc_meta.specs.Keys.{Ref}
 use Rattle.bc_record.specs.Places.{bucket_at}
-use Rattle.bc_reads.specs.Reads.{IsLiveAt}
+use Rattle.bc_request.specs.bc_reads.Reads.{IsLiveAt}
 use Rattle.bc_shares.specs.Shares.{books_of}
 use Rattle.bc_whole.specs.Together.{ref_of}
 use Rattle.bc_refusals.specs.Over.{IsOfDevice}

@@ -7,15 +7,15 @@ use Rattle.bc_cache.specs.Slots.{NodeCache, NoneCanGo}
 use Rattle.bc_cache.specs.declared.slots.Cached.{Cached}
 use Rattle.bc_disk.specs.Disk.{DiskFacts}
 use Rattle.bc_extent.specs.Extents.{IsInOrder}
-use Rattle.bc_hand.specs.Seats.{View, world}
+use Rattle.bc_request.specs.bc_hand.Seats.{View, world}
 use Rattle.bc_key.specs.Key.{pointer_of, start_of}
 use Rattle.bc_key.specs.declared.key.Key.{Key}
 use Rattle.bc_leaves.specs.Keys.{last_said}
 use Rattle.bc_leaves.specs.Parts.{Pending, keys_of}
 use Rattle.bc_leaves.specs.Parts as parts
-use Rattle.bc_machine.specs.Containers.{AreEntriesOf, AreLeavesOf}
-use Rattle.bc_machine.specs.Standing.{begun_stays}
-use Rattle.bc_machine.specs.World.{Begun, World, opening, replay}
+use Rattle.bc_request.specs.bc_machine.Containers.{AreEntriesOf, AreLeavesOf}
+use Rattle.bc_request.specs.bc_machine.Standing.{begun_stays}
+use Rattle.bc_request.specs.bc_machine.World.{Begun, World, opening, replay}
 use Rattle.bc_meta.specs.Facts.{In}
 use Rattle.bc_meta.proofs.Lists.{by_le}
 use Rattle.bc_meta.specs.Keys.{covers, ref_by}

@@ -8,8 +8,8 @@ use Rattle.bc_events.specs.declared.event.Failure.TheVariants as failure
 use Rattle.bc_known.specs.Laws.{IsSound}
 use Rattle.bc_leaves.specs.Parts.{NoNode}
 use Rattle.bc_leaves.specs.Parts as parts
-use Rattle.bc_machine.specs.Standing.{oldest_first, replay_is, replay_runs}
-use Rattle.bc_machine.specs.World.{IsCourseOf, Origin, World, after, replay}
+use Rattle.bc_request.specs.bc_machine.Standing.{oldest_first, replay_is, replay_runs}
+use Rattle.bc_request.specs.bc_machine.World.{IsCourseOf, Origin, World, after, replay}
 use Rattle.bc_shares.proofs.Law.{law_leaf, law_slot}
 use Rattle.bc_shares.specs.Shares.{leaf_share}
 use Rattle.bc_shares.specs.Touched.{NamesItsChange}

@@ -2,18 +2,18 @@
 use Rattle.std.specs.Prelude.{ℕ, ◌+◌, ◌%◌, ◌^◌, ◌<◌, ◌≤◌}
 use Rattle.bc_disk.specs.Disk.{DiskFacts}
 use Rattle.bc_disk.specs.declared.geometry.Geometry.{Geometry}
-use Rattle.bc_fetch.specs.Fetch.{HasStoppedAt}
-use Rattle.bc_fetch.specs.declared.error.LeafError.TheVariants as leaf
-use Rattle.bc_hand.specs.Seats.{View}
+use Rattle.bc_request.specs.bc_fetch.Fetch.{HasStoppedAt}
+use Rattle.bc_request.specs.bc_fetch.declared.error.LeafError.TheVariants as leaf
+use Rattle.bc_request.specs.bc_hand.Seats.{View}
 use Rattle.bc_image.specs.Pair.{Pair}
 use Rattle.bc_image.specs.Reading as pairs
-use Rattle.bc_machine.specs.World.{Origin}
-use Rattle.bc_machine.specs.declared.part.CorePart.{CorePart}
+use Rattle.bc_request.specs.bc_machine.World.{Origin}
+use Rattle.bc_request.specs.bc_machine.declared.part.CorePart.{CorePart}
 use Rattle.bc_model.specs.Pieces.{piece_sectors}
 use Rattle.bc_node.specs.declared.error.NodeError.{NodeError}
 use Rattle.bc_parts.specs.Seat.{PartsView}
-use Rattle.bc_reader.specs.Look.{NotSeen}
-use Rattle.bc_reader.specs.declared.error.ReadError.TheVariants as error
+use Rattle.bc_request.specs.bc_reader.Look.{NotSeen}
+use Rattle.bc_request.specs.bc_reader.declared.error.ReadError.TheVariants as error
 use Rattle.bc_refusals.specs.Made.{IsOfPair}
 use Rattle.bc_refusals.specs.Over.{IsOver}
 

@@ -1,16 +1,16 @@
 -- For what a line over a sound pair may be refused.
 use Rattle.std.specs.Prelude.{◌≡◌, ℕ, ◌<◌}
-use Rattle.bc_deed.specs.Asked.{size_of}
+use Rattle.bc_request.specs.bc_deed.Asked.{size_of}
 use Rattle.bc_disk.specs.Disk.{DiskFacts}
 use Rattle.bc_disk.specs.declared.geometry.Geometry.{Geometry}
-use Rattle.bc_hand.specs.Seats.{View}
+use Rattle.bc_request.specs.bc_hand.Seats.{View}
 use Rattle.bc_image.specs.Pair.{Pair}
 use Rattle.bc_image.specs.Reading as pairs
-use Rattle.bc_job.specs.declared.job.Job.{Job}
-use Rattle.bc_machine.specs.World.{Origin}
-use Rattle.bc_machine.specs.declared.part.CorePart.{CorePart}
+use Rattle.bc_request.specs.bc_job.declared.job.Job.{Job}
+use Rattle.bc_request.specs.bc_machine.World.{Origin}
+use Rattle.bc_request.specs.bc_machine.declared.part.CorePart.{CorePart}
 use Rattle.bc_parts.specs.Seat.{PartsView}
-use Rattle.bc_reader.specs.declared.error.ReadError.{ReadError}
+use Rattle.bc_request.specs.bc_reader.declared.error.ReadError.{ReadError}
 use Rattle.bc_request.specs.Line.{HasNotReadLine}
 use Rattle.bc_request.specs.Piece.{HasNotReadPiece}
 use Rattle.bc_request.specs.Refusals.{refusal}

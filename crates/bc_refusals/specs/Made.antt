@@ -6,13 +6,13 @@ use Rattle.bc_events.specs.declared.event.Deed.{Deed}
 use Rattle.bc_events.specs.declared.event.Deed.TheVariants as deed
 use Rattle.bc_events.specs.declared.event.Event.{Event}
 use Rattle.bc_events.specs.declared.event.Failure.TheVariants as failure
-use Rattle.bc_hand.specs.Seats.{View, world}
+use Rattle.bc_request.specs.bc_hand.Seats.{View, world}
 use Rattle.bc_image.specs.Pair.{Pair}
 use Rattle.bc_image.specs.Reading as pairs
-use Rattle.bc_machine.specs.World.{Origin, replay}
+use Rattle.bc_request.specs.bc_machine.World.{Origin, replay}
 use Rattle.bc_opened.specs.Opening.{IsSoundOpeningOf}
-use Rattle.bc_ranges.specs.Laws.{frame_of}
-use Rattle.bc_ranges.specs.Made.{AreWellMade, Frame}
+use Rattle.bc_session.specs.bc_ranges.Laws.{frame_of}
+use Rattle.bc_session.specs.bc_ranges.Made.{AreWellMade, Frame}
 use Rattle.bc_shares.specs.Touched.{touches_leaf}
 
 -- What these events brought, of which the last one comes first, is well made.

@@ -4,8 +4,8 @@ use Rattle.bc_disk.specs.Disk.{DiskFacts}
 use Rattle.bc_disk.specs.declared.geometry.Geometry.{Geometry}
 use Rattle.bc_facts.specs.Layout.{IsLayoutOf}
 use Rattle.bc_facts.specs.Seen.{counted}
-use Rattle.bc_hand.specs.Seats.{View, world}
-use Rattle.bc_machine.specs.World.{IsCourseOf, IsOrigin, Origin, cache_among}
+use Rattle.bc_request.specs.bc_hand.Seats.{View, world}
+use Rattle.bc_request.specs.bc_machine.World.{IsCourseOf, IsOrigin, Origin, cache_among}
 use Rattle.bc_record.specs.Places.{bucket_at}
 
 -- The opening is of a cache device that is divided so, and that has all sectors of its buckets. Its

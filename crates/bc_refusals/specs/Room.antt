@@ -2,23 +2,23 @@
 use Rattle.std.specs.Prelude.{◌≡◌, ◌≢◌, ℕ, ◌-◌, ◌%◌, ◌<◌, false, List, [], Some, length, slice_get}
 use Rattle.bc_cache.specs.Slots.{NodeCache, NoneCanGo}
 use Rattle.bc_cache.specs.declared.slots.Cached.{Cached}
-use Rattle.bc_chosen.specs.Parts.{Parts, choices_of}
+use Rattle.bc_session.specs.bc_chosen.Parts.{Parts, choices_of}
 use Rattle.bc_disk.specs.Disk.{DiskFacts}
 use Rattle.bc_disk.specs.declared.geometry.Geometry.{Geometry}
-use Rattle.bc_fetch.specs.Fetch.{HasStoppedAt}
-use Rattle.bc_fetch.specs.declared.error.LeafError.TheVariants as leaf
-use Rattle.bc_hand.specs.Seats.{View, world}
+use Rattle.bc_request.specs.bc_fetch.Fetch.{HasStoppedAt}
+use Rattle.bc_request.specs.bc_fetch.declared.error.LeafError.TheVariants as leaf
+use Rattle.bc_request.specs.bc_hand.Seats.{View, world}
 use Rattle.bc_image.specs.Pair.{Pair}
 use Rattle.bc_image.specs.Reading as pairs
 use Rattle.bc_leaves.specs.Parts.{NoNode}
 use Rattle.bc_leaves.specs.Parts as parts
-use Rattle.bc_machine.specs.Containers.{AreLeavesOf}
-use Rattle.bc_machine.specs.World.{IsCourseOf, IsOrigin, Origin, World, replay}
+use Rattle.bc_request.specs.bc_machine.Containers.{AreLeavesOf}
+use Rattle.bc_request.specs.bc_machine.World.{IsCourseOf, IsOrigin, Origin, World, replay}
 use Rattle.bc_meta.specs.Facts.{In}
 use Rattle.bc_meta.specs.Layout.{Layout}
 use Rattle.bc_opening.specs.Opening.{IsOpeningOf}
 use Rattle.bc_shares.specs.Shares.{leaf_share}
-use Rattle.bc_slots.specs.Parts.{IsLeafPart}
+use Rattle.bc_session.specs.bc_slots.Parts.{IsLeafPart}
 use Rattle.bc_whole.specs.State.{Opening}
 use Rattle.bc_refusals.specs.Made.{TouchNoLeaf}
 use Rattle.bc_refusals.specs.Over.{IsOver}

@@ -2,14 +2,14 @@
 use Rattle.std.specs.Prelude.{ℕ, List}
 use Rattle.bc_disk.specs.Disk.{DiskFacts}
 use Rattle.bc_disk.specs.declared.geometry.Geometry.{Geometry}
-use Rattle.bc_deed.specs.Flushed.{HasDone}
+use Rattle.bc_request.specs.bc_deed.Flushed.{HasDone}
 use Rattle.bc_events.specs.declared.event.Deed.{Deed}
 use Rattle.bc_facts.specs.Layout.{IsLayoutOf}
-use Rattle.bc_hand.specs.Seats.{View, world}
+use Rattle.bc_request.specs.bc_hand.Seats.{View, world}
 use Rattle.bc_image.specs.Reading as pairs
-use Rattle.bc_loaded.specs.declared.loading.Loaded.{Loaded}
-use Rattle.bc_machine.specs.World.{Origin}
-use Rattle.bc_machine.specs.declared.part.CorePart.{CorePart}
+use Rattle.bc_session.specs.bc_loaded.declared.loading.Loaded.{Loaded}
+use Rattle.bc_request.specs.bc_machine.World.{Origin}
+use Rattle.bc_request.specs.bc_machine.declared.part.CorePart.{CorePart}
 use Rattle.bc_meta.specs.Layout.{Layout}
 use Rattle.bc_model.specs.Sector.{Image}
 use Rattle.bc_pair.specs.Found.{pair_of}
@@ -17,7 +17,7 @@ use Rattle.bc_parts.specs.Seat.{PartsView}
 use Rattle.bc_replay.specs.declared.held.Survey.{Survey}
 use Rattle.bc_session.specs.Laws.{HoldSound}
 use Rattle.bc_session.specs.Open.{IsRunOver}
-use Rattle.bc_started.specs.Laws.{AreUntorn}
+use Rattle.bc_session.specs.bc_started.Laws.{AreUntorn}
 use Rattle.bc_super.specs.declared.backing.BackingSuper.{BackingSuper}
 use Rattle.bc_refusals.specs.Made.{IsOfPair}
 use Rattle.bc_refusals.specs.Over.{IsOver}

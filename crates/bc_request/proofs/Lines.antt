@@ -1,20 +1,20 @@
 -- A line, piece by piece.
 use Rattle.std.proofs.Common.{◌≡◌, inl, inr, ℕ, ◌+◌, ◌-◌, ◌/◌, ◌<◌, ◌≤◌, List, [], ◌∷◌, ◌++◌, length, refl, sym, ap, ◌∙◌, subst, append_assoc, append-nil, arith}
-use Rattle.bc_deed.specs.Asked.{size_of}
+use Rattle.bc_job.specs.bc_deed.Asked.{size_of}
 use Rattle.bc_disk.specs.Disk.{DiskFacts}
 use Rattle.bc_events.specs.declared.event.Deed.TheVariants as deed
 use Rattle.bc_events.specs.declared.event.LineNumber.{LineNumber}
-use Rattle.bc_fetch.specs.declared.error.LeafError.TheVariants as leaf
+use Rattle.bc_reader.specs.bc_fetch.declared.error.LeafError.TheVariants as leaf
 use Rattle.bc_flight.specs.declared.claim.Share.TheVariants.{Shared}
-use Rattle.bc_hand.proofs.Knowing.{View, m}
-use Rattle.bc_hand.specs.Seats.{IsCoreSeat}
-use Rattle.bc_hand.specs.declared.error.StepError.TheVariants as step
+use Rattle.bc_job.proofs.of_bc_hand.Knowing.{View, m}
+use Rattle.bc_job.specs.bc_hand.Seats.{IsCoreSeat}
+use Rattle.bc_job.specs.bc_hand.declared.error.StepError.TheVariants as step
 use Rattle.bc_job.proofs.Looping.{done_none, served_up_to}
 use Rattle.bc_job.specs.Asked.{IsFor, line_of}
 use Rattle.bc_job.specs.Requests.{IsInside}
 use Rattle.bc_job.specs.declared.job.Job.{Job}
-use Rattle.bc_machine.specs.Plain.{worker_of}
-use Rattle.bc_machine.specs.declared.part.CorePart.{CorePart}
+use Rattle.bc_job.specs.bc_machine.Plain.{worker_of}
+use Rattle.bc_job.specs.bc_machine.declared.part.CorePart.{CorePart}
 use Rattle.bc_model.specs.Pieces.{Piece, piece_in, pieces, pieces_from}
 use Rattle.bc_model.specs.Sector.{Value}
 use Rattle.bc_parts.specs.Seat.{PartsView, Run}

@@ -1,25 +1,25 @@
 -- A piece, from its claim to its release.
 use Rattle.std.specs.Prelude.{Result, Ok, Err, IfErr, OnOk}
 use Rattle.std.proofs.Common.{◌≡◌, inl, inr, ℕ, List, [], ◌∷◌, Some, refl, sym, ap, ◌∙◌}
-use Rattle.bc_deed.proofs.Sequence.{done_both, done_first}
-use Rattle.bc_deed.specs.Asked.{IsClaim, IsHalted, IsHaltedOr}
-use Rattle.bc_deed.specs.Flushed.{HasDone}
+use Rattle.bc_job.proofs.of_bc_deed.Sequence.{done_both, done_first}
+use Rattle.bc_job.specs.bc_deed.Asked.{IsClaim, IsHalted, IsHaltedOr}
+use Rattle.bc_job.specs.bc_deed.Flushed.{HasDone}
 use Rattle.bc_disk.specs.Disk.{DiskFacts}
 use Rattle.bc_events.specs.declared.event.Deed.TheVariants as deed
 use Rattle.bc_events.specs.declared.event.Event.{Event}
 use Rattle.bc_events.specs.declared.event.LineNumber.{LineNumber}
-use Rattle.bc_fetch.specs.declared.error.LeafError.TheVariants as leaf
+use Rattle.bc_reader.specs.bc_fetch.declared.error.LeafError.TheVariants as leaf
 use Rattle.bc_flight.specs.declared.claim.Claim.{Claim}
 use Rattle.bc_flight.specs.declared.claim.Share.TheVariants.{Shared}
-use Rattle.bc_hand.proofs.Knowing.{View, note_committed_is}
-use Rattle.bc_hand.specs.Seats.{Did, Works, by, empty, note}
-use Rattle.bc_hand.specs.declared.error.StepError.{StepError}
-use Rattle.bc_hand.specs.declared.error.StepError.TheVariants as step
-use Rattle.bc_hand.specs.declared.hand.Hand.{Hand}
+use Rattle.bc_job.proofs.of_bc_hand.Knowing.{View, note_committed_is}
+use Rattle.bc_job.specs.bc_hand.Seats.{Did, Works, by, empty, note}
+use Rattle.bc_job.specs.bc_hand.declared.error.StepError.{StepError}
+use Rattle.bc_job.specs.bc_hand.declared.error.StepError.TheVariants as step
+use Rattle.bc_job.specs.bc_hand.declared.hand.Hand.{Hand}
 use Rattle.bc_job.proofs.Holding.{works_empty}
-use Rattle.bc_machine.specs.Frame.{Range}
-use Rattle.bc_machine.specs.Note.{Note}
-use Rattle.bc_machine.specs.declared.part.CorePart.{CorePart}
+use Rattle.bc_job.specs.bc_machine.Frame.{Range}
+use Rattle.bc_job.specs.bc_machine.Note.{Note}
+use Rattle.bc_job.specs.bc_machine.declared.part.CorePart.{CorePart}
 use Rattle.bc_model.specs.Sector.{Value}
 use Rattle.bc_parts.specs.Seat.{PartsView}
 use Rattle.bc_reader.proofs.Going.{first_still, on_answered, on_not_answered}

@@ -1,9 +1,9 @@
 -- What a request over a cache asks of its seat.
 use Rattle.std.specs.Prelude.{◌≡◌, ◌<◌, ◌^◌, false, length}
 use Rattle.bc_disk.specs.Disk.{DiskFacts}
-use Rattle.bc_hand.specs.Seats.{View, Works, empty, note}
-use Rattle.bc_machine.specs.World.{are_plain}
-use Rattle.bc_machine.specs.declared.part.CorePart.{CorePart}
+use Rattle.bc_job.specs.bc_hand.Seats.{View, Works, empty, note}
+use Rattle.bc_job.specs.bc_machine.World.{are_plain}
+use Rattle.bc_job.specs.bc_machine.declared.part.CorePart.{CorePart}
 use Rattle.bc_parts.specs.Seat.{PartsView}
 
 module _ {C B : Type 0} (cache_facts : C → DiskFacts) (backing_facts : B → DiskFacts) where

@@ -2,11 +2,11 @@
 use Rattle.std.specs.Prelude.{◌≡◌, ℕ, List, [], ◌∷◌, ◌++◌, length}
 use Rattle.bc_disk.specs.Disk.{DiskFacts}
 use Rattle.bc_events.specs.declared.event.LineNumber.{LineNumber}
-use Rattle.bc_hand.specs.Seats.{View}
+use Rattle.bc_job.specs.bc_hand.Seats.{View}
 use Rattle.bc_job.specs.Asked.{line_of}
 use Rattle.bc_job.specs.Requests.{IsInside, IsOutside}
 use Rattle.bc_job.specs.declared.job.Job.{Job}
-use Rattle.bc_machine.specs.declared.part.CorePart.{CorePart}
+use Rattle.bc_job.specs.bc_machine.declared.part.CorePart.{CorePart}
 use Rattle.bc_model.specs.Pieces.{Piece, ServedUpTo, pieces}
 use Rattle.bc_model.specs.Sector.{Value}
 use Rattle.bc_parts.specs.Seat.{PartsView}

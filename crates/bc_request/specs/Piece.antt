@@ -1,15 +1,15 @@
 -- What was done of a piece.
 use Rattle.std.specs.Prelude.{◌≡◌, ◌⊎◌, ℕ, List, [], ◌∷◌}
-use Rattle.bc_deed.specs.Asked.{IsHaltedOr}
-use Rattle.bc_deed.specs.Flushed.{HasDone}
+use Rattle.bc_job.specs.bc_deed.Asked.{IsHaltedOr}
+use Rattle.bc_job.specs.bc_deed.Flushed.{HasDone}
 use Rattle.bc_disk.specs.Disk.{DiskFacts}
 use Rattle.bc_events.specs.declared.event.Deed.TheVariants as deed
 use Rattle.bc_events.specs.declared.event.LineNumber.{LineNumber}
-use Rattle.bc_fetch.specs.declared.error.LeafError.TheVariants as leaf
+use Rattle.bc_reader.specs.bc_fetch.declared.error.LeafError.TheVariants as leaf
 use Rattle.bc_flight.specs.declared.claim.Share.TheVariants.{Shared}
-use Rattle.bc_hand.specs.Seats.{View}
-use Rattle.bc_hand.specs.declared.error.StepError.{StepError}
-use Rattle.bc_machine.specs.declared.part.CorePart.{CorePart}
+use Rattle.bc_job.specs.bc_hand.Seats.{View}
+use Rattle.bc_job.specs.bc_hand.declared.error.StepError.{StepError}
+use Rattle.bc_job.specs.bc_machine.declared.part.CorePart.{CorePart}
 use Rattle.bc_model.specs.Sector.{Value}
 use Rattle.bc_parts.specs.Seat.{PartsView}
 use Rattle.bc_reader.specs.Claimed.{HasAnswered, HasNotAnswered}

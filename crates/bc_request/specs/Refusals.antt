@@ -1,8 +1,8 @@
 -- Why requests over a cache are refused.
-use Rattle.bc_fetch.specs.declared.error.LeafError.{LeafError}
-use Rattle.bc_fetch.specs.declared.error.LeafError.TheVariants as leaf
-use Rattle.bc_hand.specs.declared.error.StepError.{StepError}
-use Rattle.bc_hand.specs.declared.error.StepError.TheVariants as step
+use Rattle.bc_reader.specs.bc_fetch.declared.error.LeafError.{LeafError}
+use Rattle.bc_reader.specs.bc_fetch.declared.error.LeafError.TheVariants as leaf
+use Rattle.bc_job.specs.bc_hand.declared.error.StepError.{StepError}
+use Rattle.bc_job.specs.bc_hand.declared.error.StepError.TheVariants as step
 use Rattle.bc_reader.specs.declared.error.ReadError.{ReadError}
 use Rattle.bc_reader.specs.declared.error.ReadError.TheVariants as error
 use Rattle.bc_request.specs.declared.error.RequestError.{RequestError}

@@ -3,9 +3,9 @@ ghost use Rattle.std.specs.Prelude.{◌≡◌};
 ghost use Rattle.bc_request.specs.Refusals.{of_leaf, of_step, refusal};
 
 use bc_disk::disk::Device;
-use bc_fetch::error::LeafError;
-use bc_hand::error::StepError;
+use bc_job::bc_hand::error::StepError;
 use bc_node::NodeError;
+use bc_reader::bc_fetch::error::LeafError;
 use bc_reader::error::ReadError;
 
 /// Why a request over a cache was refused. What it did before stands.

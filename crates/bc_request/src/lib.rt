@@ -13,3 +13,8 @@
 pub mod error;
 pub mod piece;
 pub mod read;
+
+// Passed on, so that a crate above need not list these.
+pub use bc_job;
+pub use bc_reader;
+pub use bc_reader::{bc_fetch, bc_reads};

@@ -1,22 +1,22 @@
 //! One piece of a request, under one claim.
 ghost use Rattle.std.specs.Prelude.{◌≡◌, ◌+◌, ◌*◌, ◌<◌, ◌≤◌, ◌^◌, length, OnOk, IfErr};
-ghost use Rattle.bc_deed.specs.Asked.{size_of};
-ghost use Rattle.bc_machine.specs.Plain.{worker_of};
+ghost use Rattle.bc_job.specs.bc_deed.Asked.{size_of};
+ghost use Rattle.bc_job.specs.bc_machine.Plain.{worker_of};
 ghost use Rattle.bc_model.specs.Pieces.{piece_sectors};
 ghost use Rattle.bc_model.specs.Sector.{values_of};
 ghost use Rattle.bc_request.specs.Asked.{IsIdle};
 ghost use Rattle.bc_request.specs.Piece.{HasNotReadPiece, HasReadPiece};
 
-use bc_deed::claims::release;
-use bc_deed::promise::promise;
 use bc_disk::disk::Disk;
 use bc_events::event::LineNumber;
-use bc_fetch::error::LeafError;
 use bc_flight::claim::Share;
-use bc_hand::error::StepError;
-use bc_hand::hand::Hand;
+use bc_job::bc_deed::claims::release;
+use bc_job::bc_deed::promise::promise;
+use bc_job::bc_hand::error::StepError;
+use bc_job::bc_hand::hand::Hand;
+use bc_job::bc_machine::machine::{CoreParts, CoreSeat};
 use bc_job::claims::claim_range;
-use bc_machine::machine::{CoreParts, CoreSeat};
+use bc_reader::bc_fetch::error::LeafError;
 use bc_reader::claimed::read_claimed;
 use bc_reader::error::ReadError;
 use bc_worker::gate::Gate;

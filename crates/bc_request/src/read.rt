@@ -1,8 +1,8 @@
 //! Reads of lines.
 ghost use Rattle.std.specs.Prelude.{◌≡◌, ◌+◌, ◌*◌, ◌/◌, ◌<◌, ◌≤◌, ◌^◌, List, ◌++◌, length, OnOk, IfOk, IfErr};
-ghost use Rattle.bc_deed.specs.Asked.{size_of};
+ghost use Rattle.bc_job.specs.bc_deed.Asked.{size_of};
 ghost use Rattle.bc_job.specs.Asked.{IsFor, IsRange};
-ghost use Rattle.bc_machine.specs.Plain.{worker_of};
+ghost use Rattle.bc_job.specs.bc_machine.Plain.{worker_of};
 ghost use Rattle.bc_model.specs.Pieces.{piece_sectors};
 ghost use Rattle.bc_model.specs.Sector.{Value, sectors, values_of};
 ghost use Rattle.bc_request.specs.Asked.{IsIdle};
@@ -13,8 +13,8 @@ use crate::error::{RequestError, refusal};
 use crate::piece::read_piece;
 use bc_disk::disk::Disk;
 use bc_events::event::LineNumber;
+use bc_job::bc_machine::machine::{CoreParts, CoreSeat};
 use bc_job::job::{Job, Piece};
-use bc_machine::machine::{CoreParts, CoreSeat};
 use bc_model::values::Values;
 use bc_worker::gate::Gate;
 use std::alloc::Global;

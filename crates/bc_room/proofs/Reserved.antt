@@ -8,12 +8,12 @@ use Rattle.bc_cache.specs.declared.slots.Cached.{Cached}
 use Rattle.bc_cache.proofs.Changed.{set_same}
 use Rattle.bc_disk.specs.Disk.{DiskFacts}
 use Rattle.bc_fetch.proofs.Slots.{at_set, other_stays}
-use Rattle.bc_hand.specs.Seats.{Works, numbers, world}
-use Rattle.bc_hand.specs.declared.hand.LeafHand.{LeafHand}
+use Rattle.bc_fetch.specs.bc_hand.Seats.{Works, numbers, world}
+use Rattle.bc_fetch.specs.bc_hand.declared.hand.LeafHand.{LeafHand}
 use Rattle.bc_leaves.specs.Keys.{last_said, ref_said}
 use Rattle.bc_leaves.specs.Parts as parts
-use Rattle.bc_machine.specs.Containers.{AreEntriesOf, AreLeavesOf, IsHeldIn, IsLeafFor, IsTreeLeaf}
-use Rattle.bc_machine.specs.World.{AreLeaves, World, replay}
+use Rattle.bc_fetch.specs.bc_machine.Containers.{AreEntriesOf, AreLeavesOf, IsHeldIn, IsLeafFor, IsTreeLeaf}
+use Rattle.bc_fetch.specs.bc_machine.World.{AreLeaves, World, replay}
 use Rattle.bc_node.specs.Leaf.{AreLast, AreLastOfAll, Leaf}
 use Rattle.bc_shares.specs.Shares.{LeafShare, leaf_share, shape_of}
 use Rattle.bc_whole.specs.State.{Opening}

@@ -4,10 +4,10 @@ use Rattle.std.specs.declared.alloc.AllocError.{AllocError}
 use Rattle.bc_cache.specs.Slots.{NodeCache, with_slot}
 use Rattle.bc_cache.specs.declared.slots.Cached.{Cached}
 use Rattle.bc_disk.specs.Disk.{DiskFacts}
-use Rattle.bc_hand.specs.Seats.{View, Works}
-use Rattle.bc_hand.specs.declared.hand.Hand.{Hand}
-use Rattle.bc_hand.specs.declared.hand.LeafHand.{LeafHand}
-use Rattle.bc_machine.specs.declared.part.CorePart.{CorePart}
+use Rattle.bc_fetch.specs.bc_hand.Seats.{View, Works}
+use Rattle.bc_fetch.specs.bc_hand.declared.hand.Hand.{Hand}
+use Rattle.bc_fetch.specs.bc_hand.declared.hand.LeafHand.{LeafHand}
+use Rattle.bc_fetch.specs.bc_machine.declared.part.CorePart.{CorePart}
 use Rattle.bc_node.specs.Leaf.{IsSameNode, Leaf}
 use Rattle.bc_parts.specs.Seat.{PartsView}
 

@@ -1,11 +1,11 @@
 //! Room in a leaf.
 ghost use Rattle.std.specs.Prelude.{ℕ, ◌≡◌, Some};
 ghost use Rattle.bc_cache.specs.Slots.{HasLeaf, IsOccupied};
-ghost use Rattle.bc_hand.specs.declared.hand.LeafHand.{LeafHand};
+ghost use Rattle.bc_fetch.specs.bc_hand.declared.hand.LeafHand.{LeafHand};
 ghost use Rattle.bc_room.specs.Room.{HasReserved, IsReserved};
 
 use bc_cache::NodeCache;
-use bc_hand::hand::Hand;
+use bc_fetch::bc_hand::hand::Hand;
 use std::alloc::AllocError;
 
 // Reserves room for so many keys in the leaf in a slot.

@@ -1,1 +1,2 @@
 pub mod Laws
+pub use Rattle.bc_machine.specs as bc_machine

@@ -10,9 +10,9 @@ use Rattle.bc_disk.specs.declared.disk.Device.{Device}
 use Rattle.bc_disk.specs.declared.disk.Device.TheVariants as device
 use Rattle.bc_events.specs.declared.event.LineNumber.{LineNumber}
 use Rattle.bc_events.specs.declared.event.Deed.{Deed}
-use Rattle.bc_hand.specs.Seats.{IsCoreSeat}
-use Rattle.bc_hand.proofs.Knowing.{View}
-use Rattle.bc_deed.specs.Flushed.{HasDone}
+use Rattle.bc_plain_laws.specs.bc_hand.Seats.{IsCoreSeat}
+use Rattle.bc_plain_laws.proofs.of_bc_hand.Knowing.{View}
+use Rattle.bc_job.specs.bc_deed.Flushed.{HasDone}
 use Rattle.bc_job.specs.Asked.{line_of}
 use Rattle.bc_job.specs.Deeds.{IsHaltOf, AreReadDeeds, WriteStop, read_deeds, writes_deeds}
 use Rattle.bc_job.specs.Requests.{HasFlushedFor, HasNotFlushed, HasNotRead, HasNotWritten, HasRead, HasWritten, IsRefusedRead, IsRefusedWrite, WhereOutside}

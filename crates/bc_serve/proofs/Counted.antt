@@ -5,10 +5,10 @@ use Rattle.bc_disk.specs.Device.{HasRisen}
 use Rattle.bc_disk.specs.Disk.{DiskFacts}
 use Rattle.bc_book.specs.declared.pass.Pass.{Pass}
 use Rattle.bc_events.specs.declared.event.Event.{Event}
-use Rattle.bc_machine.specs.World.{opening}
-use Rattle.bc_machine.specs.declared.part.BackingPart.{BackingPart}
-use Rattle.bc_hand.specs.Seats.{by}
-use Rattle.bc_deed.specs.Begun.{opening_parts}
+use Rattle.bc_plain_laws.specs.bc_machine.World.{opening}
+use Rattle.bc_plain_laws.specs.bc_machine.declared.part.BackingPart.{BackingPart}
+use Rattle.bc_plain_laws.specs.bc_hand.Seats.{by}
+use Rattle.bc_job.specs.bc_deed.Begun.{opening_parts}
 use Rattle.bc_script.specs.declared.answer.Answer.{Answer}
 use Rattle.bc_script.specs.declared.line.Line.{Line}
 use Rattle.bc_serve.specs.Run.{AreServedBy, HasRun, events_by}

@@ -9,8 +9,8 @@ use Rattle.bc_events.specs.Columns.{Call, call_by, halt_after, halt_by, halt_of,
 use Rattle.bc_events.specs.declared.event.Deed.{Deed}
 use Rattle.bc_events.specs.declared.event.Deed.TheVariants as deed
 use Rattle.bc_events.specs.declared.event.Event.{Event}
-use Rattle.bc_machine.specs.World.{Side, World, after, called}
-use Rattle.bc_hand.specs.Seats.{by}
+use Rattle.bc_plain_laws.specs.bc_machine.World.{Side, World, after, called}
+use Rattle.bc_plain_laws.specs.bc_hand.Seats.{by}
 use Rattle.bc_serve.specs.Causes.{CallsBacking, IsOfBacking, has_failed, is_failed}
 use Rattle.bc_serve.specs.Run.{events_by}
 

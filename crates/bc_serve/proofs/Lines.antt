@@ -5,10 +5,10 @@ use Rattle.bc_model.specs.declared.history.Entry.{Entry}
 use Rattle.bc_disk.specs.Disk.{DiskFacts}
 use Rattle.bc_events.specs.declared.event.Deed.{Deed}
 use Rattle.bc_events.specs.declared.event.Event.{Event}
-use Rattle.bc_hand.specs.Seats.{by, IsCoreSeat}
-use Rattle.bc_hand.proofs.Knowing.{View}
-use Rattle.bc_deed.specs.Flushed.{HasDone}
-use Rattle.bc_deed.proofs.Sequence.{done_both}
+use Rattle.bc_plain_laws.specs.bc_hand.Seats.{by, IsCoreSeat}
+use Rattle.bc_plain_laws.proofs.of_bc_hand.Knowing.{View}
+use Rattle.bc_job.specs.bc_deed.Flushed.{HasDone}
+use Rattle.bc_job.proofs.of_bc_deed.Sequence.{done_both}
 use Rattle.bc_job.proofs.Looping.{done_none}
 use Rattle.bc_script.specs.Served.{Served, ServesLine}
 use Rattle.bc_script.specs.declared.answer.Answer.{Answer}

@@ -5,7 +5,7 @@ use Rattle.bc_model.specs.declared.history.Entry.{Entry}
 use Rattle.bc_events.specs.Columns.{call_by, entry_by, entries_of}
 use Rattle.bc_events.specs.declared.event.Deed.{Deed}
 use Rattle.bc_events.specs.declared.event.Event.{Event}
-use Rattle.bc_hand.specs.Seats.{by}
+use Rattle.bc_plain_laws.specs.bc_hand.Seats.{by}
 use Rattle.bc_script.specs.declared.answer.Answer.{Answer}
 use Rattle.bc_script.specs.declared.answer.Answer.TheVariants.{Silent, Done, Runs, Refused}
 use Rattle.bc_script.specs.declared.answer.Refusal.TheVariants as refusal

@@ -11,13 +11,13 @@ use Rattle.bc_events.specs.declared.event.Deed.{Deed}
 use Rattle.bc_events.specs.declared.event.Event.{Event}
 use Rattle.bc_book.specs.Pass.{events_in}
 use Rattle.bc_book.specs.declared.pass.Pass.{Pass}
-use Rattle.bc_machine.specs.World.{IsBacking, after, opening}
-use Rattle.bc_machine.specs.declared.part.BackingPart.{BackingPart}
-use Rattle.bc_machine.specs.declared.part.CorePart.{CorePart}
-use Rattle.bc_hand.specs.Seats.{by, world}
-use Rattle.bc_hand.proofs.Knowing.{View, m}
-use Rattle.bc_deed.specs.Begun.{HasBegun, HasJoined}
-use Rattle.bc_deed.specs.Flushed.{HasDone}
+use Rattle.bc_plain_laws.specs.bc_machine.World.{IsBacking, after, opening}
+use Rattle.bc_plain_laws.specs.bc_machine.declared.part.BackingPart.{BackingPart}
+use Rattle.bc_plain_laws.specs.bc_machine.declared.part.CorePart.{CorePart}
+use Rattle.bc_plain_laws.specs.bc_hand.Seats.{by, world}
+use Rattle.bc_plain_laws.proofs.of_bc_hand.Knowing.{View, m}
+use Rattle.bc_job.specs.bc_deed.Begun.{HasBegun, HasJoined}
+use Rattle.bc_job.specs.bc_deed.Flushed.{HasDone}
 use Rattle.bc_plain_laws.specs.Laws.{EndsFirmly, Promises}
 use Rattle.bc_plain_laws.specs.Promises.{LeavesLastWrites, IsUntouched, Survives}
 use Rattle.bc_plain_laws.proofs.Promising.{law_promises}

@@ -8,11 +8,11 @@ use Rattle.bc_parts.specs.Machine.{IsRun}
 use Rattle.bc_events.specs.declared.event.Deed.{Deed}
 use Rattle.bc_events.specs.declared.event.Deed.TheVariants as deed
 use Rattle.bc_events.specs.declared.event.Event.{Event}
-use Rattle.bc_machine.specs.World.{World}
-use Rattle.bc_hand.specs.Seats.{by}
-use Rattle.bc_hand.proofs.Knowing.{View, m}
-use Rattle.bc_deed.specs.Begun.{HasJoined}
-use Rattle.bc_deed.specs.Flushed.{HasDone}
+use Rattle.bc_plain_laws.specs.bc_machine.World.{World}
+use Rattle.bc_plain_laws.specs.bc_hand.Seats.{by}
+use Rattle.bc_plain_laws.proofs.of_bc_hand.Knowing.{View, m}
+use Rattle.bc_job.specs.bc_deed.Begun.{HasJoined}
+use Rattle.bc_job.specs.bc_deed.Flushed.{HasDone}
 use Rattle.bc_serve.specs.Causes.{CallsBacking, entries_by}
 use Rattle.bc_serve.specs.Closed.{ClosedBy}
 use Rattle.bc_serve.specs.Run.{events_by}
@@ -31,7 +31,7 @@ module _ {C B : Type 0} (cache_facts : C → DiskFacts) (backing_facts : B → D
   run_by_seats [] x run = tt
   run_by_seats (e ∷ es) x run = (
     ltb-true e.seat 320 run.0.seat,
-    run_by_seats es (Rattle.bc_machine.specs.World.after x e) run.1,
+    run_by_seats es (Rattle.bc_plain_laws.specs.bc_machine.World.after x e) run.1,
   )
 
 by_behind : (xs ys : List Event) → AreBySeats (xs ++ ys) → AreBySeats ys

@@ -4,8 +4,8 @@ use Rattle.bc_model.specs.Values.{patterns}
 use Rattle.bc_model.specs.declared.history.Entry.{Entry}
 use Rattle.bc_disk.specs.Disk.{DiskFacts}
 use Rattle.bc_events.specs.declared.event.Deed.{Deed}
-use Rattle.bc_hand.specs.Seats.{View}
-use Rattle.bc_deed.specs.Flushed.{HasDone}
+use Rattle.bc_plain_laws.specs.bc_hand.Seats.{View}
+use Rattle.bc_job.specs.bc_deed.Flushed.{HasDone}
 use Rattle.bc_job.specs.Asked.{line_of}
 use Rattle.bc_job.specs.declared.job.Job.{Job}
 use Rattle.bc_script.specs.Served.{ServesFlush, ServesForced, ServesLine, ServesRead, ServesWrite}

@@ -8,11 +8,11 @@ use Rattle.bc_events.specs.declared.event.Deed.{Deed}
 use Rattle.bc_events.specs.declared.event.Event.{Event}
 use Rattle.bc_book.specs.Pass.{events_in}
 use Rattle.bc_book.specs.declared.pass.Pass.{Pass}
-use Rattle.bc_machine.specs.World.{IsBacking, opening}
-use Rattle.bc_machine.specs.declared.part.BackingPart.{BackingPart}
-use Rattle.bc_hand.specs.Seats.{View, by, core}
-use Rattle.bc_deed.specs.Begun.{opening_parts}
-use Rattle.bc_deed.specs.Flushed.{HasDone}
+use Rattle.bc_plain_laws.specs.bc_machine.World.{IsBacking, opening}
+use Rattle.bc_plain_laws.specs.bc_machine.declared.part.BackingPart.{BackingPart}
+use Rattle.bc_plain_laws.specs.bc_hand.Seats.{View, by, core}
+use Rattle.bc_job.specs.bc_deed.Begun.{opening_parts}
+use Rattle.bc_job.specs.bc_deed.Flushed.{HasDone}
 use Rattle.bc_script.specs.Served.{Served, ServesLine}
 use Rattle.bc_script.specs.declared.answer.Answer.{Answer}
 use Rattle.bc_script.specs.declared.line.Line.{Line}

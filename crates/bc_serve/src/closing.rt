@@ -1,16 +1,16 @@
 //! How a run is closed.
 ghost use Rattle.std.specs.Prelude.{◌≡◌, List};
 ghost use Rattle.bc_events.specs.declared.event.Deed.{Deed};
-ghost use Rattle.bc_hand.specs.Seats.{Works, empty};
-ghost use Rattle.bc_deed.specs.Flushed.{HasDone};
+ghost use Rattle.bc_plain_laws.specs.bc_hand.Seats.{Works, empty};
+ghost use Rattle.bc_job.specs.bc_deed.Flushed.{HasDone};
 ghost use Rattle.bc_serve.specs.Closed.{ClosedBy};
 
-use bc_deed::backing::backing_barrier;
-use bc_deed::promise::promise;
 use bc_disk::disk::{Device, Disk};
-use bc_hand::error::StepError;
-use bc_hand::hand::Hand;
-use bc_machine::machine::{CoreParts, CoreSeat};
+use bc_job::bc_deed::backing::backing_barrier;
+use bc_job::bc_deed::promise::promise;
+use bc_plain_laws::bc_hand::error::StepError;
+use bc_plain_laws::bc_hand::hand::Hand;
+use bc_plain_laws::bc_machine::machine::{CoreParts, CoreSeat};
 use std::sync::Wait;
 
 /// How the closing of a run ended.

@@ -1,7 +1,7 @@
 //! The lines of a trace, served in order by one seat.
 ghost use Rattle.std.specs.Prelude.{◌≡◌, ◌<◌, ◌≤◌, ◌^◌, All, [], length, vec_capacity};
-ghost use Rattle.bc_machine.specs.Plain.{worker_of};
-ghost use Rattle.bc_deed.specs.Asked.{size_of};
+ghost use Rattle.bc_plain_laws.specs.bc_machine.Plain.{worker_of};
+ghost use Rattle.bc_job.specs.bc_deed.Asked.{size_of};
 ghost use Rattle.bc_job.specs.Asked.{IsFor, IsIdle, IsRange, IsReady};
 ghost use Rattle.bc_script.specs.Answer.{IsPrintable};
 ghost use Rattle.bc_script.specs.Proper.{IsLine};
@@ -16,8 +16,8 @@ use bc_job::job::Job;
 use bc_job::read::read;
 use bc_job::stock::Stock;
 use bc_job::write::write;
-use bc_machine::machine::{CoreParts, CoreSeat};
 use bc_model::values::Values;
+use bc_plain_laws::bc_machine::machine::{CoreParts, CoreSeat};
 use bc_script::answer::{Answer, Refusal};
 use bc_script::line::{Action, Line};
 use bc_worker::gate::Gate;

@@ -5,3 +5,8 @@
 pub mod closing;
 pub mod in_order;
 pub mod whole_run;
+
+// Passed on, so that a crate above need not list these.
+pub use bc_job;
+pub use bc_job::bc_deed;
+pub use bc_plain_laws::bc_machine;

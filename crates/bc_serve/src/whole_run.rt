@@ -12,9 +12,9 @@ ghost use Rattle.bc_serve.specs.declared.closing.Closing.TheVariants as closings
 use crate::closing::{Closing, close};
 use crate::in_order::serve_lines;
 use bc_book::pass::Pass;
-use bc_deed::run::{Ended, begin, end, join, split};
 use bc_disk::disk::Disk;
-use bc_machine::part::BackingPart;
+use bc_job::bc_deed::run::{Ended, begin, end, join, split};
+use bc_plain_laws::bc_machine::part::BackingPart;
 use bc_script::answer::Answer;
 use bc_script::line::Line;
 use bc_worker::gate::Gate;

@@ -2,13 +2,13 @@
 use Rattle.std.proofs.Common.{◌≡◌, ◌≢◌, inl, inr, ℕ, ◌<◌, List, [], ◌∷◌, ◌++◌, refl, sym, ap, ◌∙◌, arith, eq-eqb, ne_eqb}
 use Rattle.std.specs.Prelude.{◌==◌, filter, map, if◌then◌else◌}
 use Rattle.std.proofs.lemmas.Bool.{cases_eq, ltb-true}
-use Rattle.bc_deed.specs.Flushed.{HasDone}
+use Rattle.bc_started.specs.bc_deed.Flushed.{HasDone}
 use Rattle.bc_disk.specs.Disk.{DiskFacts}
 use Rattle.bc_events.specs.declared.event.Deed.{Deed}
 use Rattle.bc_events.specs.declared.event.Event.{Event}
-use Rattle.bc_hand.specs.Seats.{IsCoreSeat, View, by}
-use Rattle.bc_hand.proofs.Knowing.{m}
-use Rattle.bc_machine.specs.World.{World, after, opening}
+use Rattle.bc_started.specs.bc_hand.Seats.{IsCoreSeat, View, by}
+use Rattle.bc_started.proofs.of_bc_hand.Knowing.{m}
+use Rattle.bc_started.specs.bc_machine.World.{World, after, opening}
 use Rattle.bc_parts.specs.Machine.{IsRun}
 use Rattle.bc_started.specs.First.{HasAll}
 

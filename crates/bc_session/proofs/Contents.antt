@@ -2,8 +2,8 @@
 use Rattle.std.proofs.Common.{◌≡◌, ◌⊎◌, inl, inr, ℕ, List, [], ◌∷◌, Option, Some, None, sym, ap, ◌∙◌, if◌then◌else◌}
 use Rattle.bc_disk.specs.Device.{Among, Content, besides, failed, instead, quiet, settled, written}
 use Rattle.bc_disk.specs.Disk.{Allows, BothTold, IfTold, Torn}
-use Rattle.bc_entered.specs.Laws.{IsSameImage}
-use Rattle.bc_machine.specs.World.{image_of, is_some_image}
+use Rattle.bc_open.specs.bc_entered.Laws.{IsSameImage}
+use Rattle.bc_started.specs.bc_machine.World.{image_of, is_some_image}
 use Rattle.bc_model.specs.Sector.{Image, Value, at_run}
 
 -- the content of the image that a device held, where it told that

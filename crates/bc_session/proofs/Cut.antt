@@ -1,7 +1,7 @@
 -- What an opening's entry leaves of the cache device, however far it came.
 use Rattle.std.proofs.Common.{◌≡◌, ◌⊎◌, inl, inr, ℕ, List, [], ◌∷◌, Option, Some, None, sym, ap, ◌∙◌, subst, arith}
 use Rattle.std.specs.Prelude.{fold, map}
-use Rattle.bc_begun.specs.Begin.{Beginning, parts_of}
+use Rattle.bc_started.specs.bc_begun.Begin.{Beginning, parts_of}
 use Rattle.bc_disk.specs.Device.{Content, quiet}
 use Rattle.bc_disk.specs.Disk.{Allows, BothTold, DiskFacts, IfTold, IsSettled, Overwritten, Torn}
 use Rattle.bc_disk.specs.declared.geometry.Geometry.{Geometry}
@@ -10,20 +10,20 @@ use Rattle.bc_enter.specs.Next.{IsNext}
 use Rattle.bc_enter.specs.Written.{IsPartly}
 use Rattle.bc_enter.specs.declared.next.Unsealed.{Unsealed}
 use Rattle.bc_enter.proofs.Following.{sealed_next}
-use Rattle.bc_entered.specs.Enter.{KeepsThePair}
-use Rattle.bc_entered.specs.Laws.{IsSameImage}
-use Rattle.bc_entered.proofs.Safe.{moved}
+use Rattle.bc_open.specs.bc_entered.Enter.{KeepsThePair}
+use Rattle.bc_open.specs.bc_entered.Laws.{IsSameImage}
+use Rattle.bc_open.proofs.of_bc_entered.Safe.{moved}
 use Rattle.bc_entries.specs.Journal.{Journal as Read}
 use Rattle.bc_entries.specs.Lists.{IsFit}
-use Rattle.bc_entry.specs.Entry.{AreValuesOf}
-use Rattle.bc_entry.specs.Put.{HasFailedBehind, IsCut, IsCutAt, failed_barrier, lost_by, seal_by, write_by}
+use Rattle.bc_started.specs.bc_entry.Entry.{AreValuesOf}
+use Rattle.bc_started.specs.bc_entry.Put.{HasFailedBehind, IsCut, IsCutAt, failed_barrier, lost_by, seal_by, write_by}
 use Rattle.bc_events.specs.declared.event.Deed.{Deed}
 use Rattle.bc_events.specs.declared.event.Deed.TheVariants as deed
-use Rattle.bc_hand.specs.Seats.{by}
-use Rattle.bc_hand.specs.declared.error.StepError.{StepError}
-use Rattle.bc_hand.specs.declared.error.StepError.TheVariants as step
+use Rattle.bc_started.specs.bc_hand.Seats.{by}
+use Rattle.bc_started.specs.bc_hand.declared.error.StepError.{StepError}
+use Rattle.bc_started.specs.bc_hand.declared.error.StepError.TheVariants as step
 use Rattle.bc_journal.specs.Sealed.{AreBytesOf, Sealed, sector_at}
-use Rattle.bc_machine.specs.World.{IsCache, World, after, opening}
+use Rattle.bc_started.specs.bc_machine.World.{IsCache, World, after, opening}
 use Rattle.bc_model.specs.Sector.{Image, Value, values_of}
 use Rattle.bc_open.specs.Open.{HasFailed}
 use Rattle.bc_open.proofs.Left.{as_it_was}

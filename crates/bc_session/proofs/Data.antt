@@ -2,7 +2,7 @@
 use Rattle.std.proofs.Common.{◌≡◌, ◌⊎◌, inl, inr, ℕ, ◌+◌, ◌-◌, ◌<◌, ◌≤◌, Bool, false, List, [], ◌∷◌, Option, Some, None, refl, sym, ap, ◌∙◌, subst, arith, if◌then◌else◌}
 use Rattle.std.specs.Prelude.{fold, map, nat_lt}
 use Rattle.std.proofs.lemmas.Bool.{cases_lt, le-ltb, lt-ltb}
-use Rattle.bc_begun.specs.Begin.{Beginning, parts_of}
+use Rattle.bc_started.specs.bc_begun.Begin.{Beginning, parts_of}
 use Rattle.bc_disk.specs.Device.{Among, Content, next_count, quiet, settled}
 use Rattle.bc_disk.specs.Disk.{Allows, DiskFacts, IsSettled}
 use Rattle.bc_disk.specs.declared.disk.Device.{Device}
@@ -11,10 +11,10 @@ use Rattle.bc_events.specs.Columns.{Call, call_by}
 use Rattle.bc_events.specs.declared.event.Deed.{Deed}
 use Rattle.bc_events.specs.declared.event.Deed.TheVariants as deed
 use Rattle.bc_events.specs.declared.event.Failure.TheVariants as failure
-use Rattle.bc_hand.specs.Seats.{by}
-use Rattle.bc_machine.specs.Frame.{OnBacking, stays_event}
-use Rattle.bc_machine.specs.World.{IsBacking, Side, World, after, behind, called, counted, data_of, is_call_of, opening}
-use Rattle.bc_machine.specs.declared.part.BackingPart.{BackingPart}
+use Rattle.bc_started.specs.bc_hand.Seats.{by}
+use Rattle.bc_started.specs.bc_machine.Frame.{OnBacking, stays_event}
+use Rattle.bc_started.specs.bc_machine.World.{IsBacking, Side, World, after, behind, called, counted, data_of, is_call_of, opening}
+use Rattle.bc_started.specs.bc_machine.declared.part.BackingPart.{BackingPart}
 use Rattle.bc_model.specs.Sector.{Image, Value}
 use Rattle.bc_tree.specs.Spine.{Spine}
 use Rattle.bc_session.proofs.Contents.{IsOnly, one, only_stands}

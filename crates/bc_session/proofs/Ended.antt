@@ -2,24 +2,24 @@
 use Rattle.std.proofs.Common.{◌≡◌, ◌⊎◌, inl, inr, ℕ, zero, suc, ◌+◌, Bool, true, false, List, [], ◌∷◌, ◌++◌, Option, Some, None, Ok, Err, refl, sym, ap, ◌∙◌, subst, arith}
 use Rattle.std.specs.Prelude.{fold, map, IfErr, OnErr, OnOk}
 use Rattle.std.proofs.lemmas.List.Sums.{fold-append}
-use Rattle.bc_begun.specs.Begin.{parts_of}
+use Rattle.bc_started.specs.bc_begun.Begin.{parts_of}
 use Rattle.bc_disk.specs.Device.{next_count}
 use Rattle.bc_disk.specs.Disk.{DiskFacts, IsKept, IsSettled}
 use Rattle.bc_disk.specs.declared.disk.Device.{Device}
 use Rattle.bc_disk.specs.declared.disk.Device.TheVariants.{Backing}
-use Rattle.bc_entered.specs.Enter.{KeepsThePair}
-use Rattle.bc_entry.specs.Put.{put_by}
+use Rattle.bc_open.specs.bc_entered.Enter.{KeepsThePair}
+use Rattle.bc_started.specs.bc_entry.Put.{put_by}
 use Rattle.bc_events.specs.Columns.{halt_of}
 use Rattle.bc_events.specs.declared.event.Deed.{Deed}
 use Rattle.bc_events.specs.declared.event.Deed.TheVariants as deed
 use Rattle.bc_events.specs.declared.event.Event.{Event}
 use Rattle.bc_events.specs.declared.event.Failure.TheVariants as failure
-use Rattle.bc_hand.specs.Seats.{View, by, world}
+use Rattle.bc_started.specs.bc_hand.Seats.{View, by, world}
 use Rattle.bc_image.specs.Pair.{Pair}
 use Rattle.bc_journal.specs.Sealed.{numbers_of}
 use Rattle.bc_loaded.specs.declared.loading.Loaded.{Loaded}
-use Rattle.bc_machine.specs.World.{IsBacking, IsCache, World, after, opening}
-use Rattle.bc_machine.specs.declared.part.CorePart.{CorePart}
+use Rattle.bc_started.specs.bc_machine.World.{IsBacking, IsCache, World, after, opening}
+use Rattle.bc_started.specs.bc_machine.declared.part.CorePart.{CorePart}
 use Rattle.bc_open.specs.Close.{HasDirty}
 use Rattle.bc_model.specs.Sector.{Value}
 use Rattle.bc_open.specs.Idle.{HasIdled, IsStateOf, MayBeLeft, calls_to}

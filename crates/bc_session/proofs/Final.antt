@@ -2,9 +2,9 @@
 use Rattle.std.proofs.Common.{◌≡◌, Bool, Result, Ok, Err, refl, sym, ap, ◌∙◌, subst}
 use Rattle.std.specs.Prelude.{IfErr, OnOk}
 use Rattle.bc_disk.specs.Disk.{DiskFacts, IsKept}
-use Rattle.bc_hand.specs.Seats.{View}
+use Rattle.bc_started.specs.bc_hand.Seats.{View}
 use Rattle.bc_loaded.specs.declared.loading.Loaded.{Loaded}
-use Rattle.bc_machine.specs.declared.part.CorePart.{CorePart}
+use Rattle.bc_started.specs.bc_machine.declared.part.CorePart.{CorePart}
 use Rattle.bc_open.specs.Idle.{HasIdled, MayBeLeft}
 use Rattle.bc_open.specs.Left.{ChangesState, LeavesThePair}
 use Rattle.bc_open.specs.Open.{HasFailed}

@@ -2,8 +2,8 @@
 use Rattle.std.proofs.Common.{◌≡◌, ◌⊎◌, inl, inr, Some, refl, sym, ◌∙◌, subst}
 use Rattle.bc_disk.specs.Disk.{DiskFacts, IfTold}
 use Rattle.bc_disk.specs.declared.geometry.Geometry.{Geometry}
-use Rattle.bc_entered.specs.Enter.{IsHeldStill, KeepsThePair, TearsNone}
-use Rattle.bc_entered.specs.Laws.{IsMarked, IsSameImage, ShowsTheSame}
+use Rattle.bc_open.specs.bc_entered.Enter.{IsHeldStill, KeepsThePair, TearsNone}
+use Rattle.bc_open.specs.bc_entered.Laws.{IsMarked, IsSameImage, ShowsTheSame}
 use Rattle.bc_image.specs.Pair.{Pair}
 use Rattle.bc_image.specs.Reading.{IsView, View}
 use Rattle.bc_image.proofs.Supers.{backing_read}

@@ -6,7 +6,7 @@ use Rattle.bc_disk.specs.Disk.{Allows, BothTold, DiskFacts, IfTold, Overwritten,
 use Rattle.bc_disk.specs.Stands.{settled_model}
 use Rattle.bc_entries.specs.Journal.{HasJournal}
 use Rattle.bc_loaded.specs.declared.loading.Loaded.{Loaded}
-use Rattle.bc_machine.specs.declared.part.BackingPart.{BackingPart}
+use Rattle.bc_started.specs.bc_machine.declared.part.BackingPart.{BackingPart}
 use Rattle.bc_model.specs.Sector.{Image}
 use Rattle.bc_open.specs.Left.{IsStill}
 use Rattle.bc_open.proofs.States.{if_held, told_of}

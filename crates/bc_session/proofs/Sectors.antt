@@ -5,9 +5,9 @@ use Rattle.bc_disk.specs.Disk.{DiskFacts}
 use Rattle.bc_disk.specs.declared.disk.Device.TheVariants.{Backing}
 use Rattle.bc_events.specs.Columns.{Call, call_by}
 use Rattle.bc_events.specs.declared.event.Event.{Event}
-use Rattle.bc_hand.specs.Seats.{View, world}
-use Rattle.bc_machine.specs.World.{IsBacking, Side, World, after, called, counted, same_device}
-use Rattle.bc_machine.specs.declared.part.BackingPart.{BackingPart}
+use Rattle.bc_started.specs.bc_hand.Seats.{View, world}
+use Rattle.bc_started.specs.bc_machine.World.{IsBacking, Side, World, after, called, counted, same_device}
+use Rattle.bc_started.specs.bc_machine.declared.part.BackingPart.{BackingPart}
 use Rattle.bc_session.specs.Close.{HasMade, Outcome}
 
 one_call : (o : Option Call) (x : Side) → (called Backing o x).sectors ≡ x.sectors

@@ -1,19 +1,19 @@
 -- What a run over a pair that was opened stands for.
 use Rattle.std.proofs.Common.{◌≡◌, ℕ, ◌+◌, ◌≤◌, List, [], ◌∷◌, Option, Some, None, refl, sym, ap, ◌∙◌, subst, arith, if◌then◌else◌}
 use Rattle.std.specs.Prelude.{fold, map}
-use Rattle.bc_begun.specs.Begin.{parts_of}
-use Rattle.bc_cached.specs.Laws.{StandsOn, parts_in}
-use Rattle.bc_cached.specs.declared.run.Ready.{Ready}
-use Rattle.bc_chosen.specs.Parts.{ArePartsOf}
+use Rattle.bc_started.specs.bc_begun.Begin.{parts_of}
+use Rattle.bc_started.specs.bc_cached.Laws.{StandsOn, parts_in}
+use Rattle.bc_started.specs.bc_cached.declared.run.Ready.{Ready}
+use Rattle.bc_started.specs.bc_chosen.Parts.{ArePartsOf}
 use Rattle.bc_disk.specs.Disk.{BothTold, DiskFacts, IsSettled, Overwritten}
 use Rattle.bc_disk.specs.declared.geometry.Geometry.{Geometry}
-use Rattle.bc_entered.specs.Enter.{KeepsThePair}
-use Rattle.bc_entered.specs.Laws.{IsSameImage}
-use Rattle.bc_entered.proofs.Safe.{moved}
+use Rattle.bc_open.specs.bc_entered.Enter.{KeepsThePair}
+use Rattle.bc_open.specs.bc_entered.Laws.{IsSameImage}
+use Rattle.bc_open.proofs.of_bc_entered.Safe.{moved}
 use Rattle.bc_entries.specs.Journal.{HasJournal}
 use Rattle.bc_events.specs.declared.event.Event.{Event}
 use Rattle.bc_facts.specs.Layout.{IsLayoutOf}
-use Rattle.bc_hand.specs.Seats.{View, by, world}
+use Rattle.bc_started.specs.bc_hand.Seats.{View, by, world}
 use Rattle.bc_image.specs.Pair.{Pair}
 use Rattle.bc_image.specs.Reading as pairs
 use Rattle.bc_image.specs.Reading.{IsView}
@@ -22,9 +22,9 @@ use Rattle.bc_image.proofs.Supers.{backing_read}
 use Rattle.bc_image.proofs.Unique.{one_backing, one_view}
 use Rattle.bc_jset.specs.Entries.{FoundEntry}
 use Rattle.bc_loaded.specs.declared.loading.Loaded.{Loaded}
-use Rattle.bc_machine.specs.World.{IsBacking, IsCache, Origin, World, after, opening}
-use Rattle.bc_machine.specs.declared.part.BackingPart.{BackingPart}
-use Rattle.bc_machine.specs.declared.part.CorePart.{CorePart}
+use Rattle.bc_started.specs.bc_machine.World.{IsBacking, IsCache, Origin, World, after, opening}
+use Rattle.bc_started.specs.bc_machine.declared.part.BackingPart.{BackingPart}
+use Rattle.bc_started.specs.bc_machine.declared.part.CorePart.{CorePart}
 use Rattle.bc_meta.specs.Layout.{Layout}
 use Rattle.bc_model.specs.Sector.{Image, Value, unless}
 use Rattle.bc_model.proofs.Cases.{by_test}
@@ -35,10 +35,10 @@ use Rattle.bc_parts.specs.Seat.{PartsView, Run}
 use Rattle.bc_pending.specs.Entries.{keys_in}
 use Rattle.bc_pending.specs.Pieces.{ArePending}
 use Rattle.bc_recover.specs.Read.{IsReadOf}
-use Rattle.bc_regrow.specs.Tree.{IsTreeOf}
+use Rattle.bc_loaded.specs.bc_regrow.Tree.{IsTreeOf}
 use Rattle.bc_replay.specs.declared.held.Survey.{Survey}
 use Rattle.bc_resume.specs.Resume.{IsResumed}
-use Rattle.bc_slots.specs.Parts.{AreParts}
+use Rattle.bc_loaded.specs.bc_slots.Parts.{AreParts}
 use Rattle.bc_started.specs.Laws.{IsStartedFrom}
 use Rattle.bc_started.specs.Start.{HasStarted}
 use Rattle.bc_started.proofs.Seen.{law_started}

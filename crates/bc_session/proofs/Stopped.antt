@@ -1,24 +1,24 @@
 -- What is left where the run of an opening wasn't started.
 use Rattle.std.proofs.Common.{◌≡◌, inl, inr, List, Option, Some, None, refl, sym, ap, ◌∙◌, subst}
-use Rattle.bc_begun.specs.Begin.{Beginning}
+use Rattle.bc_started.specs.bc_begun.Begin.{Beginning}
 use Rattle.bc_book.specs.declared.pass.Pass.{Pass}
-use Rattle.bc_cached.specs.declared.run.Ready.{Ready}
+use Rattle.bc_started.specs.bc_cached.declared.run.Ready.{Ready}
 use Rattle.bc_disk.specs.Disk.{BothTold, DiskFacts, IsSettled}
 use Rattle.bc_disk.specs.declared.geometry.Geometry.{Geometry}
 use Rattle.bc_enter.specs.Next.{IsOdd}
-use Rattle.bc_entered.specs.Enter.{KeepsThePair}
-use Rattle.bc_entered.specs.Laws.{IsSameImage}
+use Rattle.bc_open.specs.bc_entered.Enter.{KeepsThePair}
+use Rattle.bc_open.specs.bc_entered.Laws.{IsSameImage}
 use Rattle.bc_entries.specs.Journal.{Journal as Read}
 use Rattle.bc_entries.specs.Lists.{IsFit}
-use Rattle.bc_entry.specs.Put.{HasFailedBehind, HasStoppedBehind, IsCut, IsCutBehind}
+use Rattle.bc_started.specs.bc_entry.Put.{HasFailedBehind, HasStoppedBehind, IsCut, IsCutBehind}
 use Rattle.bc_events.specs.declared.event.Deed.{Deed}
-use Rattle.bc_hand.specs.declared.error.StepError.{StepError}
-use Rattle.bc_hand.specs.declared.error.StepError.TheVariants as step
+use Rattle.bc_started.specs.bc_hand.declared.error.StepError.{StepError}
+use Rattle.bc_started.specs.bc_hand.declared.error.StepError.TheVariants as step
 use Rattle.bc_journal.specs.Journal.{Journal}
 use Rattle.bc_journal.specs.Sealed.{Sealed}
 use Rattle.bc_journal.specs.declared.heads.Heads.{Heads}
 use Rattle.bc_loaded.specs.declared.loading.Loaded.{Loaded}
-use Rattle.bc_machine.specs.declared.part.BackingPart.{BackingPart}
+use Rattle.bc_started.specs.bc_machine.declared.part.BackingPart.{BackingPart}
 use Rattle.bc_model.specs.Sector.{Image}
 use Rattle.bc_open.specs.Left.{ChangesState, IsStill, LeavesThePair}
 use Rattle.bc_open.specs.Open.{HasFailed}

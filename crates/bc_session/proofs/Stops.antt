@@ -4,7 +4,7 @@ use Rattle.bc_disk.specs.Device.{next_count}
 use Rattle.bc_disk.specs.Disk.{BothTold, DiskFacts, IfTold, IsKept, StandsFor}
 use Rattle.bc_disk.specs.Stands.{settled_model}
 use Rattle.bc_disk.specs.declared.disk.Device.TheVariants as device
-use Rattle.bc_entered.specs.Laws.{IsSameImage}
+use Rattle.bc_open.specs.bc_entered.Laws.{IsSameImage}
 use Rattle.bc_image.specs.Pair.{Pair}
 use Rattle.bc_loaded.specs.Loaded.{IsLoadCause}
 use Rattle.bc_model.specs.Sector.{Image}

@@ -1,7 +1,7 @@
 -- A run that is closed.
 use Rattle.std.specs.Prelude.{◌≡◌, ◌⊎◌, Bool, true, false, List, [], ◌∷◌, Some, None, IfErr, OnErr, OnOk, Result, Ok, Err}
 use Rattle.bc_book.specs.Pass.{events_in}
-use Rattle.bc_deed.specs.Flushed.{HasDone}
+use Rattle.bc_started.specs.bc_deed.Flushed.{HasDone}
 use Rattle.bc_disk.specs.Disk.{DiskFacts}
 use Rattle.bc_disk.specs.declared.disk.Device.TheVariants.{Backing}
 use Rattle.bc_events.specs.Columns.{halt_of}
@@ -9,9 +9,9 @@ use Rattle.bc_events.specs.declared.event.Deed.{Deed}
 use Rattle.bc_events.specs.declared.event.Deed.TheVariants as deed
 use Rattle.bc_events.specs.declared.event.Event.{Event}
 use Rattle.bc_events.specs.declared.event.Failure.TheVariants as failure
-use Rattle.bc_hand.specs.Seats.{IsCoreSeat, View, world}
-use Rattle.bc_machine.specs.World.{IsBacking, IsCache}
-use Rattle.bc_machine.specs.declared.part.BackingPart.{BackingPart}
+use Rattle.bc_started.specs.bc_hand.Seats.{IsCoreSeat, View, world}
+use Rattle.bc_started.specs.bc_machine.World.{IsBacking, IsCache}
+use Rattle.bc_started.specs.bc_machine.declared.part.BackingPart.{BackingPart}
 use Rattle.bc_state.specs.State.{super_in}
 use Rattle.bc_super.specs.Writing.{AreCounted, IsBackingStored, IsBackingTorn}
 use Rattle.bc_super.specs.declared.backing.BackingSuper.{BackingSuper}

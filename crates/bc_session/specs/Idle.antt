@@ -7,7 +7,7 @@ use Rattle.bc_disk.specs.Disk.{DiskFacts, IsKept}
 use Rattle.bc_disk.specs.declared.disk.Device.TheVariants as device
 use Rattle.bc_open.specs.Close.{HasDirty}
 use Rattle.bc_open.specs.Open.{EndsOdd, HasFailed}
-use Rattle.bc_regrow.specs.Tree.{OfRead}
+use Rattle.bc_loaded.specs.bc_regrow.Tree.{OfRead}
 use Rattle.bc_replay.specs.declared.error.OpenError.{OpenError}
 use Rattle.bc_replay.specs.declared.error.OpenError.TheVariants as errors
 use Rattle.bc_replay.specs.declared.held.Survey.{Survey}

@@ -1,16 +1,16 @@
 -- What a run over a pair that was opened stands for, and what its devices leave of the pair.
 use Rattle.std.specs.Prelude.{◌≡◌, ℕ, Some}
-use Rattle.bc_cached.specs.Laws.{parts_in}
+use Rattle.bc_started.specs.bc_cached.Laws.{parts_in}
 use Rattle.bc_disk.specs.Disk.{DiskFacts}
 use Rattle.bc_facts.specs.Layout.{IsLayoutOf}
-use Rattle.bc_hand.specs.Seats.{View, world}
+use Rattle.bc_started.specs.bc_hand.Seats.{View, world}
 use Rattle.bc_image.specs.Reading as pairs
 use Rattle.bc_image.specs.Reading.{IsView}
 use Rattle.bc_image.specs.Sound.{HasSoundParts}
 use Rattle.bc_loaded.specs.declared.loading.Loaded.{Loaded}
-use Rattle.bc_machine.specs.World.{IsBacking, IsCache, Origin}
-use Rattle.bc_machine.specs.declared.part.BackingPart.{BackingPart}
-use Rattle.bc_machine.specs.declared.part.CorePart.{CorePart}
+use Rattle.bc_started.specs.bc_machine.World.{IsBacking, IsCache, Origin}
+use Rattle.bc_started.specs.bc_machine.declared.part.BackingPart.{BackingPart}
+use Rattle.bc_started.specs.bc_machine.declared.part.CorePart.{CorePart}
 use Rattle.bc_meta.specs.Layout.{Layout}
 use Rattle.bc_model.specs.Sector.{Image}
 use Rattle.bc_open.specs.Left.{ChangesState, LeavesThePair}

@@ -1,14 +1,14 @@
 -- A pair that is opened for a run, and why it isn't.
 use Rattle.std.specs.Prelude.{◌≡◌, ℕ, ◌<◌, ◌≤◌}
-use Rattle.bc_begun.specs.Opened.{AreBytes}
-use Rattle.bc_cached.specs.declared.run.Ready.{Ready}
+use Rattle.bc_started.specs.bc_begun.Opened.{AreBytes}
+use Rattle.bc_started.specs.bc_cached.declared.run.Ready.{Ready}
 use Rattle.bc_disk.specs.Disk.{DiskFacts, IsSettled}
 use Rattle.bc_disk.specs.declared.disk.Device.TheVariants as device
-use Rattle.bc_hand.specs.Seats.{View}
+use Rattle.bc_started.specs.bc_hand.Seats.{View}
 use Rattle.bc_loaded.specs.Loaded.{AreLoaded}
 use Rattle.bc_loaded.specs.declared.loading.Loaded.{Loaded}
-use Rattle.bc_machine.specs.declared.part.BackingPart.{BackingPart}
-use Rattle.bc_machine.specs.declared.part.CorePart.{CorePart}
+use Rattle.bc_started.specs.bc_machine.declared.part.BackingPart.{BackingPart}
+use Rattle.bc_started.specs.bc_machine.declared.part.CorePart.{CorePart}
 use Rattle.bc_open.specs.Open.{EndsOdd, HasFailed}
 use Rattle.bc_parts.specs.Seat.{PartsView}
 use Rattle.bc_replay.specs.declared.error.OpenError.{OpenError}

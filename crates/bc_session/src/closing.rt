@@ -1,20 +1,20 @@
 //! A run over a pair is closed.
 ghost use Rattle.std.specs.Prelude.{◌≡◌, false};
-ghost use Rattle.bc_hand.specs.Seats.{Works, empty, world};
-ghost use Rattle.bc_machine.specs.World.{are_plain};
+ghost use Rattle.bc_started.specs.bc_hand.Seats.{Works, empty, world};
+ghost use Rattle.bc_started.specs.bc_machine.World.{are_plain};
 ghost use Rattle.bc_started.specs.First.{HasAll};
 ghost use Rattle.bc_super.specs.Super.{IsUsable};
 ghost use Rattle.bc_session.specs.Close.{HasClosed, HasMade, HasSaidClean, IsLastState};
 
 use bc_book::pass::Pass;
-use bc_cached::run::{Ended, end};
-use bc_deed::backing::backing_barrier;
-use bc_deed::promise::promise;
 use bc_disk::disk::{Device, Disk};
-use bc_hand::error::StepError;
-use bc_hand::hand::Hand;
-use bc_machine::machine::{CoreParts, CoreSeat};
-use bc_machine::part::BackingPart;
+use bc_started::bc_cached::run::{Ended, end};
+use bc_started::bc_deed::backing::backing_barrier;
+use bc_started::bc_deed::promise::promise;
+use bc_started::bc_hand::error::StepError;
+use bc_started::bc_hand::hand::Hand;
+use bc_started::bc_machine::machine::{CoreParts, CoreSeat};
+use bc_started::bc_machine::part::BackingPart;
 use bc_state::write_state;
 use bc_super::backing::BackingSuper;
 use bc_super::state::BackingState;

@@ -22,3 +22,6 @@ mod opening;
 pub use closing::{CloseError, Closed, close};
 pub use idle::{Idled, open_and_close};
 pub use opening::{NotOpened, open};
+
+// Passed on, so that a crate above need not list these.
+pub use bc_loaded;

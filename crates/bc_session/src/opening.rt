@@ -1,6 +1,6 @@
 //! A pair is opened for a run.
 ghost use Rattle.std.specs.Prelude.{◌≡◌, ◌*◌, ◌+◌, ◌≤◌, IfErr, IfOk};
-ghost use Rattle.bc_begun.specs.Opened.{AreBytes};
+ghost use Rattle.bc_started.specs.bc_begun.Opened.{AreBytes};
 ghost use Rattle.bc_disk.specs.Disk.{StandsFor};
 ghost use Rattle.bc_disk.specs.Stands.{settled_model};
 ghost use Rattle.bc_open.specs.Left.{ChangesState, LeavesThePair};
@@ -12,13 +12,13 @@ ghost use Rattle.bc_super.specs.Reading.{ReadsSuper};
 ghost use Rattle.bc_super.specs.Super.{IsUsable};
 
 use crate::odd::{is_odd, newest_number};
-use bc_begun::are_bytes;
-use bc_cached::run::Ready;
 use bc_disk::disk::{Device, Disk};
 use bc_loaded::Loaded;
-use bc_machine::machine::{CoreParts, CoreSeat};
-use bc_machine::part::BackingPart;
 use bc_replay::{OpenError, Survey};
+use bc_started::bc_begun::are_bytes;
+use bc_started::bc_cached::run::Ready;
+use bc_started::bc_machine::machine::{CoreParts, CoreSeat};
+use bc_started::bc_machine::part::BackingPart;
 use bc_started::start::{NotStarted, StartError, start};
 use bc_state::write_state;
 use bc_super::backing::BackingSuper;

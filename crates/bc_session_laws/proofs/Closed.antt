@@ -4,24 +4,24 @@ use Rattle.std.specs.Prelude.{OnErr, OnOk, fold, reverse}
 use Rattle.bc_disk.specs.Disk.{DiskFacts, IsHonest, Overwritten, Torn}
 use Rattle.bc_events.specs.Columns.{entries_of}
 use Rattle.bc_events.specs.declared.event.Event.{Event}
-use Rattle.bc_hand.specs.Seats.{View, core}
+use Rattle.bc_plain_laws.specs.bc_hand.Seats.{View, core}
 use Rattle.bc_image.specs.Pair.{Pair}
 use Rattle.bc_image.specs.Reading as pairs
-use Rattle.bc_loaded.specs.declared.loading.Loaded.{Loaded}
-use Rattle.bc_machine.specs.World.{IsBacking, IsCache, Origin, after, opening}
-use Rattle.bc_machine.specs.declared.part.CorePart.{CorePart}
+use Rattle.bc_session.specs.bc_loaded.declared.loading.Loaded.{Loaded}
+use Rattle.bc_recoverable.specs.bc_machine.World.{IsBacking, IsCache, Origin, after, opening}
+use Rattle.bc_recoverable.specs.bc_machine.declared.part.CorePart.{CorePart}
 use Rattle.bc_meta.specs.Layout.{Layout}
 use Rattle.bc_model.specs.Sector.{Image, Value}
-use Rattle.bc_open.proofs.States.{Later, later_of, over_torn, told_of, torn_says}
+use Rattle.bc_session.proofs.of_bc_open.States.{Later, later_of, over_torn, told_of, torn_says}
 use Rattle.bc_pair.specs.Found.{pair_of}
 use Rattle.bc_parts.specs.Machine.{IsRun}
 use Rattle.bc_parts.specs.Seat.{PartsView, Run}
-use Rattle.bc_ranges.specs.Laws.{frame_of}
+use Rattle.bc_recoverable.specs.bc_ranges.Laws.{frame_of}
 use Rattle.bc_recoverable.specs.Made.{AreMade}
 use Rattle.bc_replay.specs.declared.held.Survey.{Survey}
 use Rattle.bc_session.specs.Close.{HasClosed, IsLastState, Outcome}
 use Rattle.bc_session.specs.declared.closing.Closed.{Closed}
-use Rattle.bc_started.specs.Laws.{AreUntorn}
+use Rattle.bc_session.specs.bc_started.Laws.{AreUntorn}
 use Rattle.bc_state.specs.State.{super_in}
 use Rattle.bc_super.specs.Writing.{IsBackingSector, IsBackingStored, IsBackingTorn}
 use Rattle.bc_super.specs.declared.backing.BackingSuper.{BackingSuper}

@@ -3,11 +3,11 @@ use Rattle.std.proofs.Common.{◌≡◌, List, [], ◌∷◌, ◌++◌, refl, �
 use Rattle.std.specs.Prelude.{fold}
 use Rattle.bc_disk.specs.Disk.{DiskFacts}
 use Rattle.bc_events.specs.declared.event.Event.{Event}
-use Rattle.bc_hand.proofs.Knowing.{m}
-use Rattle.bc_machine.specs.Standing.{oldest_first, origin_before, told_event}
-use Rattle.bc_machine.specs.World.{IsCourseOf, IsOrigin, Origin, World, after}
+use Rattle.bc_plain_laws.proofs.of_bc_hand.Knowing.{m}
+use Rattle.bc_recoverable.specs.bc_machine.Standing.{oldest_first, origin_before, told_event}
+use Rattle.bc_recoverable.specs.bc_machine.World.{IsCourseOf, IsOrigin, Origin, World, after}
 use Rattle.bc_parts.specs.Machine.{IsRun}
-use Rattle.bc_started.specs.Laws.{AreUntorn}
+use Rattle.bc_session.specs.bc_started.Laws.{AreUntorn}
 
 -- ---- whose opening it is
 

@@ -3,37 +3,37 @@ use Rattle.std.proofs.Common.{◌≡◌, ◌≢◌, ◌⊎◌, inl, inr, ℕ, �
 use Rattle.std.specs.Prelude.{◌==◌, nat_lt, reverse}
 use Rattle.std.proofs.lemmas.Bool.{cases_lt, le-ltb, lt-ltb}
 use Rattle.std.proofs.lemmas.List.{append-nil}
-use Rattle.bc_cached.specs.Laws.{parts_in}
-use Rattle.bc_cached.specs.declared.run.Ready.{Ready}
-use Rattle.bc_chosen.specs.Parts.{ArePartsOf, Parts}
+use Rattle.bc_session.specs.bc_cached.Laws.{parts_in}
+use Rattle.bc_session.specs.bc_cached.declared.run.Ready.{Ready}
+use Rattle.bc_recoverable.specs.bc_chosen.Parts.{ArePartsOf, Parts}
 use Rattle.bc_disk.specs.Device.{Among, Content, MayLeave}
 use Rattle.bc_disk.specs.Disk.{Allows, DiskFacts, Overwritten}
-use Rattle.bc_entered.specs.Laws.{IsSameImage}
+use Rattle.bc_session.specs.bc_entered.Laws.{IsSameImage}
 use Rattle.bc_events.specs.Columns.{entries_of}
 use Rattle.bc_events.specs.Laws.{HaveWorkers}
 use Rattle.bc_events.specs.Run as core
 use Rattle.bc_events.specs.Run.{State, history_of}
 use Rattle.bc_events.specs.declared.event.Event.{Event}
-use Rattle.bc_hand.specs.Seats.{View}
+use Rattle.bc_plain_laws.specs.bc_hand.Seats.{View}
 use Rattle.bc_image.specs.Pair.{Pair}
 use Rattle.bc_image.specs.Reading as pairs
 use Rattle.bc_image.specs.Shown.{shown_by}
 use Rattle.bc_image.proofs.Supers.{backing_read}
 use Rattle.bc_image.proofs.Unique.{one_backing, one_view}
 use Rattle.bc_jset.specs.Entries.{FoundEntry}
-use Rattle.bc_loaded.specs.declared.loading.Loaded.{Loaded}
-use Rattle.bc_machine.specs.Standing.{oldest_first, replay_is, replay_runs}
-use Rattle.bc_machine.specs.World.{IsBackingOf, IsCourseOf, IsOrigin, Origin, World, behind, image_of, opening, replay, seen_from}
-use Rattle.bc_machine.specs.declared.part.BackingPart.{BackingPart}
-use Rattle.bc_machine.specs.declared.part.CorePart.{CorePart}
+use Rattle.bc_session.specs.bc_loaded.declared.loading.Loaded.{Loaded}
+use Rattle.bc_recoverable.specs.bc_machine.Standing.{oldest_first, replay_is, replay_runs}
+use Rattle.bc_recoverable.specs.bc_machine.World.{IsBackingOf, IsCourseOf, IsOrigin, Origin, World, behind, image_of, opening, replay, seen_from}
+use Rattle.bc_recoverable.specs.bc_machine.declared.part.BackingPart.{BackingPart}
+use Rattle.bc_recoverable.specs.bc_machine.declared.part.CorePart.{CorePart}
 use Rattle.bc_meta.specs.Layout.{Layout}
 use Rattle.bc_model.specs.History.{Allowed, IsLegal}
 use Rattle.bc_model.specs.Pattern.{zeros}
 use Rattle.bc_model.specs.Sector.{Image, Value, unless}
 use Rattle.bc_model.specs.declared.history.Entry.{Entry}
 use Rattle.bc_model.proofs.Cases.{by_test}
-use Rattle.bc_open.specs.Left.{SaysState}
-use Rattle.bc_open.proofs.States.{Later, everywhere, later_of, told_of}
+use Rattle.bc_session.specs.bc_open.Left.{SaysState}
+use Rattle.bc_session.proofs.of_bc_open.States.{Later, everywhere, later_of, told_of}
 use Rattle.bc_pair.specs.Found.{pair_of}
 use Rattle.bc_parts.specs.Seat.{PartsView, Run}
 use Rattle.bc_pending.specs.Entries.{keys_in}
@@ -42,18 +42,18 @@ use Rattle.bc_plain_laws.proofs.Devices.{all_values, before_at, data_at, told_le
 use Rattle.bc_plain_laws.proofs.Entries.{entries_run}
 use Rattle.bc_plain_laws.proofs.Following.{ahead_events, offset_events}
 use Rattle.bc_plain_laws.proofs.Opened.{workers_of}
-use Rattle.bc_ranges.specs.Laws.{frame_of}
+use Rattle.bc_recoverable.specs.bc_ranges.Laws.{frame_of}
 use Rattle.bc_recover.specs.Read.{IsReadOf}
 use Rattle.bc_recoverable.specs.Made.{AreMade}
 use Rattle.bc_recoverable.specs.Runs.{IsKept, Recovers}
 use Rattle.bc_recoverable.proofs.Runs.{law_runs}
-use Rattle.bc_regrow.specs.Tree.{IsTreeOf}
+use Rattle.bc_session.specs.bc_regrow.Tree.{IsTreeOf}
 use Rattle.bc_replay.specs.declared.held.Survey.{Survey}
 use Rattle.bc_session.specs.Open.{ready_of}
 use Rattle.bc_sight.proofs.Held.{run_held}
-use Rattle.bc_sound.specs.Laws.{IsLeftOf, view_with}
-use Rattle.bc_started.specs.Laws.{AreUntorn}
-use Rattle.bc_started.specs.Start.{HasStarted}
+use Rattle.bc_recoverable.specs.bc_sound.Laws.{IsLeftOf, view_with}
+use Rattle.bc_session.specs.bc_started.Laws.{AreUntorn}
+use Rattle.bc_session.specs.bc_started.Start.{HasStarted}
 use Rattle.bc_state.specs.Laws.{IsSamePair}
 use Rattle.bc_state.specs.State.{IsCached, super_in, view_in, with_sector}
 use Rattle.bc_state.proofs.State.{law_state}

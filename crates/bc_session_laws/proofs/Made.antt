@@ -6,16 +6,16 @@ use Rattle.bc_disk.specs.Disk.{DiskFacts}
 use Rattle.bc_disk.specs.declared.geometry.Geometry.{Geometry}
 use Rattle.bc_enter.specs.Entry.{IsOpeningEntry}
 use Rattle.bc_enter.specs.Next.{IsNext}
-use Rattle.bc_entered.proofs.Entry.{root_in}
-use Rattle.bc_entry.specs.Put.{IsPut, seal_by, write_by}
-use Rattle.bc_entry.specs.Seal.{begun_by}
+use Rattle.bc_session.proofs.of_bc_entered.Entry.{root_in}
+use Rattle.bc_session.specs.bc_entry.Put.{IsPut, seal_by, write_by}
+use Rattle.bc_session.specs.bc_entry.Seal.{begun_by}
 use Rattle.bc_events.specs.declared.event.Deed.{Deed}
 use Rattle.bc_events.specs.declared.event.Deed.TheVariants as deed
 use Rattle.bc_events.specs.declared.event.Event.{Event}
 use Rattle.bc_facts.specs.Seen as seen
 use Rattle.bc_facts.specs.Seen.{counted, entry_rest, seen_entry, word_of}
 use Rattle.bc_facts.proofs.Stood.{all_in}
-use Rattle.bc_hand.specs.Seats.{View, by}
+use Rattle.bc_plain_laws.specs.bc_hand.Seats.{View, by}
 use Rattle.bc_image.specs.Pair.{Pair}
 use Rattle.bc_image.specs.Reading as pairs
 use Rattle.bc_image.specs.Sound.{IsNodeKey}
@@ -27,17 +27,17 @@ use Rattle.bc_jset.proofs.Entries.{newest_is_last}
 use Rattle.bc_journal.specs.Journal.{Journal}
 use Rattle.bc_key.specs.declared.key.Key.{Key}
 use Rattle.bc_leaves.specs.Events.{same_root}
-use Rattle.bc_loaded.specs.declared.loading.Loaded.{Loaded}
-use Rattle.bc_machine.specs.World.{Origin, World, after, opening}
-use Rattle.bc_machine.specs.declared.part.CorePart.{CorePart}
+use Rattle.bc_session.specs.bc_loaded.declared.loading.Loaded.{Loaded}
+use Rattle.bc_recoverable.specs.bc_machine.World.{Origin, World, after, opening}
+use Rattle.bc_recoverable.specs.bc_machine.declared.part.CorePart.{CorePart}
 use Rattle.bc_meta.specs.Entries.{Entry}
 use Rattle.bc_meta.specs.Layout.{Layout}
 use Rattle.bc_meta.specs.Records.{Records}
 use Rattle.bc_model.specs.Sector.{Image}
 use Rattle.bc_pair.specs.Found.{pair_of}
 use Rattle.bc_parts.specs.Seat.{PartsView}
-use Rattle.bc_ranges.specs.Laws.{frame_of}
-use Rattle.bc_ranges.specs.Made.{Frame, IsGoodEntry}
+use Rattle.bc_recoverable.specs.bc_ranges.Laws.{frame_of}
+use Rattle.bc_recoverable.specs.bc_ranges.Made.{Frame, IsGoodEntry}
 use Rattle.bc_recover.specs.Read.{IsReadOf}
 use Rattle.bc_recoverable.specs.Made.{AreMade, IsMadeAt}
 use Rattle.bc_recoverable.proofs.Made.{law_brings_nothing}

@@ -2,10 +2,10 @@
 use Rattle.std.specs.Prelude.{◌≡◌, false, List, [], ◌∷◌, ◌++◌}
 use Rattle.bc_disk.specs.Disk.{DiskFacts}
 use Rattle.bc_events.specs.declared.event.Event.{Event}
-use Rattle.bc_hand.specs.Seats.{View, core}
-use Rattle.bc_machine.specs.World.{IsBacking, IsCache, World, opening}
-use Rattle.bc_machine.specs.declared.part.BackingPart.{BackingPart}
-use Rattle.bc_machine.specs.declared.part.CorePart.{CorePart}
+use Rattle.bc_plain_laws.specs.bc_hand.Seats.{View, core}
+use Rattle.bc_recoverable.specs.bc_machine.World.{IsBacking, IsCache, World, opening}
+use Rattle.bc_recoverable.specs.bc_machine.declared.part.BackingPart.{BackingPart}
+use Rattle.bc_recoverable.specs.bc_machine.declared.part.CorePart.{CorePart}
 use Rattle.bc_parts.specs.Machine.{IsRun, state_after}
 use Rattle.bc_parts.specs.Seat.{PartsView}
 use Rattle.bc_recoverable.specs.Made.{brings}

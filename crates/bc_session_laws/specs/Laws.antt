@@ -1,35 +1,35 @@
 -- What a run over a sound pair that was opened leaves of it, wherever its devices stop.
 use Rattle.std.specs.Prelude.{◌≡◌, ℕ, Bool, List, reverse}
 use Rattle.bc_book.specs.Pass.{events_in}
-use Rattle.bc_cached.specs.Laws.{parts_in}
+use Rattle.bc_session.specs.bc_cached.Laws.{parts_in}
 use Rattle.bc_disk.specs.Disk.{DiskFacts}
 use Rattle.bc_events.specs.Columns.{entries_of}
 use Rattle.bc_events.specs.declared.event.Event.{Event}
 use Rattle.bc_facts.specs.Layout.{IsLayoutOf}
-use Rattle.bc_hand.specs.Seats.{View, world}
+use Rattle.bc_plain_laws.specs.bc_hand.Seats.{View, world}
 use Rattle.bc_image.specs.Pair.{Pair}
 use Rattle.bc_image.specs.Reading as pairs
 use Rattle.bc_image.specs.Reading.{IsView}
 use Rattle.bc_image.specs.Shown.{shown_by}
 use Rattle.bc_image.specs.Sound.{HasSoundParts}
-use Rattle.bc_loaded.specs.declared.loading.Loaded.{Loaded}
-use Rattle.bc_machine.specs.World.{Origin}
-use Rattle.bc_machine.specs.declared.part.BackingPart.{BackingPart}
-use Rattle.bc_machine.specs.declared.part.CorePart.{CorePart}
+use Rattle.bc_session.specs.bc_loaded.declared.loading.Loaded.{Loaded}
+use Rattle.bc_recoverable.specs.bc_machine.World.{Origin}
+use Rattle.bc_recoverable.specs.bc_machine.declared.part.BackingPart.{BackingPart}
+use Rattle.bc_recoverable.specs.bc_machine.declared.part.CorePart.{CorePart}
 use Rattle.bc_meta.specs.Layout.{Layout}
 use Rattle.bc_model.specs.History.{Allowed, IsLegal}
 use Rattle.bc_model.specs.Sector.{Image}
 use Rattle.bc_model.specs.declared.history.Entry.{Entry}
 use Rattle.bc_pair.specs.Found.{pair_of}
 use Rattle.bc_parts.specs.Seat.{PartsView}
-use Rattle.bc_ranges.specs.Laws.{frame_of}
+use Rattle.bc_recoverable.specs.bc_ranges.Laws.{frame_of}
 use Rattle.bc_recoverable.specs.Made.{AreMade}
 use Rattle.bc_replay.specs.declared.held.Survey.{Survey}
 use Rattle.bc_session.specs.Close.{HasClosed}
 use Rattle.bc_session.specs.Laws.{HoldSound}
 use Rattle.bc_session.specs.Open.{IsRunOver, ready_of}
 use Rattle.bc_session.specs.declared.closing.Closed.{Closed}
-use Rattle.bc_started.specs.Laws.{AreUntorn, IsStartedFrom}
+use Rattle.bc_session.specs.bc_started.Laws.{AreUntorn, IsStartedFrom}
 use Rattle.bc_super.specs.declared.backing.BackingSuper.{BackingSuper}
 use Rattle.bc_session_laws.specs.Events.{HasGone, OnlyReads, left_by}
 

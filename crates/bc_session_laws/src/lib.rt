@@ -9,3 +9,8 @@
 #![tactic(auto)]
 
 pub mod laws;
+
+// Passed on, so that a crate above need not list these.
+pub use bc_recoverable::bc_machine;
+pub use bc_session;
+pub use bc_session::bc_loaded;

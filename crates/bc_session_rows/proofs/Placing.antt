@@ -8,12 +8,12 @@ use Rattle.bc_events.specs.declared.event.Deed.TheVariants as deed
 use Rattle.bc_events.specs.declared.event.Failure.TheVariants as failure
 use Rattle.bc_events.specs.declared.event.Written.TheVariants as written
 use Rattle.bc_fill.specs.declared.fill.Placed.{Placed}
-use Rattle.bc_hand.specs.Seats.{HasNoneBehindBuckets, HasNoneBehindCache, IsCoreSeat, empty}
-use Rattle.bc_hand.specs.declared.error.StepError.{StepError}
-use Rattle.bc_hand.specs.declared.error.StepError.TheVariants as error
-use Rattle.bc_hand.specs.declared.hand.Hand.{Hand}
-use Rattle.bc_hand.proofs.Knowing.{View}
-use Rattle.bc_machine.specs.declared.part.BucketsPart.{BucketsPart}
+use Rattle.bc_place.specs.bc_hand.Seats.{HasNoneBehindBuckets, HasNoneBehindCache, IsCoreSeat, empty}
+use Rattle.bc_place.specs.bc_hand.declared.error.StepError.{StepError}
+use Rattle.bc_place.specs.bc_hand.declared.error.StepError.TheVariants as error
+use Rattle.bc_place.specs.bc_hand.declared.hand.Hand.{Hand}
+use Rattle.bc_place.proofs.of_bc_hand.Knowing.{View}
+use Rattle.bc_place.specs.bc_machine.declared.part.BucketsPart.{BucketsPart}
 use Rattle.bc_model.specs.Sector.{Value}
 use Rattle.bc_place.specs.Place.{HasHalted, HasPlaced, taken_by}
 use Rattle.bc_place.specs.Written.{HasFailedToPlace, HasStored, KeepsPlaces}

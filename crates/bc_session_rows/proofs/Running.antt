@@ -2,20 +2,20 @@
 use Rattle.std.proofs.Common.{◌≡◌, ℕ, false, List, [], ◌∷◌, ◌++◌, Option, Some, None, refl, sym, ap, ◌∙◌, subst}
 use Rattle.std.specs.Prelude.{fold, is_some, map}
 use Rattle.std.proofs.lemmas.List.{append-nil}
-use Rattle.bc_deed.specs.Flushed.{HasDone}
-use Rattle.bc_deed.proofs.Sequence.{done_first, one_of}
+use Rattle.bc_place.specs.bc_deed.Flushed.{HasDone}
+use Rattle.bc_place.proofs.of_bc_deed.Sequence.{done_first, one_of}
 use Rattle.bc_disk.specs.Disk.{DiskFacts}
 use Rattle.bc_events.specs.declared.event.Deed.{Deed}
 use Rattle.bc_events.specs.declared.event.Event.{Event}
-use Rattle.bc_hand.specs.Seats.{Did, IsCoreSeat, Kinds, by, empty, kinds, world}
-use Rattle.bc_hand.specs.declared.hand.Hand.{Hand}
-use Rattle.bc_hand.proofs.Knowing.{View, m}
+use Rattle.bc_place.specs.bc_hand.Seats.{Did, IsCoreSeat, Kinds, by, empty, kinds, world}
+use Rattle.bc_place.specs.bc_hand.declared.hand.Hand.{Hand}
+use Rattle.bc_place.proofs.of_bc_hand.Knowing.{View, m}
 use Rattle.bc_journal.specs.Journal.{Journal}
-use Rattle.bc_loaded.specs.declared.loading.Loaded.{Loaded}
-use Rattle.bc_machine.specs.Standing.{begun_stays}
-use Rattle.bc_machine.specs.World.{Begun, FromEach, World, after, are_plain, opening}
-use Rattle.bc_machine.specs.declared.part.BucketsPart.{BucketsPart}
-use Rattle.bc_machine.specs.declared.part.CorePart.{CorePart}
+use Rattle.bc_session.specs.bc_loaded.declared.loading.Loaded.{Loaded}
+use Rattle.bc_place.specs.bc_machine.Standing.{begun_stays}
+use Rattle.bc_place.specs.bc_machine.World.{Begun, FromEach, World, after, are_plain, opening}
+use Rattle.bc_place.specs.bc_machine.declared.part.BucketsPart.{BucketsPart}
+use Rattle.bc_place.specs.bc_machine.declared.part.CorePart.{CorePart}
 use Rattle.bc_parts.specs.Seat.{PartsView, Run}
 use Rattle.bc_place.specs.Place.{HasBefore, IsOwn}
 use Rattle.bc_place.proofs.Going.{law_before}

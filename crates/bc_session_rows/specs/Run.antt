@@ -3,13 +3,13 @@ use Rattle.std.specs.Prelude.{◌≡◌, ℕ, false, List, Some, map}
 use Rattle.bc_disk.specs.Disk.{DiskFacts}
 use Rattle.bc_events.specs.declared.event.Deed.{Deed}
 use Rattle.bc_fill.specs.declared.fill.Placed.{Placed}
-use Rattle.bc_hand.specs.Seats.{View, by, world}
+use Rattle.bc_place.specs.bc_hand.Seats.{View, by, world}
 use Rattle.bc_journal.specs.Journal.{Journal}
-use Rattle.bc_machine.specs.World.{FromEach, are_plain, opening}
-use Rattle.bc_machine.specs.declared.part.CorePart.{CorePart}
+use Rattle.bc_place.specs.bc_machine.World.{FromEach, are_plain, opening}
+use Rattle.bc_place.specs.bc_machine.declared.part.CorePart.{CorePart}
 use Rattle.bc_parts.specs.Seat.{PartsView}
 use Rattle.bc_place.specs.Place.{IsOwn}
-use Rattle.bc_started.specs.First.{HasAll}
+use Rattle.bc_session.specs.bc_started.First.{HasAll}
 use Rattle.bc_super.specs.Super.{IsUsable}
 use Rattle.bc_super.specs.declared.backing.BackingSuper.{BackingSuper}
 

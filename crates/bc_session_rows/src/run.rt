@@ -2,7 +2,7 @@
 ghost use Rattle.std.specs.Prelude.{◌≡◌, ◌*◌, ◌≤◌, IfOk};
 ghost use Rattle.bc_disk.specs.Disk.{StandsFor};
 ghost use Rattle.bc_disk.specs.Stands.{settled_model};
-ghost use Rattle.bc_hand.specs.Seats.{Works, empty};
+ghost use Rattle.bc_place.specs.bc_hand.Seats.{Works, empty};
 ghost use Rattle.bc_recover.specs.Read.{HasParts, IsReadOf};
 ghost use Rattle.bc_replay.specs.Causes.{OfHeld};
 ghost use Rattle.bc_session_rows.specs.Run.{IsAlone, IsOpened, MayHave};
@@ -10,9 +10,9 @@ ghost use Rattle.bc_super.specs.Reading.{ReadsSuper};
 
 use bc_disk::disk::Disk;
 use bc_disk::modelled::settle;
-use bc_loaded::load;
-use bc_machine::machine::{CoreParts, CoreSeat};
+use bc_place::bc_machine::machine::{CoreParts, CoreSeat};
 use bc_replay::{OpenError, Survey, survey};
+use bc_session::bc_loaded::load;
 use bc_session::{Closed, NotOpened, close, open};
 use bc_super::backing::{BackingSuper, read_backing};
 use std::alloc::Global;

@@ -18,15 +18,15 @@ use Rattle.bc_bucket.specs.Buckets.{Buckets, bucket_of}
 use Rattle.bc_events.specs.Run.{Opening}
 use Rattle.bc_events.specs.declared.event.LineNumber.{LineNumber}
 use Rattle.bc_events.specs.declared.event.Deed.TheVariants as deed
-use Rattle.bc_machine.specs.Plain.{worker_of}
-use Rattle.bc_machine.specs.declared.part.BucketsPart.{BucketsPart}
-use Rattle.bc_machine.specs.declared.part.CorePart.TheVariants as part
-use Rattle.bc_machine.specs.Note.{note_of}
-use Rattle.bc_machine.specs.World.{World, CanFollow, data_of, are_plain, opening, Origin, IsOrigin, IsSeenFrom, IsCourseOf, seen_from, replay, AreBuckets}
-use Rattle.bc_machine.proofs.Viewing.{opening_stays}
-use Rattle.bc_hand.specs.declared.hand.Hand.{Hand}
-use Rattle.bc_hand.specs.Seats.{by, world, note, AtDeed, MayDo, Works}
-use Rattle.bc_hand.proofs.Knowing.{View, m, is_plain_at}
+use Rattle.bc_looks.specs.bc_machine.Plain.{worker_of}
+use Rattle.bc_looks.specs.bc_machine.declared.part.BucketsPart.{BucketsPart}
+use Rattle.bc_looks.specs.bc_machine.declared.part.CorePart.TheVariants as part
+use Rattle.bc_looks.specs.bc_machine.Note.{note_of}
+use Rattle.bc_looks.specs.bc_machine.World.{World, CanFollow, data_of, are_plain, opening, Origin, IsOrigin, IsSeenFrom, IsCourseOf, seen_from, replay, AreBuckets}
+use Rattle.bc_looks.proofs.of_bc_machine.Viewing.{opening_stays}
+use Rattle.bc_deed.specs.bc_hand.declared.hand.Hand.{Hand}
+use Rattle.bc_deed.specs.bc_hand.Seats.{by, world, note, AtDeed, MayDo, Works}
+use Rattle.bc_deed.proofs.of_bc_hand.Knowing.{View, m, is_plain_at}
 use Rattle.bc_deed.specs.Asked.{IsWithin}
 use Rattle.bc_deed.proofs.May.{can_alone, low}
 use Rattle.bc_sight.specs.Sight.{Knows, IsOnBacking, IsStillLive, MayAnswer, OfClaim, claim_from, said_in}

@@ -13,12 +13,12 @@ use Rattle.bc_events.specs.Run as core
 use Rattle.bc_events.specs.declared.event.Deed.{Deed}
 use Rattle.bc_events.specs.declared.event.Deed.TheVariants as deed
 use Rattle.bc_events.specs.declared.event.Event.{Event}
-use Rattle.bc_machine.specs.World.{World, Origin, IsOrigin, IsCourseOf, replay}
-use Rattle.bc_machine.specs.Frame.{by_test, Keeps, in_acts}
-use Rattle.bc_machine.specs.Standing.{origin_before}
-use Rattle.bc_machine.proofs.Noting.{any_acts}
-use Rattle.bc_hand.specs.Seats.{by, world, IsCoreSeat, Did}
-use Rattle.bc_hand.proofs.Knowing.{View, m}
+use Rattle.bc_looks.specs.bc_machine.World.{World, Origin, IsOrigin, IsCourseOf, replay}
+use Rattle.bc_looks.specs.bc_machine.Frame.{by_test, Keeps, in_acts}
+use Rattle.bc_looks.specs.bc_machine.Standing.{origin_before}
+use Rattle.bc_looks.proofs.of_bc_machine.Noting.{any_acts}
+use Rattle.bc_deed.specs.bc_hand.Seats.{by, world, IsCoreSeat, Did}
+use Rattle.bc_deed.proofs.of_bc_hand.Knowing.{View, m}
 use Rattle.bc_sight.specs.Sight.{but_firm, claim_from, OfClaim}
 
 -- ---- other seats

@@ -21,11 +21,11 @@ use Rattle.bc_events.specs.declared.event.Deed.{Deed}
 use Rattle.bc_events.specs.declared.event.Deed.TheVariants as deed
 use Rattle.bc_events.specs.declared.event.Event.{Event}
 use Rattle.std.specs.Prelude.{take}
-use Rattle.bc_machine.specs.declared.part.CorePart.{CorePart}
-use Rattle.bc_machine.specs.World.{World, after, held_after, held_after_failure, opening, Origin, IsOrigin, IsCourseOf, seen_from, replay}
-use Rattle.bc_machine.specs.Frame.{OnCache, stays_event}
-use Rattle.bc_machine.specs.Standing.{origin_before}
-use Rattle.bc_hand.specs.Seats.{by}
+use Rattle.bc_looks.specs.bc_machine.declared.part.CorePart.{CorePart}
+use Rattle.bc_looks.specs.bc_machine.World.{World, after, held_after, held_after_failure, opening, Origin, IsOrigin, IsCourseOf, seen_from, replay}
+use Rattle.bc_looks.specs.bc_machine.Frame.{OnCache, stays_event}
+use Rattle.bc_looks.specs.bc_machine.Standing.{origin_before}
+use Rattle.bc_deed.specs.bc_hand.Seats.{by}
 
 -- ---- one event
 

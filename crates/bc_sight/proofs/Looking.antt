@@ -15,18 +15,18 @@ use Rattle.bc_cache.specs.Slots.{NodeCache}
 use Rattle.bc_cache.specs.declared.slots.Cached.{Cached}
 use Rattle.bc_events.specs.declared.event.Deed.TheVariants as deed
 use Rattle.bc_shares.specs.Shares.{books_of}
-use Rattle.bc_machine.specs.declared.part.BucketsPart.{BucketsPart}
-use Rattle.bc_machine.specs.declared.part.CorePart.{CorePart}
-use Rattle.bc_machine.specs.declared.part.CorePart.TheVariants as part
-use Rattle.bc_machine.specs.Frame.{Range, range_of}
-use Rattle.bc_machine.specs.Note.{note_of}
-use Rattle.bc_machine.specs.World.{World, data_of, are_plain, Origin, IsOrigin, IsSeenFrom, IsCourseOf, seen_from, replay, AreLeaves, AreBuckets}
+use Rattle.bc_looks.specs.bc_machine.declared.part.BucketsPart.{BucketsPart}
+use Rattle.bc_looks.specs.bc_machine.declared.part.CorePart.{CorePart}
+use Rattle.bc_looks.specs.bc_machine.declared.part.CorePart.TheVariants as part
+use Rattle.bc_looks.specs.bc_machine.Frame.{Range, range_of}
+use Rattle.bc_looks.specs.bc_machine.Note.{note_of}
+use Rattle.bc_looks.specs.bc_machine.World.{World, data_of, are_plain, Origin, IsOrigin, IsSeenFrom, IsCourseOf, seen_from, replay, AreLeaves, AreBuckets}
 use Rattle.bc_looks.specs.Looks.{IsNear}
 use Rattle.bc_looks.proofs.Law.{law_ages, law_keys, law_slots}
-use Rattle.bc_hand.specs.declared.hand.Hand.{Hand}
-use Rattle.bc_hand.specs.declared.hand.LeafHand.{LeafHand}
-use Rattle.bc_hand.specs.Seats.{world, note, with_part, with_leaves, numbers, IsCoreSeat, MayDo, Did, Works}
-use Rattle.bc_hand.proofs.Knowing.{View, m, framed, is_plain_at, note_since}
+use Rattle.bc_deed.specs.bc_hand.declared.hand.Hand.{Hand}
+use Rattle.bc_deed.specs.bc_hand.declared.hand.LeafHand.{LeafHand}
+use Rattle.bc_deed.specs.bc_hand.Seats.{world, note, with_part, with_leaves, numbers, IsCoreSeat, MayDo, Did, Works}
+use Rattle.bc_deed.proofs.of_bc_hand.Knowing.{View, m, framed, is_plain_at, note_since}
 use Rattle.bc_deed.proofs.May.{can_alone, low}
 use Rattle.bc_sight.specs.Sight.{claim_from, HasLeaf, HasLooked, Knows, KnowsUses, OfClaim, said_in}
 use Rattle.bc_sight.proofs.Claims.{claim_committed, looked_claim}

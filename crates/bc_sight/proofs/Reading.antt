@@ -26,16 +26,16 @@ use Rattle.bc_events.specs.declared.event.Event.{Event}
 use Rattle.bc_events.specs.declared.event.Deed.{Deed}
 use Rattle.bc_events.specs.declared.event.Deed.TheVariants as deed
 use Rattle.bc_events.specs.declared.event.Failure.TheVariants as failure
-use Rattle.bc_machine.specs.declared.part.CorePart.TheVariants as part
-use Rattle.bc_machine.specs.Note.{note_of}
-use Rattle.bc_machine.specs.Frame.{by_test}
-use Rattle.bc_machine.specs.World.{World, CanFollow, after, called, counted, same_device, Side, cache_among, data_of, is_told, are_plain, model, opening, Origin, IsOrigin, IsSeenFrom, IsCourseOf, seen_from, replay, IsCache}
-use Rattle.bc_hand.specs.Seats.{by, world, note, IsCoreSeat, MayDo, Did}
-use Rattle.bc_hand.specs.declared.error.StepError.{StepError}
-use Rattle.bc_hand.specs.declared.hand.Hand.{Hand}
-use Rattle.bc_hand.specs.declared.error.StepError.TheVariants as error
-use Rattle.bc_hand.proofs.Between.{did_between}
-use Rattle.bc_hand.proofs.Knowing.{View, m, framed, is_plain_at}
+use Rattle.bc_looks.specs.bc_machine.declared.part.CorePart.TheVariants as part
+use Rattle.bc_looks.specs.bc_machine.Note.{note_of}
+use Rattle.bc_looks.specs.bc_machine.Frame.{by_test}
+use Rattle.bc_looks.specs.bc_machine.World.{World, CanFollow, after, called, counted, same_device, Side, cache_among, data_of, is_told, are_plain, model, opening, Origin, IsOrigin, IsSeenFrom, IsCourseOf, seen_from, replay, IsCache}
+use Rattle.bc_deed.specs.bc_hand.Seats.{by, world, note, IsCoreSeat, MayDo, Did}
+use Rattle.bc_deed.specs.bc_hand.declared.error.StepError.{StepError}
+use Rattle.bc_deed.specs.bc_hand.declared.hand.Hand.{Hand}
+use Rattle.bc_deed.specs.bc_hand.declared.error.StepError.TheVariants as error
+use Rattle.bc_deed.proofs.of_bc_hand.Between.{did_between}
+use Rattle.bc_deed.proofs.of_bc_hand.Knowing.{View, m, framed, is_plain_at}
 use Rattle.bc_deed.specs.Asked.{IsWithin}
 use Rattle.bc_deed.proofs.May.{can_alone, low}
 use Rattle.bc_sight.specs.Asked.{HasFailedRead, HasFailedReadOr}

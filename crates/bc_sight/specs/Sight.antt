@@ -12,11 +12,11 @@ use Rattle.bc_node.specs.Leaf.{Leaf}
 use Rattle.bc_cache.specs.declared.slots.Cached.{Cached}
 use Rattle.bc_bucket.specs.Buckets.{Buckets, bucket_of}
 use Rattle.bc_events.specs.declared.event.Event.{Event}
-use Rattle.bc_machine.specs.World.{Origin, IsOrigin, IsCourseOf, replay}
+use Rattle.bc_looks.specs.bc_machine.World.{Origin, IsOrigin, IsCourseOf, replay}
 use Rattle.bc_places.specs.Stands.{IsCutInto}
-use Rattle.bc_hand.specs.declared.hand.Hand.{Hand}
-use Rattle.bc_hand.specs.declared.hand.LeafHand.{LeafHand}
-use Rattle.bc_hand.specs.Seats.{View, world}
+use Rattle.bc_deed.specs.bc_hand.declared.hand.Hand.{Hand}
+use Rattle.bc_deed.specs.bc_hand.declared.hand.LeafHand.{LeafHand}
+use Rattle.bc_deed.specs.bc_hand.Seats.{View, world}
 
 -- Which copies are firm a barrier of another seat may change; nothing here asks for it.
 abbrev pub but_firm : Claim → Claim

@@ -3,20 +3,20 @@ ghost use Rattle.std.specs.Prelude.{◌≡◌, ◌<◌, ℕ, false, None, Some, 
 ghost use Rattle.bc_bucket.specs.Buckets.{Buckets};
 ghost use Rattle.bc_deed.specs.Asked.{IsHaltedOr, IsWithin};
 ghost use Rattle.bc_events.specs.declared.event.Deed.{Deed};
-ghost use Rattle.bc_hand.specs.Seats.{Works, Did, note};
-ghost use Rattle.bc_machine.specs.Plain.{worker_of};
-ghost use Rattle.bc_machine.specs.World.{are_plain};
-ghost use Rattle.bc_machine.specs.declared.part.BucketsPart.{BucketsPart};
+ghost use Rattle.bc_deed.specs.bc_hand.Seats.{Works, Did, note};
+ghost use Rattle.bc_looks.specs.bc_machine.Plain.{worker_of};
+ghost use Rattle.bc_looks.specs.bc_machine.World.{are_plain};
+ghost use Rattle.bc_looks.specs.bc_machine.declared.part.BucketsPart.{BucketsPart};
 ghost use Rattle.bc_model.specs.Sector.{Gives, Value};
 ghost use Rattle.bc_node.specs.Leaf.{Leaf};
 ghost use Rattle.bc_sight.specs.Sight.{Knows, MayAnswer, OfClaim};
 
+use bc_deed::bc_hand::error::StepError;
+use bc_deed::bc_hand::hand::Hand;
+use bc_deed::bc_hand::seat::commit;
 use bc_disk::disk::Disk;
 use bc_events::event::{Deed, LineNumber};
-use bc_hand::error::StepError;
-use bc_hand::hand::Hand;
-use bc_hand::seat::commit;
-use bc_machine::machine::{CoreParts, CoreSeat};
+use bc_looks::bc_machine::machine::{CoreParts, CoreSeat};
 use bc_model::values::Values;
 use std::sync::Wait;
 

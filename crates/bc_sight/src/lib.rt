@@ -4,3 +4,8 @@
 pub mod answer;
 pub mod cache;
 pub mod look;
+
+// Passed on, so that a crate above need not list these.
+pub use bc_deed;
+pub use bc_deed::bc_hand;
+pub use bc_looks::bc_machine;

@@ -2,18 +2,18 @@
 ghost use Rattle.std.specs.Prelude.{◌≡◌, ◌<◌, ℕ, false, None, Some, OnOk, OnErr, IfErr};
 ghost use Rattle.bc_cache.specs.declared.slots.Cached.{Cached};
 ghost use Rattle.bc_events.specs.declared.event.Deed.{Deed};
-ghost use Rattle.bc_machine.specs.World.{are_plain};
-ghost use Rattle.bc_machine.specs.declared.part.BucketsPart.{BucketsPart};
-ghost use Rattle.bc_hand.specs.Seats.{Works, Did, note};
+ghost use Rattle.bc_looks.specs.bc_machine.World.{are_plain};
+ghost use Rattle.bc_looks.specs.bc_machine.declared.part.BucketsPart.{BucketsPart};
+ghost use Rattle.bc_deed.specs.bc_hand.Seats.{Works, Did, note};
 ghost use Rattle.bc_deed.specs.Asked.{IsHalted};
 ghost use Rattle.bc_sight.specs.Sight.{HasLeaf, Knows, OfClaim};
 
+use bc_deed::bc_hand::error::StepError;
+use bc_deed::bc_hand::hand::Hand;
+use bc_deed::bc_hand::seat::commit;
 use bc_disk::disk::Disk;
 use bc_events::event::Deed;
-use bc_hand::error::StepError;
-use bc_hand::hand::Hand;
-use bc_hand::seat::commit;
-use bc_machine::machine::{CoreParts, CoreSeat};
+use bc_looks::bc_machine::machine::{CoreParts, CoreSeat};
 use std::sync::Wait;
 
 /// Looks up the sectors of the seat's claim in the leaf of this number, which is in hand with the

@@ -18,3 +18,6 @@ mod parts;
 mod tests;
 
 pub use parts::{leaf_parts, leaves_of};
+
+// Passed on, so that a crate above need not list these.
+pub use bc_regrow;

@@ -4,9 +4,9 @@ use Rattle.std.specs.Prelude.{◌==◌, filter, map, if◌then◌else◌}
 use Rattle.std.proofs.lemmas.Bool.{cases_eq, ltb-true}
 use Rattle.bc_disk.specs.Disk.{DiskFacts}
 use Rattle.bc_events.specs.declared.event.Event.{Event}
-use Rattle.bc_hand.specs.Seats.{by}
-use Rattle.bc_hand.proofs.Knowing.{m}
-use Rattle.bc_machine.specs.World.{World, after, opening}
+use Rattle.bc_entry.specs.bc_hand.Seats.{by}
+use Rattle.bc_entry.proofs.of_bc_hand.Knowing.{m}
+use Rattle.bc_entry.specs.bc_machine.World.{World, after, opening}
 use Rattle.bc_parts.specs.Machine.{IsRun}
 use Rattle.bc_started.specs.Laws.{LawOwn}
 

@@ -1,7 +1,7 @@
 -- What the first seat of a run that was begun over what was read knows of the journal.
 use Rattle.std.proofs.Common.{◌≡◌, ℕ, ◌*◌, ◌+◌, ◌≤◌, ◌&&◌, Bool, true, false, List, Option, Some, None, refl, sym, ap, ◌∙◌, subst, arith}
 use Rattle.std.specs.Prelude.{IfSome}
-use Rattle.bc_begun.specs.Begin.{Beginning, parts_of}
+use Rattle.bc_cached.specs.bc_begun.Begin.{Beginning, parts_of}
 use Rattle.bc_cache.specs.Slots.{NodeCache}
 use Rattle.bc_cached.specs.Begun.{IsMadeOf}
 use Rattle.bc_cached.specs.declared.run.Ready.{Ready}
@@ -19,9 +19,9 @@ use Rattle.bc_journal.specs.Journal.{Journal, number_of}
 use Rattle.bc_journal.specs.declared.heads.Heads.{Heads}
 use Rattle.bc_jset.specs.Entries.{AreEntries, FoundEntry}
 use Rattle.bc_jset.proofs.Entries.{newest_is_last}
-use Rattle.bc_machine.specs.Containers.{IsJournalOf}
-use Rattle.bc_machine.specs.declared.part.BackingPart.{BackingPart}
-use Rattle.bc_machine.specs.World.{FromEach, IsJournal, World, cache_among, is_some_image, image_of, opening, replay}
+use Rattle.bc_entry.specs.bc_machine.Containers.{IsJournalOf}
+use Rattle.bc_entry.specs.bc_machine.declared.part.BackingPart.{BackingPart}
+use Rattle.bc_entry.specs.bc_machine.World.{FromEach, IsJournal, World, cache_among, is_some_image, image_of, opening, replay}
 use Rattle.bc_model.specs.Sector.{Image}
 use Rattle.bc_needs.specs.Needs.{NeedsFrom}
 use Rattle.bc_resume.proofs.Held.{newest_of}

@@ -1,7 +1,7 @@
 -- What was done in a run that was begun over what was read, whether it goes on or ended.
 use Rattle.std.proofs.Common.{◌≡◌, ◌<◌, false, List, length, sym, ap, ◌∙◌, subst, arith}
 use Rattle.std.specs.Prelude.{Some, fold}
-use Rattle.bc_begun.specs.Begin.{parts_of}
+use Rattle.bc_cached.specs.bc_begun.Begin.{parts_of}
 use Rattle.bc_book.specs.Pass.{events_in}
 use Rattle.bc_book.specs.declared.pass.Pass.{Pass}
 use Rattle.bc_cached.specs.Begun.{HasBegun}
@@ -16,13 +16,13 @@ use Rattle.bc_entries.specs.Journal.{Journal as Read}
 use Rattle.bc_entry.specs.Entry.{IsNewestEntry}
 use Rattle.bc_entry.specs.Put.{HasCut, HasPut}
 use Rattle.bc_events.specs.declared.event.Event.{Event}
-use Rattle.bc_hand.specs.Seats.{Works, empty, world}
-use Rattle.bc_hand.specs.declared.error.StepError.{StepError}
-use Rattle.bc_hand.proofs.Knowing.{View}
+use Rattle.bc_entry.specs.bc_hand.Seats.{Works, empty, world}
+use Rattle.bc_entry.specs.bc_hand.declared.error.StepError.{StepError}
+use Rattle.bc_entry.proofs.of_bc_hand.Knowing.{View}
 use Rattle.bc_journal.specs.Journal.{Journal}
 use Rattle.bc_journal.specs.declared.heads.Heads.{Heads}
-use Rattle.bc_machine.specs.World.{FromEach, IsBacking, IsCache, World, after, are_plain, opening}
-use Rattle.bc_machine.specs.declared.part.CorePart.{CorePart}
+use Rattle.bc_entry.specs.bc_machine.World.{FromEach, IsBacking, IsCache, World, after, are_plain, opening}
+use Rattle.bc_entry.specs.bc_machine.declared.part.CorePart.{CorePart}
 use Rattle.bc_parts.specs.Seat.{PartsView, Run}
 use Rattle.bc_started.specs.First.{CanPutFirst, HasAll, IsNew}
 use Rattle.bc_started.specs.Start.{CanStart, HasStarted}

@@ -2,8 +2,8 @@
 use Rattle.std.proofs.Common.{◌≡◌, inl, inr, false, List, [], Option, Some, None, refl, sym, ap, ◌∙◌, subst}
 use Rattle.std.specs.Prelude.{Err, IfErr, Ok, OnOk, Result, fold, is_some, map}
 use Rattle.std.proofs.lemmas.List.{append-nil}
-use Rattle.bc_deed.specs.Flushed.{HasDone}
-use Rattle.bc_deed.proofs.Sequence.{done_both}
+use Rattle.bc_entry.specs.bc_deed.Flushed.{HasDone}
+use Rattle.bc_entry.proofs.of_bc_deed.Sequence.{done_both}
 use Rattle.bc_disk.specs.Disk.{DiskFacts}
 use Rattle.bc_disk.specs.declared.disk.Device.{Device}
 use Rattle.bc_entry.specs.Entry.{IsNewestEntry}
@@ -11,16 +11,16 @@ use Rattle.bc_entry.specs.Put.{HasCut, HasPut, IsCause, IsCut, HasStoppedBehind}
 use Rattle.bc_events.specs.Columns.{halt_of}
 use Rattle.bc_events.specs.declared.event.Deed.{Deed}
 use Rattle.bc_events.specs.declared.event.Event.{Event}
-use Rattle.bc_hand.specs.Seats.{IsCoreSeat, Kinds, Works, by, empty, kinds, part_of, world}
-use Rattle.bc_hand.specs.declared.hand.Hand.{Hand}
-use Rattle.bc_hand.specs.declared.hand.LeafHand.{LeafHand}
-use Rattle.bc_hand.specs.declared.error.StepError.{StepError}
-use Rattle.bc_hand.specs.declared.error.StepError.TheVariants as step
-use Rattle.bc_hand.proofs.Knowing.{View, m}
+use Rattle.bc_entry.specs.bc_hand.Seats.{IsCoreSeat, Kinds, Works, by, empty, kinds, part_of, world}
+use Rattle.bc_entry.specs.bc_hand.declared.hand.Hand.{Hand}
+use Rattle.bc_entry.specs.bc_hand.declared.hand.LeafHand.{LeafHand}
+use Rattle.bc_entry.specs.bc_hand.declared.error.StepError.{StepError}
+use Rattle.bc_entry.specs.bc_hand.declared.error.StepError.TheVariants as step
+use Rattle.bc_entry.proofs.of_bc_hand.Knowing.{View, m}
 use Rattle.bc_journal.specs.Journal.{Journal}
 use Rattle.bc_journal.specs.declared.heads.Heads.{Heads}
-use Rattle.bc_machine.specs.World.{FromEach, IsJournal, World, after, opening}
-use Rattle.bc_machine.specs.declared.part.CorePart.{CorePart}
+use Rattle.bc_entry.specs.bc_machine.World.{FromEach, IsJournal, World, after, opening}
+use Rattle.bc_entry.specs.bc_machine.declared.part.CorePart.{CorePart}
 use Rattle.bc_parts.specs.Seat.{PartsView, Run}
 use Rattle.bc_seats.specs.Seats.{Waited}
 use Rattle.bc_seats.proofs.Knowing.{waited}

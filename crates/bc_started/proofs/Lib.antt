@@ -6,3 +6,6 @@ pub mod Begun
 pub mod Ended
 pub mod Seen
 pub mod Stored
+pub use Rattle.bc_cached.proofs.of_bc_chosen
+pub use Rattle.bc_entry.proofs.of_bc_deed
+pub use Rattle.bc_entry.proofs.of_bc_hand

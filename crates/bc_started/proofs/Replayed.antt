@@ -2,7 +2,7 @@
 use Rattle.std.proofs.Common.{◌≡◌, ◌≢◌, inl, inr, ℕ, zero, suc, ◌<◌, ◌≤◌, List, [], ◌∷◌, ◌++◌, length, Option, Some, None, refl, sym, ap, ◌∙◌, subst, arith}
 use Rattle.std.specs.Prelude.{All, IfSome, map, slice_get, slice_index_or}
 use Rattle.std.proofs.lemmas.List.Elements.{All-head, All-tail}
-use Rattle.bc_begun.specs.Begin.{Beginning, parts_of}
+use Rattle.bc_cached.specs.bc_begun.Begin.{Beginning, parts_of}
 use Rattle.bc_cache.specs.Slots.{NodeCache}
 use Rattle.bc_disk.specs.Disk.{DiskFacts}
 use Rattle.bc_disk.specs.declared.geometry.Geometry.{Geometry}
@@ -10,16 +10,16 @@ use Rattle.bc_entries.specs.Journal.{Journal as Read}
 use Rattle.bc_entry.specs.Laws.{AllWaitFrom, WaitFrom}
 use Rattle.bc_jset.specs.Entries.{FoundEntry}
 use Rattle.bc_key.specs.declared.key.Key.{Key}
-use Rattle.bc_machine.specs.World.{leaves_among, opening}
-use Rattle.bc_machine.specs.declared.part.CorePart.{CorePart}
-use Rattle.bc_machine.specs.declared.part.CorePart.TheVariants as part
+use Rattle.bc_entry.specs.bc_machine.World.{leaves_among, opening}
+use Rattle.bc_entry.specs.bc_machine.declared.part.CorePart.{CorePart}
+use Rattle.bc_entry.specs.bc_machine.declared.part.CorePart.TheVariants as part
 use Rattle.bc_node.specs.declared.pending.Entries.{Entries}
 use Rattle.bc_pending.specs.Entries.{keys_in, keys_of}
 use Rattle.bc_pending.specs.Pieces.{ArePieces, numbered}
 use Rattle.bc_pending.specs.declared.numbered.Numbered.{Numbered}
 use Rattle.bc_reload.specs.Added.{noted_all}
-use Rattle.bc_slots.specs.Parts.{IsLeafPart}
-use Rattle.bc_slots.proofs.Leaves.{no_other}
+use Rattle.bc_cached.specs.bc_slots.Parts.{IsLeafPart}
+use Rattle.bc_cached.proofs.of_bc_slots.Leaves.{no_other}
 use Rattle.bc_spine.specs.declared.leaf.LeafRange.{LeafRange}
 use Rattle.bc_tree.specs.Spine.{Spine}
 use Rattle.bc_started.specs.Start.{AreReplayed}

@@ -6,10 +6,10 @@ use Rattle.bc_cached.proofs.Beginning.{newcomer_works}
 use Rattle.bc_cached.proofs.Seen.{law_seen}
 use Rattle.bc_disk.specs.Disk.{DiskFacts}
 use Rattle.bc_events.specs.declared.event.Event.{Event}
-use Rattle.bc_hand.proofs.Knowing.{m}
-use Rattle.bc_machine.specs.Standing.{told_event}
-use Rattle.bc_machine.specs.World.{IsCourseOf, IsOrigin, Origin, World, after, opening}
-use Rattle.bc_machine.specs.declared.part.CorePart.{CorePart}
+use Rattle.bc_entry.proofs.of_bc_hand.Knowing.{m}
+use Rattle.bc_entry.specs.bc_machine.Standing.{told_event}
+use Rattle.bc_entry.specs.bc_machine.World.{IsCourseOf, IsOrigin, Origin, World, after, opening}
+use Rattle.bc_entry.specs.bc_machine.declared.part.CorePart.{CorePart}
 use Rattle.bc_parts.specs.Machine.{IsRun}
 use Rattle.bc_parts.specs.Seat.{Run, newcomer}
 use Rattle.bc_started.specs.Laws.{AreUntorn, LawStarted}

@@ -1,17 +1,17 @@
 -- What the entry of an opening leaves of the cache device.
 use Rattle.std.proofs.Common.{◌≡◌, inl, inr, ℕ, List, [], ◌∷◌, Option, Some, None, sym, ap, ◌∙◌, subst}
 use Rattle.std.specs.Prelude.{fold, map, if◌then◌else◌}
-use Rattle.bc_begun.specs.Begin.{parts_of}
+use Rattle.bc_cached.specs.bc_begun.Begin.{parts_of}
 use Rattle.bc_disk.specs.Device.{Among, instead, quiet, settled, written}
 use Rattle.bc_disk.specs.Disk.{Allows, BothTold, DiskFacts, IfTold, Overwritten}
 use Rattle.bc_disk.specs.declared.geometry.Geometry.{Geometry}
 use Rattle.bc_entry.specs.Put.{put_by}
 use Rattle.bc_events.specs.declared.event.Deed.{Deed}
 use Rattle.bc_events.specs.declared.event.Event.{Event}
-use Rattle.bc_hand.specs.Seats.{by, world}
+use Rattle.bc_entry.specs.bc_hand.Seats.{by, world}
 use Rattle.bc_journal.specs.Sealed.{sector_at}
-use Rattle.bc_machine.specs.World.{IsCache, World, after, image_of, is_some_image, opening}
-use Rattle.bc_machine.specs.declared.part.CorePart.{CorePart}
+use Rattle.bc_entry.specs.bc_machine.World.{IsCache, World, after, image_of, is_some_image, opening}
+use Rattle.bc_entry.specs.bc_machine.declared.part.CorePart.{CorePart}
 use Rattle.bc_model.specs.Sector.{Image, Value, at_run, unless}
 use Rattle.bc_parts.specs.Seat.{Run}
 use Rattle.bc_super.specs.Writing.{IsStored}

@@ -2,11 +2,11 @@
 use Rattle.std.specs.Prelude.{◌≡◌, ◌*◌, ◌≤◌, true, false, None, List, []}
 use Rattle.bc_disk.specs.Disk.{DiskFacts}
 use Rattle.bc_entry.specs.Seal.{AreNamed, CanSeal}
-use Rattle.bc_hand.specs.Seats.{Kinds, View}
+use Rattle.bc_entry.specs.bc_hand.Seats.{Kinds, View}
 use Rattle.bc_journal.specs.Journal.{Journal}
 use Rattle.bc_journal.specs.declared.heads.Heads.{Heads}
-use Rattle.bc_machine.specs.World.{FromEach, IsJournal, cache_among, opening}
-use Rattle.bc_machine.specs.declared.part.CorePart.{CorePart}
+use Rattle.bc_entry.specs.bc_machine.World.{FromEach, IsJournal, cache_among, opening}
+use Rattle.bc_entry.specs.bc_machine.declared.part.CorePart.{CorePart}
 
 -- the journal and the cache device are in hand, and nothing else
 abbrev pub journal_and_cache : Kinds

@@ -2,20 +2,20 @@
 use Rattle.std.specs.Prelude.{◌≡◌, ℕ, List, [], ◌∷◌, map}
 use Rattle.bc_cached.specs.Laws.{StandsOn, parts_in}
 use Rattle.bc_cached.specs.declared.run.Ready.{Ready}
-use Rattle.bc_chosen.specs.Parts.{ArePartsOf, Parts, choices_of}
-use Rattle.bc_deed.specs.Flushed.{HasDone}
+use Rattle.bc_cached.specs.bc_chosen.Parts.{ArePartsOf, Parts, choices_of}
+use Rattle.bc_entry.specs.bc_deed.Flushed.{HasDone}
 use Rattle.bc_disk.specs.Disk.{DiskFacts}
 use Rattle.bc_entries.specs.Journal.{Journal as Read}
 use Rattle.bc_events.specs.declared.event.Deed.{Deed}
 use Rattle.bc_events.specs.declared.event.Event.{Event}
 use Rattle.bc_facts.specs.Layout.{IsLayoutOf}
-use Rattle.bc_hand.specs.Seats as seats
-use Rattle.bc_hand.specs.Seats.{IsCoreSeat, by}
+use Rattle.bc_entry.specs.bc_hand.Seats as seats
+use Rattle.bc_entry.specs.bc_hand.Seats.{IsCoreSeat, by}
 use Rattle.bc_image.specs.Pair.{Pair}
 use Rattle.bc_image.specs.Reading.{IsView, View}
 use Rattle.bc_image.specs.Sound.{HasSoundParts}
-use Rattle.bc_machine.specs.World.{IsOrigin, IsSeenFrom, IsUntorn, Origin, World, replay, seen_from}
-use Rattle.bc_machine.specs.declared.part.CorePart.{CorePart}
+use Rattle.bc_entry.specs.bc_machine.World.{IsOrigin, IsSeenFrom, IsUntorn, Origin, World, replay, seen_from}
+use Rattle.bc_entry.specs.bc_machine.declared.part.CorePart.{CorePart}
 use Rattle.bc_meta.specs.Layout.{Layout}
 use Rattle.bc_opening.specs.Opening.{IsOpeningOf}
 use Rattle.bc_parts.specs.Seat.{PartsView}

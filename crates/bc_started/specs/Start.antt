@@ -1,7 +1,7 @@
 -- A run that is started over a pair that was read.
 use Rattle.std.specs.Prelude.{◌≡◌, ℕ, ◌+◌, ◌*◌, ◌^◌, ◌<◌, ◌≤◌, List, All, length, map}
 use Rattle.bc_alloc.specs.Buckets.{AreFor}
-use Rattle.bc_begun.specs.Begin.{Beginning, parts_of}
+use Rattle.bc_cached.specs.bc_begun.Begin.{Beginning, parts_of}
 use Rattle.bc_cache.specs.Slots.{NodeCache}
 use Rattle.bc_cached.specs.Begun.{IsMadeOf}
 use Rattle.bc_cached.specs.declared.run.Ready.{Ready}
@@ -17,15 +17,15 @@ use Rattle.bc_entries.specs.Reading.{StandsWithin}
 use Rattle.bc_entry.specs.Entry.{IsNewestEntry}
 use Rattle.bc_entry.specs.Put.{IsPut}
 use Rattle.bc_events.specs.declared.event.Deed.{Deed}
-use Rattle.bc_hand.specs.Seats.{View, Works, by, empty, world}
-use Rattle.bc_machine.specs.World.{FromEach}
-use Rattle.bc_machine.specs.declared.part.CorePart.{CorePart}
+use Rattle.bc_entry.specs.bc_hand.Seats.{View, Works, by, empty, world}
+use Rattle.bc_entry.specs.bc_machine.World.{FromEach}
+use Rattle.bc_entry.specs.bc_machine.declared.part.CorePart.{CorePart}
 use Rattle.bc_parts.specs.Seat.{PartsView}
 use Rattle.bc_pending.specs.Entries.{keys_in}
 use Rattle.bc_pending.specs.Pieces.{ArePending}
 use Rattle.bc_pending.specs.declared.numbered.Numbered.{Numbered}
 use Rattle.bc_resume.specs.Resume.{IsResumed}
-use Rattle.bc_slots.specs.Parts.{AreParts}
+use Rattle.bc_cached.specs.bc_slots.Parts.{AreParts}
 use Rattle.bc_spine.specs.declared.leaf.LeafRange.{LeafRange}
 use Rattle.bc_started.specs.First.{HasAll}
 

@@ -1,6 +1,6 @@
 -- A run that isn't started, and what stands then.
 use Rattle.std.specs.Prelude.{◌≡◌, List, fold, map, Option, Some, None}
-use Rattle.bc_begun.specs.Begin.{Beginning, parts_of}
+use Rattle.bc_cached.specs.bc_begun.Begin.{Beginning, parts_of}
 use Rattle.bc_book.specs.Pass.{events_in}
 use Rattle.bc_book.specs.declared.pass.Pass.{Pass}
 use Rattle.bc_cached.specs.Begun.{IsMadeOf}
@@ -13,10 +13,10 @@ use Rattle.bc_enter.specs.declared.next.Unsealed.{Unsealed}
 use Rattle.bc_entries.specs.Journal.{Journal as Read}
 use Rattle.bc_entry.specs.Put.{IsCut}
 use Rattle.bc_events.specs.declared.event.Deed.{Deed}
-use Rattle.bc_hand.specs.Seats.{by}
-use Rattle.bc_hand.specs.declared.error.StepError.{StepError}
-use Rattle.bc_hand.specs.declared.error.StepError.TheVariants as step
-use Rattle.bc_machine.specs.World.{IsBacking, IsCache, World, after, opening}
+use Rattle.bc_entry.specs.bc_hand.Seats.{by}
+use Rattle.bc_entry.specs.bc_hand.declared.error.StepError.{StepError}
+use Rattle.bc_entry.specs.bc_hand.declared.error.StepError.TheVariants as step
+use Rattle.bc_entry.specs.bc_machine.World.{IsBacking, IsCache, World, after, opening}
 use Rattle.bc_started.specs.declared.start.NotStarted.{NotStarted}
 use Rattle.bc_started.specs.declared.start.StartError.{StartError}
 use Rattle.bc_started.specs.declared.start.StartError.TheVariants as errors

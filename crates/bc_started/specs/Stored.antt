@@ -4,10 +4,10 @@ use Rattle.bc_cached.specs.declared.run.Ready.{Ready}
 use Rattle.bc_disk.specs.Disk.{DiskFacts}
 use Rattle.bc_disk.specs.declared.geometry.Geometry.{Geometry}
 use Rattle.bc_entries.specs.Journal.{Journal as Read}
-use Rattle.bc_hand.specs.Seats.{View, world}
+use Rattle.bc_entry.specs.bc_hand.Seats.{View, world}
 use Rattle.bc_journal.specs.Sealed.{AreBytesOf, Sealed, sector_at}
-use Rattle.bc_machine.specs.World.{IsCache}
-use Rattle.bc_machine.specs.declared.part.CorePart.{CorePart}
+use Rattle.bc_entry.specs.bc_machine.World.{IsCache}
+use Rattle.bc_entry.specs.bc_machine.declared.part.CorePart.{CorePart}
 use Rattle.bc_model.specs.Sector.{values_of}
 use Rattle.bc_parts.specs.Seat.{PartsView}
 use Rattle.bc_super.specs.Writing.{IsStored, count_after}

@@ -2,21 +2,21 @@
 ghost use Rattle.std.specs.Prelude.{◌≡◌, false, IfErr, OnOk};
 ghost use Rattle.bc_seats.specs.Seats.{Waited};
 ghost use Rattle.bc_entry.specs.Put.{HasCut, HasPut};
-ghost use Rattle.bc_hand.specs.Seats.{Works, core, empty, kinds};
+ghost use Rattle.bc_entry.specs.bc_hand.Seats.{Works, core, empty, kinds};
 ghost use Rattle.bc_jset.specs.EntryBytes.{IsLevel};
-ghost use Rattle.bc_machine.specs.World.{are_plain};
+ghost use Rattle.bc_entry.specs.bc_machine.World.{are_plain};
 ghost use Rattle.bc_started.specs.Stop.{IsNoHalt};
 ghost use Rattle.bc_started.specs.First.{CanPutFirst, HasAll, IsNew, journal_and_cache};
 
-use bc_deed::promise::promise;
 use bc_disk::disk::Disk;
+use bc_entry::bc_deed::promise::promise;
+use bc_entry::bc_hand::error::StepError;
+use bc_entry::bc_hand::hand::Hand;
+use bc_entry::bc_hand::lend::{borrow_cache, borrow_journal, return_cache, return_journal};
+use bc_entry::bc_machine::machine::{CoreParts, CoreSeat};
+use bc_entry::bc_machine::part::Apart;
 use bc_entry::put::put_entry;
-use bc_hand::error::StepError;
-use bc_hand::hand::Hand;
-use bc_hand::lend::{borrow_cache, borrow_journal, return_cache, return_journal};
 use bc_journal::{Heads, Journal};
-use bc_machine::machine::{CoreParts, CoreSeat};
-use bc_machine::part::Apart;
 use std::alloc::Global;
 use std::sync::Wait;
 

@@ -17,3 +17,8 @@
 mod first;
 pub mod laws;
 pub mod start;
+
+// Passed on, so that a crate above need not list these.
+pub use bc_cached;
+pub use bc_cached::bc_begun;
+pub use bc_entry::{bc_deed, bc_hand, bc_machine};

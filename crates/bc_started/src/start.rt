@@ -13,10 +13,10 @@ use bc_disk::disk::Disk;
 use bc_disk::geometry::Geometry;
 use bc_enter::{Unsealed, next_journal};
 use bc_entries::Journal as Entries;
-use bc_hand::error::StepError;
+use bc_entry::bc_hand::error::StepError;
+use bc_entry::bc_machine::machine::{CoreParts, CoreSeat};
+use bc_entry::bc_machine::part::{Apart, BackingPart};
 use bc_journal::{Heads, Journal};
-use bc_machine::machine::{CoreParts, CoreSeat};
-use bc_machine::part::{Apart, BackingPart};
 use std::alloc::Global;
 use std::sync::Wait;
 

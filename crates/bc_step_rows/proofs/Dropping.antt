@@ -6,14 +6,14 @@ use Rattle.std.proofs.lemmas.List.{append-nil}
 use Rattle.std.proofs.lemmas.List.Elements.{All-cons, All-nil}
 use Rattle.bc_bucket.specs.Buckets.{Buckets}
 use Rattle.bc_cache.specs.declared.slots.Cached.{Cached}
-use Rattle.bc_deed.specs.Flushed.{HasDone}
-use Rattle.bc_deed.proofs.Sequence.{done_both}
+use Rattle.bc_cached.specs.bc_deed.Flushed.{HasDone}
+use Rattle.bc_cached.proofs.of_bc_deed.Sequence.{done_both}
 use Rattle.bc_disk.specs.Disk.{DiskFacts}
-use Rattle.bc_fetch.specs.Fetch.{HasPart, HasReadOne}
-use Rattle.bc_hand.specs.Seats.{IsCoreSeat, Kinds, empty, kinds, note, part_of}
-use Rattle.bc_hand.specs.declared.hand.Hand.{Hand}
-use Rattle.bc_hand.specs.declared.hand.LeafHand.{LeafHand}
-use Rattle.bc_hand.proofs.Knowing.{View, m}
+use Rattle.bc_request.specs.bc_fetch.Fetch.{HasPart, HasReadOne}
+use Rattle.bc_cached.specs.bc_hand.Seats.{IsCoreSeat, Kinds, empty, kinds, note, part_of}
+use Rattle.bc_cached.specs.bc_hand.declared.hand.Hand.{Hand}
+use Rattle.bc_cached.specs.bc_hand.declared.hand.LeafHand.{LeafHand}
+use Rattle.bc_cached.proofs.of_bc_hand.Knowing.{View, m}
 use Rattle.bc_image.specs.Sound.{LiesWithin}
 use Rattle.bc_insert.specs.Drop.{IsGone}
 use Rattle.bc_insert.specs.Insert.{HasPutIn}
@@ -23,14 +23,14 @@ use Rattle.bc_key.specs.declared.key.Key.{Key}
 use Rattle.bc_keys.specs.Spelling.{words_of_all}
 use Rattle.bc_keys.proofs.KeyLists.{length-words_of}
 use Rattle.bc_key.specs.Words.{words_of}
-use Rattle.bc_machine.specs.Frame.{Range}
-use Rattle.bc_machine.specs.Note.{Note}
-use Rattle.bc_machine.specs.declared.part.BucketsPart.{BucketsPart}
+use Rattle.bc_cached.specs.bc_machine.Frame.{Range}
+use Rattle.bc_cached.specs.bc_machine.Note.{Note}
+use Rattle.bc_cached.specs.bc_machine.declared.part.BucketsPart.{BucketsPart}
 use Rattle.bc_node.specs.Leaf.{Leaf}
-use Rattle.bc_reader.proofs.Finding.{waited_done, way_note, way_of}
-use Rattle.bc_reader.proofs.Looking.{range_still}
+use Rattle.bc_request.proofs.of_bc_reader.Finding.{waited_done, way_note, way_of}
+use Rattle.bc_request.proofs.of_bc_reader.Looking.{range_still}
 use Rattle.bc_seats.specs.Seats.{Same, Waited}
-use Rattle.bc_sight.specs.Sight.{IsOnBacking}
+use Rattle.bc_insert.specs.bc_sight.Sight.{IsOnBacking}
 use Rattle.bc_step_rows.specs.Drop.{AreBacked, CanDrop, HasPlaceFor, IsEmptyKey, all_three, alone_at}
 
 pub if_both : {A : Type 0} {P Q R : A → Type 0} (o : Option A) → ((a : A) → P a → Q a → R a)

@@ -1,7 +1,7 @@
 -- A seat behind a piece or a line that was read, or wasn't, has all numbers still.
 use Rattle.std.proofs.Common.{◌≡◌, ◌∙◌, ℕ}
 use Rattle.bc_disk.specs.Disk.{DiskFacts}
-use Rattle.bc_hand.proofs.Knowing.{View, m}
+use Rattle.bc_cached.proofs.of_bc_hand.Knowing.{View, m}
 use Rattle.bc_seats.specs.Seats.{Same}
 
 module _ {C B : Type 0} (cache_facts : C → DiskFacts) (backing_facts : B → DiskFacts) where

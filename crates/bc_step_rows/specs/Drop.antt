@@ -1,16 +1,16 @@
 -- What a test has to see before keys without pointers come into a leaf.
 use Rattle.std.specs.Prelude.{◌≡◌, ℕ, ◌+◌, ◌^◌, ◌<◌, ◌≤◌, true, false, [], ◌∷◌, Some}
 use Rattle.bc_cache.specs.declared.slots.Cached.{Cached}
-use Rattle.bc_hand.specs.Seats.{Kinds}
-use Rattle.bc_hand.specs.declared.hand.Hand.{Hand}
+use Rattle.bc_cached.specs.bc_hand.Seats.{Kinds}
+use Rattle.bc_cached.specs.bc_hand.declared.hand.Hand.{Hand}
 use Rattle.bc_image.specs.Sound.{LiesWithin}
 use Rattle.bc_insert.specs.Drop.{MayDrop}
 use Rattle.bc_insert.specs.Insert.{CanPutIn}
 use Rattle.bc_journal.specs.Journal.{HasRoom, Journal, number_of}
 use Rattle.bc_key.specs.declared.key.Key.{Key}
-use Rattle.bc_machine.specs.Frame.{Range}
+use Rattle.bc_cached.specs.bc_machine.Frame.{Range}
 use Rattle.bc_node.specs.Leaf.{Leaf}
-use Rattle.bc_sight.specs.Sight.{IsOnBacking}
+use Rattle.bc_insert.specs.bc_sight.Sight.{IsOnBacking}
 
 -- a part with leaves, the buckets and the journal are in hand
 abbrev pub all_three : ℕ → Kinds

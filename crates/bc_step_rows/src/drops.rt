@@ -1,39 +1,39 @@
 //! Keys without pointers that come into a leaf in hand: they wait there for its next set, and in the
 //! journal for its next entry.
 ghost use Rattle.std.specs.Prelude.{◌≡◌, ◌+◌, ◌-◌, ◌%◌, ◌<◌, ◌≤◌, ◌^◌, ℕ, [], false, length, IfOk, IfSome, None};
-ghost use Rattle.bc_deed.specs.Asked.{size_of};
-ghost use Rattle.bc_deed.specs.Flushed.{HasDone};
-ghost use Rattle.bc_fetch.specs.Fetch.{HasPart};
-ghost use Rattle.bc_hand.specs.Seats.{Works, core, empty, kinds, note};
-ghost use Rattle.bc_hand.specs.declared.hand.LeafHand.{LeafHand};
-ghost use Rattle.bc_machine.specs.World.{are_plain};
+ghost use Rattle.bc_cached.specs.bc_deed.Asked.{size_of};
+ghost use Rattle.bc_cached.specs.bc_deed.Flushed.{HasDone};
+ghost use Rattle.bc_request.specs.bc_fetch.Fetch.{HasPart};
+ghost use Rattle.bc_cached.specs.bc_hand.Seats.{Works, core, empty, kinds, note};
+ghost use Rattle.bc_cached.specs.bc_hand.declared.hand.LeafHand.{LeafHand};
+ghost use Rattle.bc_cached.specs.bc_machine.World.{are_plain};
 ghost use Rattle.bc_request.specs.Asked.{IsIdle};
 ghost use Rattle.bc_seats.specs.Seats.{Same};
-ghost use Rattle.bc_sight.specs.Sight.{IsOnBacking};
+ghost use Rattle.bc_insert.specs.bc_sight.Sight.{IsOnBacking};
 ghost use Rattle.bc_step_rows.specs.Drop.{AreBacked, CanDrop, HasPlaceFor, IsEmptyKey, all_three, alone_at};
 
 use crate::pair::{DATA, pair};
 use crate::run::{GEOMETRY, begun, reads, ready};
 use bc_bucket::Buckets;
 use bc_cache::{Cached, NodeCache};
-use bc_cached::run::{Ended, Ready, end};
-use bc_deed::promise::promise;
-use bc_disk::disk::Disk;
-use bc_disk::geometry::Geometry;
-use bc_fetch::leaf::leaf_at;
-use bc_flight::claim::Share;
-use bc_hand::hand::{Hand, LeafHand};
-use bc_hand::lend::{
+use bc_cached::bc_deed::promise::promise;
+use bc_cached::bc_hand::hand::{Hand, LeafHand};
+use bc_cached::bc_hand::lend::{
     borrow_buckets, borrow_journal, return_buckets, return_journal, return_leaves,
 };
+use bc_cached::bc_machine::machine::{CoreParts, CoreSeat};
+use bc_cached::run::{Ended, Ready, end};
+use bc_disk::disk::Disk;
+use bc_disk::geometry::Geometry;
+use bc_flight::claim::Share;
 use bc_insert::drop::drop_keys;
-use bc_job::claims::claim_range;
 use bc_journal::Journal;
 use bc_key::{Key, Ptr};
 use bc_keys::are_extents;
-use bc_machine::machine::{CoreParts, CoreSeat};
 use bc_node::{Entries, Leaf, are_within};
-use bc_reads::source::{ReadFrom, read_from};
+use bc_request::bc_fetch::leaf::leaf_at;
+use bc_request::bc_job::claims::claim_range;
+use bc_request::bc_reads::source::{ReadFrom, read_from};
 use bc_worker::gate::NoGate;
 use std::alloc::{AllocError, Global};
 use std::process::Abort;

@@ -1,22 +1,22 @@
 //! The way to a leaf: to one that comes into an empty slot, to one for which another leaf goes, to one
 //! in a slot, and to one that the device doesn't give.
 ghost use Rattle.std.specs.Prelude.{◌≡◌, ◌+◌, ◌<◌, ◌^◌, false, length};
-ghost use Rattle.bc_hand.specs.Seats.{Works, empty};
-ghost use Rattle.bc_machine.specs.World.{are_plain};
+ghost use Rattle.bc_cached.specs.bc_hand.Seats.{Works, empty};
+ghost use Rattle.bc_cached.specs.bc_machine.World.{are_plain};
 
 use crate::pair::{DATA, pair};
 use crate::run::{begun, reads, ready};
+use bc_cached::bc_deed::promise::promise;
+use bc_cached::bc_hand::error::StepError;
+use bc_cached::bc_hand::hand::Hand;
+use bc_cached::bc_machine::machine::{CoreParts, CoreSeat};
+use bc_cached::bc_machine::part::LEAVES;
+use bc_cached::bc_regrow::tree_of;
 use bc_cached::run::{Ended, end};
-use bc_deed::promise::promise;
 use bc_disk::disk::{Device, Disk};
-use bc_fetch::error::LeafError;
-use bc_fetch::leaf::{give_leaves, leaf_at};
-use bc_hand::error::StepError;
-use bc_hand::hand::Hand;
-use bc_machine::machine::{CoreParts, CoreSeat};
-use bc_machine::part::LEAVES;
-use bc_regrow::tree_of;
 use bc_replay::survey;
+use bc_request::bc_fetch::error::LeafError;
+use bc_request::bc_fetch::leaf::{give_leaves, leaf_at};
 use bc_worker::gate::NoGate;
 use std::alloc::{AllocError, Global};
 use std::process::Abort;

@@ -1,18 +1,18 @@
 //! Reads of lines in a run with a cache: of two pieces, whose sectors are in two leaves, and of
 //! one.
 ghost use Rattle.std.specs.Prelude.{◌≡◌, ◌≤◌, length};
-ghost use Rattle.bc_deed.specs.Asked.{size_of};
+ghost use Rattle.bc_cached.specs.bc_deed.Asked.{size_of};
 ghost use Rattle.bc_request.specs.Asked.{IsIdle};
 
 use crate::pair::marked;
 use crate::reads::{LOW, fail_in_run, pair_with_data};
 use crate::run::{begun, reads, ready};
+use bc_cached::bc_machine::machine::{CoreParts, CoreSeat};
 use bc_cached::run::{Ended, end};
 use bc_disk::disk::{Device, Disk};
 use bc_disk::mem_disk::MemDisk;
-use bc_job::job::Job;
-use bc_machine::machine::{CoreParts, CoreSeat};
 use bc_model::values::Values;
+use bc_request::bc_job::job::Job;
 use bc_request::error::RequestError;
 use bc_request::read::read;
 use bc_worker::gate::NoGate;

@@ -1,21 +1,21 @@
 //! Reads of pieces in a run with a cache: from both devices, of clean data that the cache device
 //! doesn't give, and of dirty data that it doesn't.
 ghost use Rattle.std.specs.Prelude.{◌≡◌, ◌≤◌, length};
-ghost use Rattle.bc_deed.specs.Asked.{size_of};
+ghost use Rattle.bc_cached.specs.bc_deed.Asked.{size_of};
 ghost use Rattle.bc_request.specs.Asked.{IsIdle};
 
 use crate::pair::{DATA, DIRTY, marked, pair};
 use crate::run::{begun, reads, ready};
+use bc_cached::bc_hand::error::StepError;
+use bc_cached::bc_machine::machine::{CoreParts, CoreSeat};
+use bc_cached::bc_regrow::tree_of;
 use bc_cached::run::{Ended, end};
 use bc_disk::disk::{Device, Disk};
 use bc_disk::mem_disk::MemDisk;
 use bc_events::event::LineNumber;
-use bc_fetch::error::LeafError;
-use bc_hand::error::StepError;
-use bc_machine::machine::{CoreParts, CoreSeat};
-use bc_reader::error::ReadError;
-use bc_regrow::tree_of;
 use bc_replay::survey;
+use bc_request::bc_fetch::error::LeafError;
+use bc_request::bc_reader::error::ReadError;
 use bc_request::piece::read_piece;
 use bc_worker::gate::NoGate;
 use std::alloc::Global;

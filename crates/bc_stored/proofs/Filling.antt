@@ -3,9 +3,9 @@ use Rattle.std.proofs.Common.{◌≡◌, ℕ, ◌+◌, ◌≤◌, ◌^◌, List,
 use Rattle.std.proofs.lemmas.List.{drop-drop}
 use Rattle.bc_disk.specs.Disk.{DiskFacts}
 use Rattle.bc_fill.specs.declared.fill.Placed.{Placed}
-use Rattle.bc_hand.proofs.Knowing.{View}
+use Rattle.bc_insert.proofs.of_bc_hand.Knowing.{View}
 use Rattle.bc_model.specs.Sector.{Value}
-use Rattle.bc_place.specs.Named.{AreOnDevice, sectors_of}
+use Rattle.bc_insert.specs.bc_place.Named.{AreOnDevice, sectors_of}
 use Rattle.bc_stored.specs.All.{HaveStored}
 use Rattle.bc_stored.specs.Stored.{HasStoredAt}
 

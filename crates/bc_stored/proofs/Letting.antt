@@ -1,20 +1,20 @@
 -- Places that are let go one behind the other.
 use Rattle.std.proofs.Common.{◌≡◌, ℕ, ◌+◌, ◌<◌, List, [], ◌∷◌, ◌++◌, get_or, length, take, Some, sym, ap, ◌∙◌, subst}
 use Rattle.std.proofs.lemmas.List.{map_push, take_more}
-use Rattle.bc_deed.specs.Flushed.{HasDone}
-use Rattle.bc_deed.proofs.Sequence.{done_then}
+use Rattle.bc_insert.specs.bc_deed.Flushed.{HasDone}
+use Rattle.bc_insert.proofs.of_bc_deed.Sequence.{done_then}
 use Rattle.bc_disk.specs.Disk.{DiskFacts}
 use Rattle.bc_events.specs.declared.event.Deed.{Deed}
 use Rattle.bc_events.specs.declared.event.Deed.TheVariants as deed
 use Rattle.bc_events.specs.declared.event.UnpinKind.TheVariants as unpin
 use Rattle.bc_fill.specs.declared.fill.Placed.{Placed}
-use Rattle.bc_hand.specs.Seats.{world}
-use Rattle.bc_hand.proofs.Knowing.{View}
+use Rattle.bc_insert.specs.bc_hand.Seats.{world}
+use Rattle.bc_insert.proofs.of_bc_hand.Knowing.{View}
 use Rattle.bc_insert.specs.Write.{AreAllApart, AreReady}
-use Rattle.bc_machine.specs.World.{FromEach}
+use Rattle.bc_insert.specs.bc_machine.World.{FromEach}
 use Rattle.bc_model.specs.Sector.{Value, at_run}
-use Rattle.bc_place.specs.Named.{AreFilled, IsApartFrom}
-use Rattle.bc_place.specs.Written.{AreApart, HasUnpinned}
+use Rattle.bc_insert.specs.bc_place.Named.{AreFilled, IsApartFrom}
+use Rattle.bc_insert.specs.bc_place.Written.{AreApart, HasUnpinned}
 use Rattle.bc_stored.specs.All.{AreOwnApart, unpins}
 use Rattle.bc_stored.specs.Stored.{KeepsOwn}
 

@@ -9,16 +9,16 @@ use Rattle.bc_disk.specs.Disk.{DiskFacts}
 use Rattle.bc_events.specs.Run as core
 use Rattle.bc_fill.specs.Fresh.{IsApart}
 use Rattle.bc_fill.specs.declared.fill.Placed.{Placed}
-use Rattle.bc_hand.specs.Seats.{world}
-use Rattle.bc_hand.proofs.Knowing.{View}
+use Rattle.bc_insert.specs.bc_hand.Seats.{world}
+use Rattle.bc_insert.proofs.of_bc_hand.Knowing.{View}
 use Rattle.bc_insert.specs.Write.{AreAllApart, AreReady}
-use Rattle.bc_machine.specs.World.{FromEach, Origin}
+use Rattle.bc_insert.specs.bc_machine.World.{FromEach, Origin}
 use Rattle.bc_model.specs.Sector.{Value, at_run}
 use Rattle.bc_model.proofs.Cases.{by_test}
 use Rattle.bc_model.proofs.Runs.{at_miss}
-use Rattle.bc_place.specs.Named.{AreFilled, IsApartFrom, IsFilled, sectors_of}
-use Rattle.bc_place.specs.Place.{IsOwn}
-use Rattle.bc_place.specs.Written.{AreApart, HasWritten, IsWrittenAt, with_written}
+use Rattle.bc_insert.specs.bc_place.Named.{AreFilled, IsApartFrom, IsFilled, sectors_of}
+use Rattle.bc_insert.specs.bc_place.Place.{IsOwn}
+use Rattle.bc_insert.specs.bc_place.Written.{AreApart, HasWritten, IsWrittenAt, with_written}
 use Rattle.bc_stored.specs.Stored.{HasStoredAt}
 
 -- ---- one sector

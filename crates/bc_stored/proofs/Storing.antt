@@ -2,13 +2,13 @@
 use Rattle.std.proofs.Common.{◌≡◌, inr, ℕ, List, length, take, None, sym, ap, subst}
 use Rattle.bc_disk.specs.Disk.{DiskFacts}
 use Rattle.bc_fill.specs.declared.fill.Placed.{Placed}
-use Rattle.bc_hand.specs.Seats.{HasNoneBehindBuckets, HasNoneBehindCache, empty}
-use Rattle.bc_hand.specs.declared.hand.Hand.{Hand}
-use Rattle.bc_hand.proofs.Knowing.{View}
+use Rattle.bc_insert.specs.bc_hand.Seats.{HasNoneBehindBuckets, HasNoneBehindCache, empty}
+use Rattle.bc_insert.specs.bc_hand.declared.hand.Hand.{Hand}
+use Rattle.bc_insert.proofs.of_bc_hand.Knowing.{View}
 use Rattle.bc_model.specs.Sector.{Value}
-use Rattle.bc_place.specs.Place.{HasGiven}
-use Rattle.bc_place.specs.Written.{HasUnpinned, IsNew, KeepsPlaces}
-use Rattle.bc_place.proofs.Keeping.{opening_both}
+use Rattle.bc_insert.specs.bc_place.Place.{HasGiven}
+use Rattle.bc_insert.specs.bc_place.Written.{HasUnpinned, IsNew, KeepsPlaces}
+use Rattle.bc_insert.proofs.of_bc_place.Keeping.{opening_both}
 use Rattle.bc_stored.specs.Stored.{HasNotWritten, KeepsOwn, WhyNotStored}
 use Rattle.bc_stored.specs.declared.error.StoreError.{StoreError}
 use Rattle.bc_stored.specs.declared.error.StoreError.TheVariants as error

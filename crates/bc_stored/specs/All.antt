@@ -1,18 +1,18 @@
 -- Values that were put to as many places as they need.
 use Rattle.std.specs.Prelude.{◌≡◌, ◌⊎◌, ℕ, List, [], ◌∷◌, drop, map}
-use Rattle.bc_deed.specs.Flushed.{HasDone}
+use Rattle.bc_insert.specs.bc_deed.Flushed.{HasDone}
 use Rattle.bc_disk.specs.Disk.{DiskFacts}
 use Rattle.bc_events.specs.declared.event.Deed.{Deed}
 use Rattle.bc_events.specs.declared.event.Deed.TheVariants as deed
 use Rattle.bc_events.specs.declared.event.UnpinKind.TheVariants as unpin
 use Rattle.bc_events.specs.Run.{State}
 use Rattle.bc_fill.specs.declared.fill.Placed.{Placed}
-use Rattle.bc_hand.specs.Seats.{View}
-use Rattle.bc_hand.specs.declared.error.StepError.TheVariants as step
-use Rattle.bc_machine.specs.World.{Origin}
+use Rattle.bc_insert.specs.bc_hand.Seats.{View}
+use Rattle.bc_insert.specs.bc_hand.declared.error.StepError.TheVariants as step
+use Rattle.bc_insert.specs.bc_machine.World.{Origin}
 use Rattle.bc_model.specs.Sector.{Value}
-use Rattle.bc_place.specs.Named.{IsApartFrom, sectors_of}
-use Rattle.bc_place.specs.Place.{IsOwn}
+use Rattle.bc_insert.specs.bc_place.Named.{IsApartFrom, sectors_of}
+use Rattle.bc_insert.specs.bc_place.Place.{IsOwn}
 use Rattle.bc_stored.specs.Stored.{HasNotStored, HasStoredAt}
 use Rattle.bc_stored.specs.declared.error.StoreError.{StoreError}
 use Rattle.bc_stored.specs.declared.error.StoreError.TheVariants as error

@@ -2,12 +2,12 @@
 use Rattle.std.specs.Prelude.{◌⊎◌, ℕ, ◌+◌, ◌≤◌, ◌^◌, List, length, take, None}
 use Rattle.bc_disk.specs.Disk.{DiskFacts}
 use Rattle.bc_fill.specs.declared.fill.Placed.{Placed}
-use Rattle.bc_hand.specs.Seats.{Did, View, world}
-use Rattle.bc_hand.specs.declared.error.StepError.{StepError}
-use Rattle.bc_machine.specs.World.{FromEach}
+use Rattle.bc_insert.specs.bc_hand.Seats.{Did, View, world}
+use Rattle.bc_insert.specs.bc_hand.declared.error.StepError.{StepError}
+use Rattle.bc_insert.specs.bc_machine.World.{FromEach}
 use Rattle.bc_model.specs.Sector.{Value}
-use Rattle.bc_place.specs.Place.{HasGiven, HasHalted, HasNoBucket, IsOwn}
-use Rattle.bc_place.specs.Written.{HasFailedToPlace, HasStored, HasUnpinned, IsNew, KeepsOpening, KeepsPlaces}
+use Rattle.bc_insert.specs.bc_place.Place.{HasGiven, HasHalted, HasNoBucket, IsOwn}
+use Rattle.bc_insert.specs.bc_place.Written.{HasFailedToPlace, HasStored, HasUnpinned, IsNew, KeepsOpening, KeepsPlaces}
 use Rattle.bc_stored.specs.declared.error.StoreError.{StoreError}
 use Rattle.bc_stored.specs.declared.error.StoreError.TheVariants as error
 

@@ -1,22 +1,22 @@
 //! Values that are put to as many places as they need.
 ghost use Rattle.std.specs.Prelude.{◌≡◌, ◌+◌, ◌*◌, ◌≤◌, ◌^◌, All, false, length, IfErr, IfOk};
-ghost use Rattle.bc_deed.specs.Flushed.{HasDone};
-ghost use Rattle.bc_hand.specs.Seats.{Works, empty, world};
+ghost use Rattle.bc_insert.specs.bc_deed.Flushed.{HasDone};
+ghost use Rattle.bc_insert.specs.bc_hand.Seats.{Works, empty, world};
 ghost use Rattle.bc_insert.specs.Write.{AreReady};
-ghost use Rattle.bc_machine.specs.World.{FromEach, are_plain, cache_among};
-ghost use Rattle.bc_place.specs.Named.{AreOnDevice, sectors_of};
-ghost use Rattle.bc_place.specs.Place.{HasBefore};
+ghost use Rattle.bc_insert.specs.bc_machine.World.{FromEach, are_plain, cache_among};
+ghost use Rattle.bc_insert.specs.bc_place.Named.{AreOnDevice, sectors_of};
+ghost use Rattle.bc_insert.specs.bc_place.Place.{HasBefore};
 ghost use Rattle.bc_stored.specs.All.{AreOwnApart, HaveNotStored, HaveStored, unpins};
 
 use crate::error::StoreError;
 use crate::one::store_one;
 use bc_disk::disk::Disk;
 use bc_fill::Placed;
-use bc_hand::error::StepError;
-use bc_hand::hand::Hand;
-use bc_machine::machine::{CoreParts, CoreSeat};
+use bc_insert::bc_hand::error::StepError;
+use bc_insert::bc_hand::hand::Hand;
+use bc_insert::bc_machine::machine::{CoreParts, CoreSeat};
+use bc_insert::bc_place::unpin::unpin;
 use bc_model::values::Values;
-use bc_place::unpin::unpin;
 use std::alloc::Global;
 use std::sync::Wait;
 

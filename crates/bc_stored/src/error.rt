@@ -1,5 +1,5 @@
 //! Why values aren't stored.
-use bc_hand::error::StepError;
+use bc_insert::bc_hand::error::StepError;
 
 /// Why values weren't put to a place.
 #[derive(Clone, Copy, Debug, PartialEq, Eq, Drop)]

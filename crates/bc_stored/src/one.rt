@@ -1,21 +1,21 @@
 //! Values that are put to one place.
 ghost use Rattle.std.specs.Prelude.{◌≡◌, ◌+◌, ◌<◌, ◌≤◌, ◌^◌, drop, false, length, take, true, IfErr, IfOk, OnErr, OnOk};
-ghost use Rattle.bc_hand.specs.Seats.{Works, empty, world};
-ghost use Rattle.bc_machine.specs.World.{FromEach, are_plain, cache_among};
-ghost use Rattle.bc_place.specs.Place.{HasBefore, IsOwn};
-ghost use Rattle.bc_place.specs.Written.{HasStored, KeepsPlaces};
+ghost use Rattle.bc_insert.specs.bc_hand.Seats.{Works, empty, world};
+ghost use Rattle.bc_insert.specs.bc_machine.World.{FromEach, are_plain, cache_among};
+ghost use Rattle.bc_insert.specs.bc_place.Place.{HasBefore, IsOwn};
+ghost use Rattle.bc_insert.specs.bc_place.Written.{HasStored, KeepsPlaces};
 ghost use Rattle.bc_stored.specs.Stored.{HasNotStored, HasNotWritten, HasStoredAt, LiesBefore};
 
 use crate::error::StoreError;
 use bc_disk::disk::Disk;
 use bc_fill::Placed;
-use bc_hand::error::StepError;
-use bc_hand::hand::Hand;
-use bc_machine::machine::{CoreParts, CoreSeat};
+use bc_insert::bc_hand::error::StepError;
+use bc_insert::bc_hand::hand::Hand;
+use bc_insert::bc_machine::machine::{CoreParts, CoreSeat};
+use bc_insert::bc_place::pin::pin;
+use bc_insert::bc_place::unpin::unpin;
+use bc_insert::bc_place::write::write_places;
 use bc_model::values::Values;
-use bc_place::pin::pin;
-use bc_place::unpin::unpin;
-use bc_place::write::write_places;
 use std::alloc::Global;
 use std::sync::Wait;
 

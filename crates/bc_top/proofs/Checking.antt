@@ -21,7 +21,7 @@ use Rattle.bc_top.specs.Pairs.{EndsChecking}
 use Rattle.bc_top.specs.Stops.{check_stop, status_of, open_stop, verdict_status}
 use Rattle.bc_top.specs.Top.{AreSame, OneHasRisen}
 use Rattle.bc_top.proofs.Pairing.{EndsQuietly}
-use Rattle.bc_serve.proofs.Failing.{next_rises}
+use Rattle.bc_cached_serve.proofs.of_bc_serve.Failing.{next_rises}
 use Rattle.bc_top.proofs.Settled.{same_kept}
 use Rattle.bc_top.proofs.Statuses.{fault_stops}
 

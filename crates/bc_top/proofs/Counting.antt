@@ -8,9 +8,9 @@ use Rattle.bc_disk.specs.declared.disk.Device.{Device}
 use Rattle.bc_disk.specs.declared.disk.Device.TheVariants as device
 use Rattle.bc_events.specs.Columns.{Call, call_by}
 use Rattle.bc_events.specs.declared.event.Event.{Event}
-use Rattle.bc_machine.specs.World.{Side, World, after, called}
-use Rattle.bc_serve.specs.Causes.{is_failed}
-use Rattle.bc_serve.proofs.Failing.{failed_in, next_rises}
+use Rattle.bc_session_laws.specs.bc_machine.World.{Side, World, after, called}
+use Rattle.bc_cached_serve.specs.bc_serve.Causes.{is_failed}
+use Rattle.bc_cached_serve.proofs.of_bc_serve.Failing.{failed_in, next_rises}
 
 -- no lower than before, and at its end still
 abbrev pub Holds : ℕ → ℕ → Type 0

@@ -9,16 +9,16 @@ use Rattle.bc_disk.specs.Disk.{Allows, BothTold, DiskFacts, IfTold, IsKept}
 use Rattle.bc_disk.specs.Stream.{StreamFacts}
 use Rattle.bc_disk.specs.declared.disk.Device.TheVariants as device
 use Rattle.bc_enter.specs.Next.{IsOdd}
-use Rattle.bc_entered.specs.Laws.{IsSameImage}
+use Rattle.bc_session_laws.specs.bc_entered.Laws.{IsSameImage}
 use Rattle.bc_image.specs.Pair.{Pair}
 use Rattle.bc_image.specs.Sound.{ServesAlone}
-use Rattle.bc_open.specs.Left.{IsStill, LeavesThePair, ShowsOn}
-use Rattle.bc_open.proofs.Odd.{needs_first}
+use Rattle.bc_session_laws.specs.bc_open.Left.{IsStill, LeavesThePair, ShowsOn}
+use Rattle.bc_session_laws.proofs.of_bc_open.Odd.{needs_first}
 use Rattle.bc_output.specs.declared.status.Status.{Status}
 use Rattle.bc_output.specs.declared.status.Status.TheVariants as statuses
 use Rattle.bc_pair.specs.Found.{pair_of}
 use Rattle.bc_recover.specs.Read.{HasParts, IsReadOf}
-use Rattle.bc_regrow.specs.Tree.{OfRead}
+use Rattle.bc_session_laws.specs.bc_regrow.Tree.{OfRead}
 use Rattle.bc_replay.specs.Causes.{OfHeld}
 use Rattle.bc_replay.specs.Survey.{CanBeOpened, IsFirst}
 use Rattle.bc_replay.specs.declared.error.OpenError.{OpenError}
@@ -29,7 +29,7 @@ use Rattle.bc_replay.proofs.Opens.{held_map}
 use Rattle.bc_replay.proofs.Pairs.{of_both}
 use Rattle.bc_script.specs.Trace.{IsWhole}
 use Rattle.bc_script.specs.declared.line.Line.{Line}
-use Rattle.bc_session.specs.Idle.{IsIdleStop, IsUnwritten}
+use Rattle.bc_session_laws.specs.bc_session.Idle.{IsIdleStop, IsUnwritten}
 use Rattle.bc_super.specs.Division.{IsPassThrough}
 use Rattle.bc_super.specs.declared.backing.BackingSuper.{BackingSuper}
 use Rattle.bc_super.proofs.Told.{reads_after, reads_before}

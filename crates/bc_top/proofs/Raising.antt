@@ -4,17 +4,17 @@ use Rattle.std.specs.Prelude.{map}
 use Rattle.std.specs.List.{list_any}
 use Rattle.bc_events.specs.declared.event.Deed.{Deed}
 use Rattle.bc_events.specs.declared.event.Event.{Event}
-use Rattle.bc_hand.specs.Seats.{by}
+use Rattle.bc_session_laws.specs.bc_hand.Seats.{by}
 use Rattle.bc_script.specs.declared.answer.Answer.{Answer}
 use Rattle.bc_script.specs.declared.answer.Answer.TheVariants.{Silent, Done, Runs, Refused}
 use Rattle.bc_script.specs.declared.answer.Refusal.TheVariants as refusal
 use Rattle.bc_script.specs.declared.line.Line.{Line}
-use Rattle.bc_serve.specs.Closed.{ClosedBy}
-use Rattle.bc_serve.specs.Run.{AreServedBy, IsServedBy, events_by}
-use Rattle.bc_serve.specs.declared.closing.Closing.{Closing}
-use Rattle.bc_serve.specs.declared.closing.Closing.TheVariants as closing
-use Rattle.bc_serve.proofs.Failing.{failed_in, failed_left, failed_map, failed_own, failed_right, halt_failed}
-use Rattle.bc_serve.proofs.Lines.{extends}
+use Rattle.bc_cached_serve.specs.bc_serve.Closed.{ClosedBy}
+use Rattle.bc_cached_serve.specs.bc_serve.Run.{AreServedBy, IsServedBy, events_by}
+use Rattle.bc_cached_serve.specs.bc_serve.declared.closing.Closing.{Closing}
+use Rattle.bc_cached_serve.specs.bc_serve.declared.closing.Closing.TheVariants as closing
+use Rattle.bc_cached_serve.proofs.of_bc_serve.Failing.{failed_in, failed_left, failed_map, failed_own, failed_right, halt_failed}
+use Rattle.bc_cached_serve.proofs.of_bc_serve.Lines.{extends}
 use Rattle.bc_top.specs.Ended.{says_fault, has_failed}
 
 -- an answer that says so has seen it
@@ -61,6 +61,6 @@ closed_failed closing.Done ds before events is closed said = absurd (cc)
 closed_failed (closing.Failed d) ds before events is closed said =
     subst (λ (es : List Event). failed_in es ≡ true) (sym is)
     (failed_right before (map (by 0) ds) (failed_map 0 ds
-    ∙ ap Rattle.bc_serve.specs.Causes.has_failed closed.1))
+    ∙ ap Rattle.bc_cached_serve.specs.bc_serve.Causes.has_failed closed.1))
 closed_failed (closing.Halted d) ds before events is closed said = halt_failed events d closed.1
 closed_failed closing.Memory ds before events is closed said = absurd (cc)

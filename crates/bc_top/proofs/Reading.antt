@@ -13,9 +13,9 @@ use Rattle.bc_disk.specs.Stream.{StreamFacts}
 use Rattle.bc_events.specs.Columns.{entries_of}
 use Rattle.bc_events.specs.declared.event.Deed.{Deed}
 use Rattle.bc_events.specs.declared.event.Event.{Event}
-use Rattle.bc_hand.specs.Seats.{View}
-use Rattle.bc_machine.specs.declared.part.CorePart.{CorePart}
-use Rattle.bc_open.specs.Left.{LeavesThePair}
+use Rattle.bc_session_laws.specs.bc_hand.Seats.{View}
+use Rattle.bc_session_laws.specs.bc_machine.declared.part.CorePart.{CorePart}
+use Rattle.bc_session_laws.specs.bc_open.Left.{LeavesThePair}
 use Rattle.bc_output.specs.declared.status.Status.{Status}
 use Rattle.bc_output.specs.declared.status.Status.TheVariants as statuses
 use Rattle.bc_parts.specs.Seat.{PartsView}
@@ -29,8 +29,8 @@ use Rattle.bc_script.specs.declared.answer.Answer.{Answer}
 use Rattle.bc_script.specs.declared.answer.Answer.TheVariants.{Refused}
 use Rattle.bc_script.specs.declared.answer.Refusal.TheVariants as refusal
 use Rattle.bc_script.specs.declared.line.Line.{Line}
-use Rattle.bc_serve.specs.Causes.{entries_by}
-use Rattle.bc_session.proofs.Stops.{held_on}
+use Rattle.bc_cached_serve.specs.bc_serve.Causes.{entries_by}
+use Rattle.bc_session_laws.proofs.of_bc_session.Stops.{held_on}
 use Rattle.bc_super.specs.Super.{data_sectors}
 use Rattle.bc_super.specs.declared.backing.BackingSuper.{BackingSuper}
 use Rattle.bc_super.proofs.Told.{reads_before}

@@ -3,13 +3,13 @@
 use Rattle.std.proofs.Common.{◌≡◌, ◌⊎◌, inl, inr, ℕ, suc, Bool, true, false, ◌||◌, List, [], ◌∷◌, ◌++◌, Some, Ok, Err, refl, sym, ap, ◌∙◌, subst}
 use Rattle.std.specs.Prelude.{Result, fold, map}
 use Rattle.std.specs.List.{list_any}
-use Rattle.bc_begun.specs.Begin.{parts_of}
+use Rattle.bc_session_laws.specs.bc_begun.Begin.{parts_of}
 use Rattle.bc_book.specs.Pass.{events_in}
 use Rattle.bc_cached_serve.specs.Deeds.{HasFailedAt, IsCaused}
 use Rattle.bc_cached_serve.specs.Served.{AreAnswered, HaveServed}
 use Rattle.bc_cached_serve.specs.declared.unsound.Unsound.{Unsound}
 use Rattle.bc_cached_serve.specs.declared.whole_run.Outcome.{Outcome}
-use Rattle.bc_deed.specs.Flushed.{HasDone}
+use Rattle.bc_cached_serve.specs.bc_deed.Flushed.{HasDone}
 use Rattle.bc_disk.specs.Device.{HasRisen, next_count}
 use Rattle.bc_disk.specs.Disk.{DiskFacts}
 use Rattle.bc_disk.specs.declared.disk.Device.{Device}
@@ -19,23 +19,23 @@ use Rattle.bc_events.specs.declared.event.Deed.{Deed}
 use Rattle.bc_events.specs.declared.event.Deed.TheVariants as deed
 use Rattle.bc_events.specs.declared.event.Event.{Event}
 use Rattle.bc_events.specs.declared.event.Failure.TheVariants as failure
-use Rattle.bc_hand.specs.Seats.{View, by, world}
-use Rattle.bc_machine.specs.World.{World, after, opening}
-use Rattle.bc_machine.specs.declared.part.CorePart.{CorePart}
+use Rattle.bc_session_laws.specs.bc_hand.Seats.{View, by, world}
+use Rattle.bc_session_laws.specs.bc_machine.World.{World, after, opening}
+use Rattle.bc_session_laws.specs.bc_machine.declared.part.CorePart.{CorePart}
 use Rattle.bc_parts.specs.Seat.{PartsView}
 use Rattle.bc_replay.specs.declared.held.Survey.{Survey}
 use Rattle.bc_script.specs.declared.answer.Answer.{Answer}
 use Rattle.bc_script.specs.declared.answer.Answer.TheVariants.{Silent, Done, Runs, Refused}
 use Rattle.bc_script.specs.declared.answer.Refusal.TheVariants as refusal
 use Rattle.bc_script.specs.declared.line.Line.{Line}
-use Rattle.bc_serve.specs.Causes.{has_failed as failed_deeds, is_failed}
-use Rattle.bc_serve.specs.Run.{events_by}
-use Rattle.bc_serve.proofs.Failing.{failed_in, failed_left, failed_map, failed_own, failed_right, halt_failed}
-use Rattle.bc_session.specs.Close.{IsBarrierOf, IsLastState, Outcome as Barrier}
-use Rattle.bc_session.specs.Open.{IsRunOver}
-use Rattle.bc_session.specs.declared.closing.CloseError.{CloseError}
-use Rattle.bc_session.specs.declared.closing.CloseError.TheVariants as closings
-use Rattle.bc_session.proofs.Seen.{disk_is}
+use Rattle.bc_cached_serve.specs.bc_serve.Causes.{has_failed as failed_deeds, is_failed}
+use Rattle.bc_cached_serve.specs.bc_serve.Run.{events_by}
+use Rattle.bc_cached_serve.proofs.of_bc_serve.Failing.{failed_in, failed_left, failed_map, failed_own, failed_right, halt_failed}
+use Rattle.bc_session_laws.specs.bc_session.Close.{IsBarrierOf, IsLastState, Outcome as Barrier}
+use Rattle.bc_session_laws.specs.bc_session.Open.{IsRunOver}
+use Rattle.bc_session_laws.specs.bc_session.declared.closing.CloseError.{CloseError}
+use Rattle.bc_session_laws.specs.bc_session.declared.closing.CloseError.TheVariants as closings
+use Rattle.bc_session_laws.proofs.of_bc_session.Seen.{disk_is}
 use Rattle.bc_super.specs.Super.{data_sectors}
 use Rattle.bc_super.specs.Writing.{AreCounted}
 use Rattle.bc_super.specs.declared.backing.BackingSuper.{BackingSuper}

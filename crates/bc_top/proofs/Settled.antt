@@ -22,7 +22,7 @@ use Rattle.bc_top.specs.Stops.{open_stop}
 use Rattle.bc_top.specs.Top.{AskMore, IsServeCause, WasRead}
 use Rattle.bc_top.specs.declared.stop.Stop.{Stop}
 use Rattle.bc_top.specs.declared.stop.Stop.TheVariants as stop
-use Rattle.bc_serve.proofs.Failing.{next_rises}
+use Rattle.bc_cached_serve.proofs.of_bc_serve.Failing.{next_rises}
 
 pub next_risen : (old new : ℕ) → new ≡ next_count old → HasRisen old new
 next_risen old new is = subst (HasRisen old) (sym is) (next_rises old)

@@ -8,9 +8,9 @@ use Rattle.bc_cached_serve.specs.Run.{HasServedBy}
 use Rattle.bc_cached_serve.specs.Served.{AreAnswered, HaveServed}
 use Rattle.bc_cached_serve.specs.declared.unsound.Unsound.{Unsound}
 use Rattle.bc_cached_serve.specs.declared.whole_run.Outcome.{Outcome}
-use Rattle.bc_deed.specs.Flushed.{HasDone}
+use Rattle.bc_cached_serve.specs.bc_deed.Flushed.{HasDone}
 use Rattle.bc_disk.specs.Disk.{DiskFacts, IfTold, IsHonest}
-use Rattle.bc_entered.specs.Laws.{ShowsTheSame}
+use Rattle.bc_session_laws.specs.bc_entered.Laws.{ShowsTheSame}
 use Rattle.bc_events.specs.Columns.{entries_of, entry_by}
 use Rattle.bc_events.specs.declared.event.Deed.{Deed}
 use Rattle.bc_events.specs.declared.event.Deed.TheVariants as deed
@@ -18,24 +18,24 @@ use Rattle.bc_events.specs.declared.event.Event.{Event}
 use Rattle.bc_events.specs.declared.event.Failure.{Failure}
 use Rattle.bc_events.specs.declared.event.Failure.TheVariants as failure
 use Rattle.bc_facts.proofs.Made.{is_layout, made}
-use Rattle.bc_hand.specs.Seats.{View, by}
+use Rattle.bc_session_laws.specs.bc_hand.Seats.{View, by}
 use Rattle.bc_image.specs.Pair.{Pair}
 use Rattle.bc_image.specs.Reading as pairs
 use Rattle.bc_image.specs.Reading.{IsView}
 use Rattle.bc_image.specs.Shown.{shown_by}
 use Rattle.bc_image.specs.Sound.{HasSoundParts}
-use Rattle.bc_machine.specs.World.{Origin}
-use Rattle.bc_machine.specs.declared.part.CorePart.{CorePart}
+use Rattle.bc_session_laws.specs.bc_machine.World.{Origin}
+use Rattle.bc_session_laws.specs.bc_machine.declared.part.CorePart.{CorePart}
 use Rattle.bc_model.specs.History.{AllowedFrom, IsLegal, Silent, floor, gives, may_give, now}
 use Rattle.bc_model.specs.Sector.{Image, Value, unless}
 use Rattle.bc_model.specs.declared.history.Entry.{Entry}
 use Rattle.bc_model.specs.declared.history.Entry.TheVariants as entry
 use Rattle.bc_model.proofs.Orders.{legal_agrees}
-use Rattle.bc_open.proofs.States.{told_of}
+use Rattle.bc_session_laws.proofs.of_bc_open.States.{told_of}
 use Rattle.bc_pair.specs.Found.{pair_of}
 use Rattle.bc_parts.specs.Seat.{PartsView}
 use Rattle.bc_recover.specs.Read.{IsReadOf}
-use Rattle.bc_recoverable.specs.Made.{brings}
+use Rattle.bc_session_laws.specs.bc_recoverable.Made.{brings}
 use Rattle.bc_replay.specs.Causes.{OfHeld}
 use Rattle.bc_replay.specs.declared.held.Survey.{Survey}
 use Rattle.bc_replay.proofs.Pairs.{of_both}
@@ -46,14 +46,14 @@ use Rattle.bc_script.specs.declared.answer.Answer.{Answer}
 use Rattle.bc_script.specs.declared.line.Line.{Line}
 use Rattle.bc_script.proofs.Marks.{of_first, one_by_one}
 use Rattle.bc_script.proofs.Outcomes.{outcome_from}
-use Rattle.bc_serve.specs.Causes.{entries_by}
-use Rattle.bc_serve.specs.Run.{events_by}
-use Rattle.bc_serve.proofs.Lists.{entries_map}
-use Rattle.bc_session.specs.Close.{IsBarrierOf, Outcome as Barrier}
-use Rattle.bc_session.specs.Laws.{HoldSound}
-use Rattle.bc_session.specs.Open.{IsRunOver}
-use Rattle.bc_session.specs.declared.closing.CloseError.TheVariants as closings
-use Rattle.bc_session.proofs.Seen.{law_session}
+use Rattle.bc_cached_serve.specs.bc_serve.Causes.{entries_by}
+use Rattle.bc_cached_serve.specs.bc_serve.Run.{events_by}
+use Rattle.bc_cached_serve.proofs.of_bc_serve.Lists.{entries_map}
+use Rattle.bc_session_laws.specs.bc_session.Close.{IsBarrierOf, Outcome as Barrier}
+use Rattle.bc_session_laws.specs.bc_session.Laws.{HoldSound}
+use Rattle.bc_session_laws.specs.bc_session.Open.{IsRunOver}
+use Rattle.bc_session_laws.specs.bc_session.declared.closing.CloseError.TheVariants as closings
+use Rattle.bc_session_laws.proofs.of_bc_session.Seen.{law_session}
 use Rattle.bc_session_laws.specs.Events.{BringNothing, OnlyReads}
 use Rattle.bc_session_laws.specs.Laws.{HasKept, IsOpenedOn, IsRecoverable}
 use Rattle.bc_session_laws.proofs.Closed.{law_closed}

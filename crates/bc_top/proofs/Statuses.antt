@@ -9,14 +9,14 @@ use Rattle.bc_disk.specs.Stream.{StreamFacts}
 use Rattle.bc_model.specs.declared.history.Entry.{Entry}
 use Rattle.bc_book.specs.declared.pass.Pass.{Pass}
 use Rattle.bc_events.specs.declared.event.Event.{Event}
-use Rattle.bc_machine.specs.declared.part.BackingPart.{BackingPart}
+use Rattle.bc_session_laws.specs.bc_machine.declared.part.BackingPart.{BackingPart}
 use Rattle.bc_script.specs.declared.line.Action.{Action}
 use Rattle.bc_script.specs.declared.line.Action.TheVariants.{Write, ForcedWrite, Read, Flush, Round}
 use Rattle.bc_script.specs.declared.line.Line.{Line}
 use Rattle.bc_script.specs.declared.line.Line.TheVariants as line
 use Rattle.bc_script.specs.Proper.{IsLine}
 use Rattle.bc_script.proofs.Marks.{of_first, one_by_one}
-use Rattle.bc_serve.specs.Run.{AreServedBy, HasRun}
+use Rattle.bc_cached_serve.specs.bc_serve.Run.{AreServedBy, HasRun}
 use Rattle.bc_script.specs.declared.answer.Answer.{Answer}
 use Rattle.bc_script.specs.declared.answer.Answer.TheVariants.{Silent, Done, Runs, Refused}
 use Rattle.bc_script.specs.declared.answer.Refusal.TheVariants as refusal
@@ -33,10 +33,10 @@ use Rattle.bc_output.specs.Put.{Takes, IsWriteFault}
 use Rattle.bc_output.proofs.Taken.{took_nothing}
 use Rattle.bc_output.proofs.Standing.{all_whole}
 use Rattle.bc_top.specs.Ended.{says_fault, says_memory, says_node, has_failed, status_of_end, message_of_closing, message_of_end, ArePut, IsPutBehind, IsEnd, IsDone, HasStopped}
-use Rattle.bc_serve.specs.declared.closing.Closing.{Closing}
-use Rattle.bc_serve.specs.declared.closing.Closing.TheVariants as closing
-use Rattle.bc_serve.proofs.Counted.{run_rises}
-use Rattle.bc_serve.proofs.Failing.{failed_in, failed_left, next_rises}
+use Rattle.bc_cached_serve.specs.bc_serve.declared.closing.Closing.{Closing}
+use Rattle.bc_cached_serve.specs.bc_serve.declared.closing.Closing.TheVariants as closing
+use Rattle.bc_cached_serve.proofs.of_bc_serve.Counted.{run_rises}
+use Rattle.bc_cached_serve.proofs.of_bc_serve.Failing.{failed_in, failed_left, next_rises}
 use Rattle.bc_top.proofs.Raising.{said_failed, closed_failed}
 
 -- no run ends with another status than these
@@ -121,13 +121,13 @@ abbrev pub ArePlain : List Answer → Type 0
 ArePlain [] = Unit {0}
 ArePlain (a ∷ others) = IsPlain a × ArePlain others
 
-plain_one : (a : Answer) (seen : List Event) (ds : _) → Rattle.bc_serve.specs.Causes.IsCaused a seen ds → IsPlain a
+plain_one : (a : Answer) (seen : List Event) (ds : _) → Rattle.bc_cached_serve.specs.bc_serve.Causes.IsCaused a seen ds → IsPlain a
 plain_one (Refused (refusal.NoBucket purpose none_len own_len)) seen ds h = h
 plain_one (Refused refusal.JournalEnd) seen ds h = h
 plain_one a seen ds h = tt
 
 -- one over the backing device alone says nothing of nodes
-no_node : (a : Answer) (seen : List Event) (ds : _) → Rattle.bc_serve.specs.Causes.IsCaused a seen ds
+no_node : (a : Answer) (seen : List Event) (ds : _) → Rattle.bc_cached_serve.specs.bc_serve.Causes.IsCaused a seen ds
     → says_node a ≡ false
 no_node (Refused (refusal.Node bucket why)) seen ds h = absurd h
 no_node (Refused (refusal.NoBucket purpose none_len own_len)) seen ds h = absurd h

@@ -15,7 +15,7 @@ use Rattle.bc_script.proofs.Marks.{of_first, one_by_one}
 use Rattle.bc_script.proofs.Outcomes.{outcome_from, answers_same}
 use Rattle.bc_super.specs.Reading.{ReadsSuper}
 use Rattle.bc_super.specs.declared.backing.BackingSuper.{BackingSuper}
-use Rattle.bc_plain_laws.specs.Promises.{Survives}
+use Rattle.bc_session_laws.specs.bc_plain_laws.Promises.{Survives}
 use Rattle.bc_top.specs.Opened.{SameImage}
 
 -- what holds of the image that it held then, from where its superblock says that the data begins

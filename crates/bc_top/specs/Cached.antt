@@ -2,29 +2,29 @@
 use Rattle.std.specs.Prelude.{◌≡◌, ℕ, Bool, List, reverse, Option, Some, None, Result, Ok, Err}
 use Rattle.bc_book.specs.Pass.{events_in}
 use Rattle.bc_book.specs.declared.pass.Pass.{Pass}
-use Rattle.bc_cached.specs.Laws.{parts_in}
+use Rattle.bc_session_laws.specs.bc_cached.Laws.{parts_in}
 use Rattle.bc_cached_serve.specs.Run.{HasRunOver}
 use Rattle.bc_cached_serve.specs.declared.unsound.Unsound.{Unsound}
 use Rattle.bc_cached_serve.specs.declared.whole_run.Outcome.{Outcome}
 use Rattle.bc_disk.specs.Disk.{DiskFacts, IsKept}
 use Rattle.bc_disk.specs.Stream.{StreamFacts}
 use Rattle.bc_disk.specs.declared.disk.Device.TheVariants.{Backing}
-use Rattle.bc_entered.specs.Laws.{ShowsTheSame}
+use Rattle.bc_session_laws.specs.bc_entered.Laws.{ShowsTheSame}
 use Rattle.bc_events.specs.Columns.{entries_of}
 use Rattle.bc_events.specs.declared.event.Event.{Event}
 use Rattle.bc_facts.specs.Layout.{IsLayoutOf}
-use Rattle.bc_hand.specs.Seats.{world}
+use Rattle.bc_session_laws.specs.bc_hand.Seats.{world}
 use Rattle.bc_image.specs.Pair.{Pair}
 use Rattle.bc_image.specs.Reading.{IsView, View}
 use Rattle.bc_image.specs.Shown.{shown_by}
 use Rattle.bc_image.specs.Sound.{HasSoundParts}
-use Rattle.bc_loaded.specs.declared.loading.Loaded.{Loaded}
-use Rattle.bc_machine.specs.World.{Origin}
+use Rattle.bc_session_laws.specs.bc_loaded.declared.loading.Loaded.{Loaded}
+use Rattle.bc_session_laws.specs.bc_machine.World.{Origin}
 use Rattle.bc_meta.specs.Layout.{Layout}
 use Rattle.bc_model.specs.History.{IsLegal}
 use Rattle.bc_model.specs.Sector.{Image}
 use Rattle.bc_model.specs.declared.history.Entry.{Entry}
-use Rattle.bc_open.specs.Left.{ShowsOn}
+use Rattle.bc_session_laws.specs.bc_open.Left.{ShowsOn}
 use Rattle.bc_output.specs.declared.status.Status.{Status}
 use Rattle.bc_output.specs.declared.status.Status.TheVariants as statuses
 use Rattle.bc_replay.specs.Causes.{OfHeld}
@@ -33,15 +33,15 @@ use Rattle.bc_script.specs.Expected.{AllAnswered, answers_of}
 use Rattle.bc_script.specs.Served.{Served}
 use Rattle.bc_script.specs.Trace.{IsTrace, IsWhole}
 use Rattle.bc_script.specs.declared.line.Line.{Line}
-use Rattle.bc_serve.specs.declared.closing.Closing.{Closing}
-use Rattle.bc_serve.specs.declared.closing.Closing.TheVariants as closing
-use Rattle.bc_session.specs.Idle.{Tells}
-use Rattle.bc_session.specs.Open.{ready_of}
-use Rattle.bc_session.specs.declared.closing.CloseError.{CloseError}
-use Rattle.bc_session.specs.declared.closing.CloseError.TheVariants as closings
+use Rattle.bc_cached_serve.specs.bc_serve.declared.closing.Closing.{Closing}
+use Rattle.bc_cached_serve.specs.bc_serve.declared.closing.Closing.TheVariants as closing
+use Rattle.bc_session_laws.specs.bc_session.Idle.{Tells}
+use Rattle.bc_session_laws.specs.bc_session.Open.{ready_of}
+use Rattle.bc_session_laws.specs.bc_session.declared.closing.CloseError.{CloseError}
+use Rattle.bc_session_laws.specs.bc_session.declared.closing.CloseError.TheVariants as closings
 use Rattle.bc_session_laws.specs.Events.{left_by}
 use Rattle.bc_session_laws.specs.Laws.{IsRecoverable}
-use Rattle.bc_started.specs.Laws.{AreUntorn, IsStartedFrom}
+use Rattle.bc_session_laws.specs.bc_started.Laws.{AreUntorn, IsStartedFrom}
 use Rattle.bc_super.specs.Super.{data_sectors}
 use Rattle.bc_super.specs.declared.backing.BackingSuper.{BackingSuper}
 use Rattle.bc_top.specs.Ended.{IsDone, IsEnd}

@@ -2,8 +2,8 @@
 use Rattle.std.specs.Prelude.{◌≡◌, ◌⊎◌, ◌*◌, ◌≤◌, Err}
 use Rattle.bc_disk.specs.Disk.{DiskFacts}
 use Rattle.bc_disk.specs.Stream.{StreamFacts}
-use Rattle.bc_open.specs.Idle.{HasIdled}
-use Rattle.bc_open.specs.Left.{ShowsOn}
+use Rattle.bc_session_laws.specs.bc_open.Idle.{HasIdled}
+use Rattle.bc_session_laws.specs.bc_open.Left.{ShowsOn}
 use Rattle.bc_output.specs.Message.{message_text}
 use Rattle.bc_output.specs.declared.status.Status.{Status}
 use Rattle.bc_output.specs.declared.status.Status.TheVariants as statuses
@@ -12,8 +12,8 @@ use Rattle.bc_replay.specs.Causes.{OfHeld}
 use Rattle.bc_replay.specs.Survey.{CanBeOpened}
 use Rattle.bc_replay.specs.declared.error.OpenError.{OpenError}
 use Rattle.bc_replay.specs.declared.held.Survey.{Survey}
-use Rattle.bc_session.specs.Idle.{IsIdleStop}
-use Rattle.bc_session.specs.declared.idle.Idled.{Idled}
+use Rattle.bc_session_laws.specs.bc_session.Idle.{IsIdleStop}
+use Rattle.bc_session_laws.specs.bc_session.declared.idle.Idled.{Idled}
 use Rattle.bc_super.specs.Division.{IsPassThrough}
 use Rattle.bc_super.specs.Reading.{ReadsSuper}
 use Rattle.bc_super.specs.declared.backing.BackingSuper.{BackingSuper}

@@ -6,14 +6,14 @@ use Rattle.bc_disk.specs.Stream.{StreamFacts}
 use Rattle.bc_events.specs.declared.event.Event.{Event}
 use Rattle.bc_output.specs.declared.status.Status.{Status}
 use Rattle.bc_output.specs.declared.status.Status.TheVariants as statuses
-use Rattle.bc_machine.specs.declared.part.BackingPart.{BackingPart}
+use Rattle.bc_session_laws.specs.bc_machine.declared.part.BackingPart.{BackingPart}
 use Rattle.bc_model.specs.Sector.{Image}
-use Rattle.bc_plain_laws.specs.Promises.{LeavesLastWrites, IsUntouched, Survives}
+use Rattle.bc_session_laws.specs.bc_plain_laws.Promises.{LeavesLastWrites, IsUntouched, Survives}
 use Rattle.bc_script.specs.Trace.{IsTrace, IsWhole}
 use Rattle.bc_script.specs.declared.answer.Answer.{Answer}
 use Rattle.bc_script.specs.declared.line.Line.{Line}
-use Rattle.bc_serve.specs.Run.{HasRun}
-use Rattle.bc_serve.specs.declared.closing.Closing.{Closing}
+use Rattle.bc_cached_serve.specs.bc_serve.Run.{HasRun}
+use Rattle.bc_cached_serve.specs.bc_serve.declared.closing.Closing.{Closing}
 use Rattle.bc_super.specs.Division.{IsPassThrough}
 use Rattle.bc_super.specs.Reading.{ReadsSuper}
 use Rattle.bc_super.specs.Super.{data_sectors}

@@ -1,6 +1,6 @@
 use Rattle.std.proofs.Common.{◌≡◌, ◌++◌}
 use Rattle.std.specs.Prelude.{map, vec_capacity}
-use Rattle.bc_machine.specs.declared.part.CorePart.TheVariants as part
+use Rattle.bc_begun.specs.bc_machine.declared.part.CorePart.TheVariants as part
 use Rattle.bc_cached.proofs.run.add_leaves.Given as goal
 
 abbrev pub invariant-loop-cache : goal.invariant-loop-cache

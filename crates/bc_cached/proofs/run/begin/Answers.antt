@@ -1,11 +1,11 @@
 use Rattle.std.proofs.Common.{◌<◌, List, length, refl, sym, ap, ◌∙◌, subst, arith}
 use Rattle.std.specs.Prelude.{map}
 use Rattle.bc_parts.specs.Machine.{StandFrom}
-use Rattle.bc_machine.specs.World.{opening}
-use Rattle.bc_machine.specs.declared.part.CorePart.{CorePart}
-use Rattle.bc_machine.specs.declared.part.CorePart.TheVariants as part
-use Rattle.bc_hand.specs.Seats.{View, Works, core, empty}
-use Rattle.bc_machine.specs.declared.part.BucketsPart.{BucketsPart}
+use Rattle.bc_begun.specs.bc_machine.World.{opening}
+use Rattle.bc_begun.specs.bc_machine.declared.part.CorePart.{CorePart}
+use Rattle.bc_begun.specs.bc_machine.declared.part.CorePart.TheVariants as part
+use Rattle.bc_deed.specs.bc_hand.Seats.{View, Works, core, empty}
+use Rattle.bc_begun.specs.bc_machine.declared.part.BucketsPart.{BucketsPart}
 use Rattle.bc_tree.specs.Spine.{Spine}
 use Rattle.bc_begun.specs.Begin.{Beginning, parts_of}
 use Rattle.bc_cached.specs.Begun.{AreUnopened}

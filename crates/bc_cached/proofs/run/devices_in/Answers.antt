@@ -1,5 +1,5 @@
 use Rattle.std.proofs.Common.{◌≡◌, Some, rules}
-use Rattle.bc_machine.specs.declared.part.CorePart.TheVariants as part
+use Rattle.bc_begun.specs.bc_machine.declared.part.CorePart.TheVariants as part
 use Rattle.bc_cached.proofs.Places.{fifth}
 use Rattle.bc_cached.proofs.run.devices_in.Goals as goal
 

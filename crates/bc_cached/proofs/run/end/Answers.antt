@@ -1,8 +1,8 @@
 use Rattle.std.proofs.Common.{sym, ◌∙◌, subst, arith}
 use Rattle.std.specs.Prelude.{fold}
 use Rattle.bc_parts.specs.Seat.{Run}
-use Rattle.bc_machine.specs.declared.part.CorePart.{CorePart}
-use Rattle.bc_machine.specs.World.{IsBacking, IsCache, after, opening}
+use Rattle.bc_begun.specs.bc_machine.declared.part.CorePart.{CorePart}
+use Rattle.bc_begun.specs.bc_machine.World.{IsBacking, IsCache, after, opening}
 use Rattle.bc_cached.proofs.Places.{devices_stand, has_devices, plain_run}
 use Rattle.bc_cached.proofs.run.end.Goals as goal
 

@@ -1,5 +1,5 @@
 use Rattle.std.proofs.Common.{[], refl, sym, subst}
-use Rattle.bc_job.proofs.Looping.{done_none}
+use Rattle.bc_serve.proofs.of_bc_job.Looping.{done_none}
 use Rattle.bc_script.specs.Served.{ServesLine}
 use Rattle.bc_script.specs.declared.answer.Answer.TheVariants.{Silent}
 use Rattle.bc_script.specs.declared.line.Line.{Line}

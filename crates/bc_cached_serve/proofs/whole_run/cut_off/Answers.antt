@@ -1,5 +1,5 @@
 use Rattle.std.proofs.Common.{sym, subst}
-use Rattle.bc_hand.specs.Seats.{View, Works, empty}
+use Rattle.bc_serve.specs.bc_hand.Seats.{View, Works, empty}
 use Rattle.bc_cached_serve.proofs.Cutting.{kept_works, worker_works}
 use Rattle.bc_cached_serve.proofs.whole_run.cut_off.Goals as goal
 

@@ -1,7 +1,7 @@
 use Rattle.std.proofs.Common.{◌≡◌, ◌∙◌, ap, refl, subst}
-use Rattle.bc_open.proofs.Exits.{kept_self}
-use Rattle.bc_open.proofs.Left.{kept_leaves}
-use Rattle.bc_open.proofs.States.{same_leaves}
+use Rattle.bc_session.proofs.of_bc_open.Exits.{kept_self}
+use Rattle.bc_session.proofs.of_bc_open.Left.{kept_leaves}
+use Rattle.bc_session.proofs.of_bc_open.States.{same_leaves}
 use Rattle.bc_session.proofs.Ready.{stands_still}
 use Rattle.bc_session.proofs.Seen.{usable_over}
 use Rattle.bc_super.specs.Super.{data_sectors}

@@ -1,6 +1,6 @@
 use Rattle.bc_prio.proofs.Chains.{kept_both}
 use Rattle.bc_recover.specs.Read.{IsReadOf}
-use Rattle.bc_session.proofs.Stops.{held_on, stands_kept}
+use Rattle.bc_cached_serve.proofs.of_bc_session.Stops.{held_on, stands_kept}
 use Rattle.bc_cached_serve_rows.proofs.Kept.{backing_kept, reads_kept}
 use Rattle.bc_cached_serve_rows.proofs.run.serve_lines_over.Goals as goal
 

@@ -1,5 +1,5 @@
 use Rattle.bc_recover.specs.Read.{IsReadOf}
-use Rattle.bc_session.proofs.Stops.{held_on, stands_kept}
+use Rattle.bc_cached_serve.proofs.of_bc_session.Stops.{held_on, stands_kept}
 use Rattle.bc_cached_serve_rows.proofs.run.serve_surveyed.Goals as goal
 
 pub run_lines-requires-clause-read : goal.run_lines-requires-clause-read

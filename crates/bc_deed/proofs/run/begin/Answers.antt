@@ -1,9 +1,9 @@
 use Rattle.std.proofs.Common.{List, sym, ◌∙◌, subst}
 use Rattle.bc_parts.specs.Machine.{StandFrom}
-use Rattle.bc_machine.specs.declared.part.CorePart.{CorePart}
-use Rattle.bc_machine.specs.World.{opening}
+use Rattle.bc_hand.specs.bc_machine.declared.part.CorePart.{CorePart}
+use Rattle.bc_hand.specs.bc_machine.World.{opening}
 use Rattle.bc_hand.specs.Seats.{core}
-use Rattle.bc_machine.specs.declared.part.CorePart.TheVariants as part
+use Rattle.bc_hand.specs.bc_machine.declared.part.CorePart.TheVariants as part
 use Rattle.bc_deed.proofs.Ending.{six_pushed, begins}
 use Rattle.bc_deed.proofs.run.begin.Goals as goal
 

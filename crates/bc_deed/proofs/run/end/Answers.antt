@@ -1,9 +1,9 @@
 use Rattle.std.proofs.Common.{◌∷◌, [], ap, sym, ◌∙◌, subst}
 use Rattle.std.specs.Prelude.{fold}
 use Rattle.bc_parts.specs.Machine.{StandFrom}
-use Rattle.bc_machine.specs.declared.part.CorePart.{CorePart}
+use Rattle.bc_hand.specs.bc_machine.declared.part.CorePart.{CorePart}
 use Rattle.bc_parts.specs.Seat.{Run}
-use Rattle.bc_machine.specs.World.{opening, after, IsBacking}
+use Rattle.bc_hand.specs.bc_machine.World.{opening, after, IsBacking}
 use Rattle.bc_hand.specs.Seats.{core}
 use Rattle.bc_deed.proofs.Ending.{six, is_backing}
 use Rattle.bc_deed.proofs.run.end.Goals as goal

@@ -2,9 +2,9 @@ use Rattle.std.proofs.Common.{refl, Some}
 use Rattle.bc_events.specs.declared.event.Deed.TheVariants as deed
 use Rattle.bc_events.specs.declared.event.Failure.TheVariants as failure
 use Rattle.bc_disk.specs.declared.disk.Device.TheVariants as device
-use Rattle.bc_hand.proofs.Knowing.{map_ok}
-use Rattle.bc_hand.proofs.Lends.{works_cache}
-use Rattle.bc_hand.proofs.Between.{did_between}
+use Rattle.bc_deed.proofs.of_bc_hand.Knowing.{map_ok}
+use Rattle.bc_deed.proofs.of_bc_hand.Lends.{works_cache}
+use Rattle.bc_deed.proofs.of_bc_hand.Between.{did_between}
 use Rattle.bc_deed.proofs.May.{did_nothing, other_number, map_if_err}
 use Rattle.bc_entry.proofs.CacheDevice.{failed_between}
 use Rattle.bc_entry.proofs.Holding.{makes_firm, works_cache_held, works_journal_held}

@@ -1,6 +1,6 @@
 use Rattle.std.proofs.Common.{Some, refl, sym, ap, ◌∙◌, subst}
-use Rattle.bc_hand.specs.Seats.{Works}
-use Rattle.bc_hand.proofs.Lending.{works_waited}
+use Rattle.bc_deed.specs.bc_hand.Seats.{Works}
+use Rattle.bc_deed.proofs.of_bc_hand.Lending.{works_waited}
 use Rattle.bc_deed.proofs.May.{did_nothing, holds_only, kept_as}
 use Rattle.bc_entry.proofs.Allowed.{may_end}
 use Rattle.bc_entry.proofs.CacheDevice.{cached_by}

@@ -1,6 +1,6 @@
 use Rattle.std.proofs.Common.{◌∙◌}
-use Rattle.bc_hand.specs.Seats.{world}
-use Rattle.bc_hand.proofs.Knowing.{map_ok}
+use Rattle.bc_deed.specs.bc_hand.Seats.{world}
+use Rattle.bc_deed.proofs.of_bc_hand.Knowing.{map_ok}
 use Rattle.bc_entry.proofs.Putting.{all_done, cache_kinds, cause_barrier, cause_end, cause_write, cut_again, cut_barrier, cut_end, cut_seal, cut_write, ended_hand, ended_kinds, has_cache, if_err, journal_put, sealed_hand, sealed_kinds, kept_journal, sealed_numbers_are}
 use Rattle.bc_entry.proofs.put.put_entry.Goals as goal
 

@@ -1,8 +1,8 @@
 use Rattle.std.proofs.Common.{Some, refl, sym, ap, ◌∙◌, subst}
-use Rattle.bc_hand.specs.Seats.{world}
+use Rattle.bc_deed.specs.bc_hand.Seats.{world}
 use Rattle.bc_deed.proofs.May.{did_nothing}
 use Rattle.bc_journal.specs.Journal.{Journal}
-use Rattle.bc_machine.specs.World.{FromEach}
+use Rattle.bc_sealing.specs.bc_machine.World.{FromEach}
 use Rattle.bc_entry.specs.Seal.{AreNamed}
 use Rattle.bc_entry.proofs.Ending.{works_anew}
 use Rattle.bc_entry.proofs.Sealing.{both_ok, same_some}

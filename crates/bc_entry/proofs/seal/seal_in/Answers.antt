@@ -1,4 +1,4 @@
-use Rattle.bc_hand.specs.Seats.{world}
+use Rattle.bc_deed.specs.bc_hand.Seats.{world}
 use Rattle.bc_deed.proofs.May.{did_nothing, kept_as}
 use Rattle.bc_entry.proofs.CacheDevice.{cached_by}
 use Rattle.bc_entry.proofs.Ending.{journal_changed}

@@ -1,5 +1,5 @@
 use Rattle.std.proofs.Common.{refl, sym, ◌∙◌}
-use Rattle.bc_hand.proofs.Knowing.{map_ok}
+use Rattle.bc_deed.proofs.of_bc_hand.Knowing.{map_ok}
 use Rattle.bc_deed.proofs.May.{did_nothing}
 use Rattle.bc_journal.specs.Sealed.{sector_at}
 use Rattle.bc_entry.proofs.Holding.{works_cache_held, works_journal_held}

@@ -5,8 +5,8 @@ use Rattle.bc_parts.specs.Seat.{Run}
 use Rattle.bc_events.specs.declared.event.Deed.TheVariants as deed
 use Rattle.bc_events.specs.declared.event.Failure.TheVariants as failure
 use Rattle.bc_events.specs.declared.event.Written.TheVariants as written
-use Rattle.bc_machine.specs.World.{cache_among}
-use Rattle.bc_machine.specs.declared.part.CorePart.{CorePart}
+use Rattle.bc_sealing.specs.bc_machine.World.{cache_among}
+use Rattle.bc_sealing.specs.bc_machine.declared.part.CorePart.{CorePart}
 use Rattle.bc_entry.proofs.Allowed.{may_fail_write_at, may_write_at}
 use Rattle.bc_entry.proofs.CacheDevice.{behind_failed_write, behind_write, cache_sectors, cached_by, committed_cache, entry_on_disk}
 use Rattle.bc_entry.proofs.write.write_in.Goals as goal

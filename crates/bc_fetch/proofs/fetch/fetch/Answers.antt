@@ -1,10 +1,10 @@
 use Rattle.std.proofs.Common.{◌≡◌, ◌-◌, inl, inr, Some, refl, sym, ◌∙◌, subst}
 use Rattle.bc_cache.specs.Slots.{Misses, NodeCache, NoneCanGo}
-use Rattle.bc_deed.proofs.May.{did_nothing, map_if_err}
-use Rattle.bc_hand.proofs.Knowing.{map_ok}
-use Rattle.bc_hand.specs.Seats.{world}
-use Rattle.bc_hand.specs.declared.hand.Hand.{Hand}
-use Rattle.bc_machine.specs.World.{AreLeaves, cache_among}
+use Rattle.bc_sight.proofs.of_bc_deed.May.{did_nothing, map_if_err}
+use Rattle.bc_sight.proofs.of_bc_hand.Knowing.{map_ok}
+use Rattle.bc_sight.specs.bc_hand.Seats.{world}
+use Rattle.bc_sight.specs.bc_hand.declared.hand.Hand.{Hand}
+use Rattle.bc_sight.specs.bc_machine.World.{AreLeaves, cache_among}
 use Rattle.bc_fetch.specs.Fetch.{HasTaken, IsLeafStop, OfBoth}
 use Rattle.bc_fetch.proofs.Fetching.{always_err, in_hand, its_number, map_if_ok, same_hand, use_leaves, works_with}
 use Rattle.bc_fetch.proofs.Slots.{none_go, one_goes, used_has, used_taken}

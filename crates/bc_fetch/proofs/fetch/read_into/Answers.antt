@@ -1,7 +1,7 @@
 use Rattle.std.proofs.Common.{◌≡◌, ◌*◌, ◌/◌, length, ◌∙◌}
 use Rattle.bc_cache.specs.Slots.{Misses, NodeCache, NoneCanGo}
-use Rattle.bc_deed.proofs.May.{map_if_err}
-use Rattle.bc_machine.specs.World.{cache_among}
+use Rattle.bc_sight.proofs.of_bc_deed.May.{map_if_err}
+use Rattle.bc_sight.specs.bc_machine.World.{cache_among}
 use Rattle.bc_fetch.specs.Fetch.{HasTaken}
 use Rattle.bc_fetch.proofs.Fetching.{both_after, map_if_ok, no_leaf_before, of_after, part_after, spine_after, stopped_by}
 use Rattle.bc_fetch.proofs.fetch.read_into.Goals as goal

@@ -1,9 +1,9 @@
 use Rattle.std.proofs.Common.{◌≡◌, ◌*◌, ◌/◌, ◌≤◌, inl, inr, length, ap, ◌∙◌, subst, arith, Some}
 use Rattle.bc_cache.specs.Slots.{Misses, NodeCache, NoneCanGo}
-use Rattle.bc_deed.proofs.May.{map_if_err}
+use Rattle.bc_sight.proofs.of_bc_deed.May.{map_if_err}
 use Rattle.bc_disk.specs.declared.geometry.Geometry.{Geometry}
-use Rattle.bc_hand.proofs.Knowing.{map_ok}
-use Rattle.bc_machine.specs.World.{cache_among}
+use Rattle.bc_sight.proofs.of_bc_hand.Knowing.{map_ok}
+use Rattle.bc_sight.specs.bc_machine.World.{cache_among}
 use Rattle.bc_fetch.specs.Fetch.{HasTaken, node_read}
 use Rattle.bc_fetch.proofs.Fetching.{both_after, did_before, map_if_ok, of_after, part_after, spine_after, stop_before}
 use Rattle.bc_fetch.proofs.fetch.read_leaf.Goals as goal

@@ -3,7 +3,7 @@ use Rattle.bc_cache.specs.Slots.{Misses, NodeCache, NoneCanGo}
 use Rattle.bc_disk.specs.declared.geometry.Geometry.{Geometry}
 use Rattle.bc_fetch.specs.declared.error.LeafError.{LeafError}
 use Rattle.bc_fetch.specs.Fetch.{IsNoLeaf}
-use Rattle.bc_hand.specs.Seats.{world}
+use Rattle.bc_sight.specs.bc_hand.Seats.{world}
 use Rattle.bc_node.specs.Loading.{IsDecoded, IsNotDecoded}
 use Rattle.bc_fetch.proofs.Fetching.{in_hand, its_number, its_part, no_leaf, of_leaves, put_leaves, spine_in_hand, works_with}
 use Rattle.bc_fetch.proofs.Slots.{put_taken}

@@ -1,6 +1,6 @@
 use Rattle.std.proofs.Common.{None}
-use Rattle.bc_hand.proofs.Between.{did_between}
-use Rattle.bc_deed.proofs.May.{did_nothing}
+use Rattle.bc_sight.proofs.of_bc_hand.Between.{did_between}
+use Rattle.bc_sight.proofs.of_bc_deed.May.{did_nothing}
 use Rattle.bc_fetch.proofs.leaf.give_leaves.Goals as goal
 
 pub returns-clause-waited : goal.returns-clause-waited

@@ -2,8 +2,8 @@ use Rattle.std.proofs.Common.{◌≡◌, ◌+◌, ◌-◌, ◌%◌, ◌≤◌, i
 use Rattle.std.specs.Prelude.{slice_get}
 use Rattle.bc_cache.specs.Slots.{IsOccupied, NodeCache}
 use Rattle.bc_cache.specs.declared.slots.Cached.{Cached}
-use Rattle.bc_hand.specs.declared.hand.Hand.{Hand}
-use Rattle.bc_machine.specs.World.{cache_among}
+use Rattle.bc_sight.specs.bc_hand.declared.hand.Hand.{Hand}
+use Rattle.bc_sight.specs.bc_machine.World.{cache_among}
 use Rattle.bc_fetch.specs.Fetch.{HasPart, HasStoppedAt, HasTakenIn}
 use Rattle.bc_fetch.specs.declared.error.LeafError.{LeafError}
 use Rattle.bc_fetch.proofs.Ways.{fetched_left, fetched_way, leaf_for, occupied, of_given, part_given, rest_of, short_way, spine_leaves, stopped_left, stopped_way, taken_in, then_done, waited_done}

@@ -1,6 +1,6 @@
 use Rattle.std.proofs.Common.{None}
-use Rattle.bc_hand.proofs.Between.{did_between}
-use Rattle.bc_deed.proofs.May.{did_nothing}
+use Rattle.bc_sight.proofs.of_bc_hand.Between.{did_between}
+use Rattle.bc_sight.proofs.of_bc_deed.May.{did_nothing}
 use Rattle.bc_fetch.proofs.Fetching.{has_part}
 use Rattle.bc_fetch.proofs.leaf.take_leaves.Goals as goal
 

@@ -4,8 +4,8 @@ use Rattle.bc_fetch.proofs.Ways.{waited_done}
 use Rattle.bc_inner.specs.Inner.{Inner}
 use Rattle.bc_tree.specs.Spine.{IsSpine as IsTree, Spine}
 use Rattle.std.proofs.lemmas.Bool.{le-ltb}
-use Rattle.bc_hand.proofs.Between.{did_between}
-use Rattle.bc_deed.proofs.May.{did_nothing}
+use Rattle.bc_sight.proofs.of_bc_hand.Between.{did_between}
+use Rattle.bc_sight.proofs.of_bc_deed.May.{did_nothing}
 use Rattle.bc_fetch.proofs.leaf.take_spine.Goals as goal
 
 pub returns-then-end-first-clause-waited : goal.returns-then-end-first-clause-waited

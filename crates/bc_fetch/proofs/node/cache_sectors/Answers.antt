@@ -1,9 +1,9 @@
 use Rattle.std.proofs.Common.{None, ap, ◌∙◌}
 use Rattle.bc_parts.specs.Seat.{Run}
-use Rattle.bc_machine.specs.declared.part.CorePart.{CorePart}
-use Rattle.bc_machine.specs.World.{cache_among}
-use Rattle.bc_hand.proofs.Between.{did_between}
-use Rattle.bc_deed.proofs.May.{did_nothing}
+use Rattle.bc_sight.specs.bc_machine.declared.part.CorePart.{CorePart}
+use Rattle.bc_sight.specs.bc_machine.World.{cache_among}
+use Rattle.bc_sight.proofs.of_bc_hand.Between.{did_between}
+use Rattle.bc_sight.proofs.of_bc_deed.May.{did_nothing}
 use Rattle.bc_sight.proofs.Reading.{cache_sectors}
 use Rattle.bc_fetch.proofs.node.cache_sectors.Goals as goal
 

@@ -1,4 +1,4 @@
-use Rattle.bc_deed.proofs.May.{holds_only, kept_as}
+use Rattle.bc_sight.proofs.of_bc_deed.May.{holds_only, kept_as}
 use Rattle.bc_fetch.proofs.node.called.Goals as goal
 
 pub commit-requires-clause-holds : goal.commit-requires-clause-holds

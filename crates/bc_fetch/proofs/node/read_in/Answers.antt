@@ -1,10 +1,10 @@
 use Rattle.std.proofs.Common.{None, Some, ◌+◌, ◌/◌, ◌≤◌, length, sym, ap, ◌∙◌, subst}
 use Rattle.bc_model.specs.Sector.{values_of}
 use Rattle.bc_events.specs.declared.event.Deed.TheVariants as deed
-use Rattle.bc_hand.specs.Seats.{Did}
+use Rattle.bc_sight.specs.bc_hand.Seats.{Did}
 use Rattle.bc_parts.specs.Seat.{Run}
-use Rattle.bc_machine.specs.declared.part.CorePart.{CorePart}
-use Rattle.bc_machine.specs.World.{cache_among}
+use Rattle.bc_sight.specs.bc_machine.declared.part.CorePart.{CorePart}
+use Rattle.bc_sight.specs.bc_machine.World.{cache_among}
 use Rattle.bc_sight.proofs.Reading.{cache_changed, cache_sectors, failed_read_stands, may_fail_cache_read}
 use Rattle.bc_fetch.proofs.Reading.{may_read_node, node_read_stands, stand_at}
 use Rattle.bc_fetch.proofs.node.read_in.Goals as goal

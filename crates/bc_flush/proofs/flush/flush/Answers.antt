@@ -1,11 +1,11 @@
 use Rattle.std.proofs.Common.{Some, [], ◌∷◌, sym, ap, ◌∙◌, subst}
 use Rattle.std.specs.Prelude.{OnOk}
-use Rattle.bc_deed.specs.Flushed.{HasDone}
+use Rattle.bc_entry.specs.bc_deed.Flushed.{HasDone}
 use Rattle.bc_events.specs.declared.event.Deed.TheVariants as deed
 use Rattle.bc_events.specs.declared.event.LineNumber.{LineNumber}
-use Rattle.bc_hand.specs.Seats.{Did}
-use Rattle.bc_job.specs.Asked.{line_of}
-use Rattle.bc_machine.specs.World.{cache_among}
+use Rattle.bc_entry.specs.bc_hand.Seats.{Did}
+use Rattle.bc_request.specs.bc_job.Asked.{line_of}
+use Rattle.bc_entry.specs.bc_machine.World.{cache_among}
 use Rattle.bc_flush.specs.Flushed.{HasNotFlushed}
 use Rattle.bc_flush.proofs.Flushing.{all_synced_now, flush_ended, flush_halted, flush_not_ended, flush_synced, idle_either, known_begun, still_going, still_its}
 use Rattle.bc_flush.proofs.flush.flush.Goals as goal

@@ -1,4 +1,4 @@
-use Rattle.bc_deed.proofs.May.{did_nothing, none_changed, works_kept}
+use Rattle.bc_entry.proofs.of_bc_deed.May.{did_nothing, none_changed, works_kept}
 use Rattle.bc_entry.proofs.CacheDevice.{cached_by}
 use Rattle.bc_flush.proofs.Ending.{may_end_flush}
 use Rattle.bc_flush.proofs.said.flush_done.Goals as goal

@@ -1,5 +1,5 @@
 use Rattle.std.proofs.Common.{◌∙◌}
-use Rattle.bc_machine.specs.World.{cache_among}
+use Rattle.bc_entry.specs.bc_machine.World.{cache_among}
 use Rattle.bc_flush.proofs.Hands.{journal_same, journal_stands}
 use Rattle.bc_flush.proofs.Syncing.{as_waited, durable_around, known_taken, named_now, refused_around, synced_around, taken_done}
 use Rattle.bc_flush.proofs.sync.put_waiting.Goals as goal

@@ -1,6 +1,6 @@
 use Rattle.std.proofs.Common.{◌≢◌, [], refl, sym, subst}
 use Rattle.bc_journal.specs.Journal.{Journal}
-use Rattle.bc_machine.specs.World.{cache_among}
+use Rattle.bc_entry.specs.bc_machine.World.{cache_among}
 use Rattle.bc_flush.proofs.Hands.{Fits, both_in, is_off, is_on, same_some}
 use Rattle.bc_flush.proofs.Putting.{law_put}
 use Rattle.bc_flush.proofs.Syncing.{refused_none, refused_put, synced_put}

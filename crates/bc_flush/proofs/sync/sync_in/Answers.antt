@@ -1,7 +1,7 @@
 use Rattle.std.proofs.Common.{◌≢◌, inl, List, [], refl, sym, ap, ◌∙◌, subst}
 use Rattle.bc_journal.specs.Journal.{IsJournal as IsGoodJournal, Journal}
 use Rattle.bc_key.specs.declared.key.Key.{Key}
-use Rattle.bc_machine.specs.World.{cache_among}
+use Rattle.bc_entry.specs.bc_machine.World.{cache_among}
 use Rattle.bc_flush.proofs.Hands.{is_empty_of, is_some_of, journal_stands, none_of}
 use Rattle.bc_flush.proofs.Syncing.{can_seal, none_owed, refused_none, synced_none}
 use Rattle.bc_flush.specs.declared.error.FlushError.TheVariants as flush

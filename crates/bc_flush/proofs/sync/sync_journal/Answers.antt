@@ -1,4 +1,4 @@
-use Rattle.bc_machine.specs.World.{cache_among}
+use Rattle.bc_entry.specs.bc_machine.World.{cache_among}
 use Rattle.bc_flush.proofs.Syncing.{as_waited, durable_around, known_taken, refused_around, synced_around, taken_done}
 use Rattle.bc_flush.proofs.sync.sync_journal.Goals as goal
 

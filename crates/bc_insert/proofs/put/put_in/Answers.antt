@@ -1,6 +1,6 @@
 use Rattle.std.proofs.Common.{Some, sym, ap, ◌∙◌, subst}
 use Rattle.std.specs.Prelude.{◌++◌}
-use Rattle.bc_hand.specs.declared.hand.LeafHand.{LeafHand}
+use Rattle.bc_place.specs.bc_hand.declared.hand.LeafHand.{LeafHand}
 use Rattle.bc_journal.specs.Journal.{Journal, number_of}
 use Rattle.bc_insert.specs.Insert.{CanAdd, HasAdded}
 use Rattle.bc_insert.proofs.Putting.{one_some}

@@ -1,6 +1,6 @@
 use Rattle.std.proofs.Common.{subst}
 use Rattle.bc_cache.specs.Slots.{HasLeaf}
-use Rattle.bc_hand.specs.declared.hand.LeafHand.{LeafHand}
+use Rattle.bc_place.specs.bc_hand.declared.hand.LeafHand.{LeafHand}
 use Rattle.bc_insert.proofs.Putting.{one_some}
 use Rattle.bc_insert.proofs.put.slot_in.Goals as goal
 

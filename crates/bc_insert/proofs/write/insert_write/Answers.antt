@@ -1,14 +1,14 @@
 use Rattle.std.proofs.Common.{◌≡◌, true, Some, refl, sym, ap, ◌∙◌, subst}
 use Rattle.std.specs.Prelude.{List, ◌++◌, length}
-use Rattle.bc_deed.proofs.May.{did_nothing}
+use Rattle.bc_place.proofs.of_bc_deed.May.{did_nothing}
 use Rattle.bc_events.specs.declared.event.Deed.{Deed}
 use Rattle.bc_events.specs.declared.event.Deed.TheVariants as deed
-use Rattle.bc_hand.specs.Seats.{Did, MayDo, by}
-use Rattle.bc_hand.proofs.Knowing.{m}
-use Rattle.bc_hand.proofs.Lending.{works_waited}
+use Rattle.bc_place.specs.bc_hand.Seats.{Did, MayDo, by}
+use Rattle.bc_place.proofs.of_bc_hand.Knowing.{m}
+use Rattle.bc_place.proofs.of_bc_hand.Lending.{works_waited}
 use Rattle.bc_key.specs.declared.key.Key.{Key}
-use Rattle.bc_machine.specs.World.{are_plain, changes}
-use Rattle.bc_machine.specs.declared.part.CorePart.{CorePart}
+use Rattle.bc_place.specs.bc_machine.World.{are_plain, changes}
+use Rattle.bc_place.specs.bc_machine.declared.part.CorePart.{CorePart}
 use Rattle.bc_model.specs.Sector.{Value}
 use Rattle.bc_parts.specs.Seat.{Run}
 use Rattle.bc_place.proofs.Keeping.{keeps_waited}

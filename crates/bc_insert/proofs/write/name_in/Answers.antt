@@ -1,5 +1,5 @@
 use Rattle.std.proofs.Common.{◌≡◌, Option, Some, refl, sym, ap, ◌∙◌, subst}
-use Rattle.bc_machine.specs.declared.part.BucketsPart.{BucketsPart}
+use Rattle.bc_place.specs.bc_machine.declared.part.BucketsPart.{BucketsPart}
 use Rattle.bc_place.specs.Next.{HasNamed}
 use Rattle.bc_insert.proofs.Putting.{one_some}
 use Rattle.bc_insert.proofs.write.name_in.Goals as goal

@@ -1,5 +1,5 @@
 use Rattle.std.proofs.Common.{refl, ap, ◌∙◌, arith}
-use Rattle.bc_hand.proofs.Knowing.{note_waited}
+use Rattle.bc_deed.proofs.of_bc_hand.Knowing.{note_waited}
 use Rattle.bc_job.proofs.Holding.{still_empty}
 use Rattle.bc_job.proofs.Sequence.{none_yet, still_waiting, made_claim, has_claimed, has_waited}
 use Rattle.bc_job.proofs.claims.claim_range.Goals as goal

@@ -1,5 +1,5 @@
 use Rattle.std.proofs.Common.{◌≡◌, []}
-use Rattle.bc_hand.specs.Seats.{Works, empty, note}
+use Rattle.bc_deed.specs.bc_hand.Seats.{Works, empty, note}
 use Rattle.bc_deed.specs.Flushed.{HasDone}
 use Rattle.bc_job.proofs.claims.claim_range.Given as goal
 

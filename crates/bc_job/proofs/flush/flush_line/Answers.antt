@@ -2,7 +2,7 @@ use Rattle.std.proofs.Common.{refl, ◌∙◌, arith}
 use Rattle.bc_disk.specs.declared.disk.Device.TheVariants.{Backing}
 use Rattle.bc_events.specs.declared.event.Deed.TheVariants as deed
 use Rattle.bc_events.specs.declared.event.Failure.TheVariants as failure
-use Rattle.bc_hand.proofs.Knowing.{map_ok, note_committed}
+use Rattle.bc_deed.proofs.of_bc_hand.Knowing.{map_ok, note_committed}
 use Rattle.bc_deed.proofs.Noting.{still_claimed, range_stopped, range_either}
 use Rattle.bc_deed.proofs.Sequence.{begun_going, barrier_firm, stopped_first, stopped_barrier, stopped_end, flushed}
 use Rattle.bc_job.proofs.Ready.{left_either, left_failed}

@@ -2,7 +2,7 @@ use Rattle.std.proofs.Common.{refl, ap, ◌∙◌, Some}
 use Rattle.bc_events.specs.declared.event.Deed.TheVariants as deed
 use Rattle.bc_events.specs.declared.event.Failure.TheVariants as failure
 use Rattle.bc_disk.specs.declared.disk.Device.TheVariants.{Backing}
-use Rattle.bc_hand.proofs.Knowing.{map_ok}
+use Rattle.bc_deed.proofs.of_bc_hand.Knowing.{map_ok}
 use Rattle.bc_deed.proofs.Noting.{range_failed, range_stopped, range_either}
 use Rattle.bc_job.proofs.Under.{may_write_fresh, write_failed, barrier_failed, durable_stopped, forced_done, written_done, is_last, last_of, was_written, behind_write}
 use Rattle.bc_job.proofs.piece.write_under.Goals as goal

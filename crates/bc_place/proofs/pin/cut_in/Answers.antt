@@ -1,4 +1,4 @@
-use Rattle.bc_hand.specs.Seats.{world}
+use Rattle.bc_deed.specs.bc_hand.Seats.{world}
 use Rattle.bc_place.proofs.Cutting.{next_up_to}
 use Rattle.bc_place.proofs.Keeping.{is_new, keeps_pin, keeps_waited}
 use Rattle.bc_place.proofs.Knowing.{buckets_since}

@@ -6,7 +6,7 @@ use Rattle.bc_deed.proofs.May.{did_nothing}
 use Rattle.bc_events.specs.declared.event.Deed.TheVariants as deed
 use Rattle.bc_fill.proofs.Opens.{is_none}
 use Rattle.bc_fill.specs.declared.fill.Open.{Open}
-use Rattle.bc_hand.specs.Seats.{world}
+use Rattle.bc_deed.specs.bc_hand.Seats.{world}
 use Rattle.bc_place.proofs.Keeping.{keeps_deed, keeps_waited}
 use Rattle.bc_place.proofs.Knowing.{buckets_since}
 use Rattle.bc_place.proofs.Steps.{knows_none, may_open, opened_after}

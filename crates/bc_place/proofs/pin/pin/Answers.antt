@@ -1,8 +1,8 @@
 use Rattle.std.proofs.Common.{refl}
-use Rattle.bc_hand.specs.Seats.{world}
-use Rattle.bc_hand.proofs.Lends.{works_buckets}
+use Rattle.bc_deed.specs.bc_hand.Seats.{world}
+use Rattle.bc_deed.proofs.of_bc_hand.Lends.{works_buckets}
 use Rattle.bc_deed.proofs.May.{did_nothing, map_if_err, map_if_ok, other_number}
-use Rattle.bc_hand.specs.declared.error.StepError.TheVariants as error
+use Rattle.bc_deed.specs.bc_hand.declared.error.StepError.TheVariants as error
 use Rattle.bc_place.specs.Place.{IsOwn}
 use Rattle.bc_place.proofs.Knowing.{before_since}
 use Rattle.bc_place.proofs.Placing.{halted_between, halted_first, known_returned, placed_between, same_but_buckets}

@@ -1,4 +1,4 @@
-use Rattle.bc_hand.proofs.Lends.{works_buckets}
+use Rattle.bc_deed.proofs.of_bc_hand.Lends.{works_buckets}
 use Rattle.bc_deed.proofs.May.{other_number}
 use Rattle.bc_place.proofs.Keeping.{keeps_waited}
 use Rattle.bc_place.proofs.Placing.{same_but_buckets}

@@ -1,8 +1,8 @@
 use Rattle.std.proofs.Common.{List, refl, subst}
 use Rattle.std.specs.Prelude.{IfErr, OnOk}
 use Rattle.bc_model.specs.Sector.{Value}
-use Rattle.bc_hand.proofs.Knowing.{map_err, map_ok}
-use Rattle.bc_hand.proofs.Lends.{works_cache}
+use Rattle.bc_deed.proofs.of_bc_hand.Knowing.{map_err, map_ok}
+use Rattle.bc_deed.proofs.of_bc_hand.Lends.{works_cache}
 use Rattle.bc_deed.proofs.May.{did_nothing, map_if_err, other_number}
 use Rattle.bc_place.specs.Written.{HasFailedToPlace, HasStored}
 use Rattle.bc_place.proofs.Keeping.{keeps_waited}

@@ -1,10 +1,10 @@
 use Rattle.std.proofs.Common.{length, subst, sym}
 use Rattle.std.specs.Prelude.{List}
-use Rattle.bc_deed.specs.Asked.{IsWithin}
-use Rattle.bc_hand.specs.Seats.{note}
+use Rattle.bc_fetch.specs.bc_deed.Asked.{IsWithin}
+use Rattle.bc_fetch.specs.bc_hand.Seats.{note}
 use Rattle.bc_model.proofs.Sectors.{length_values_of}
 use Rattle.bc_model.specs.Sector.{Gives, Value}
-use Rattle.bc_sight.specs.Sight.{MayAnswer}
+use Rattle.bc_reads.specs.bc_sight.Sight.{MayAnswer}
 use Rattle.bc_reader.proofs.claimed.answer_with.Goals as goal
 
 pub answer-requires-clause-covered : goal.answer-requires-clause-covered

@@ -1,5 +1,5 @@
 use Rattle.std.proofs.Common.{◌∙◌, sym, subst}
-use Rattle.bc_hand.specs.Seats.{note}
+use Rattle.bc_fetch.specs.bc_hand.Seats.{note}
 use Rattle.bc_model.specs.Sector.{values_of}
 use Rattle.bc_reader.specs.Claimed.{HasStoppedAtOnce}
 use Rattle.bc_reader.specs.declared.error.ReadError.{ReadError}

@@ -1,5 +1,5 @@
 use Rattle.std.proofs.Common.{Bool, subst}
-use Rattle.bc_hand.proofs.Knowing.{map_ok}
+use Rattle.bc_fetch.proofs.of_bc_hand.Knowing.{map_ok}
 use Rattle.bc_model.specs.Sector.{values_of}
 use Rattle.bc_reader.specs.Claimed.{HasTriedOnce}
 use Rattle.bc_reader.proofs.Turning.{answered_again, answered_at_once, stopped_again, stopped_at_once}

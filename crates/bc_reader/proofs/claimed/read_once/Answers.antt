@@ -1,8 +1,8 @@
 use Rattle.std.specs.Prelude.{All}
 use Rattle.std.proofs.Common.{◌≡◌, ◌*◌, length, List, ap, ◌∙◌, sym, subst, arith}
-use Rattle.bc_hand.specs.Seats.{note}
-use Rattle.bc_deed.specs.Asked.{IsWithin}
-use Rattle.bc_machine.specs.Plain.{worker_of}
+use Rattle.bc_fetch.specs.bc_hand.Seats.{note}
+use Rattle.bc_fetch.specs.bc_deed.Asked.{IsWithin}
+use Rattle.bc_fetch.specs.bc_machine.Plain.{worker_of}
 use Rattle.bc_model.proofs.Sectors.{length_values_of}
 use Rattle.bc_model.specs.Sector.{values_of}
 use Rattle.bc_reader.specs.Claimed.{HasStoppedAtOnce}

@@ -1,7 +1,7 @@
 use Rattle.std.proofs.Common.{ap, ◌∙◌, sym, subst, List}
-use Rattle.bc_hand.specs.Seats.{note}
-use Rattle.bc_hand.specs.declared.hand.Hand.{Hand}
-use Rattle.bc_machine.specs.World.{cache_among}
+use Rattle.bc_fetch.specs.bc_hand.Seats.{note}
+use Rattle.bc_fetch.specs.bc_hand.declared.hand.Hand.{Hand}
+use Rattle.bc_fetch.specs.bc_machine.World.{cache_among}
 use Rattle.bc_model.specs.Sector.{values_of}
 use Rattle.bc_reads.specs.declared.runs.ReadRun.{ReadRun}
 use Rattle.bc_reader.specs.Deeds.{HasStoppedBy, RunsStop}

@@ -1,5 +1,5 @@
 use Rattle.std.proofs.Common.{◌+◌, subst}
-use Rattle.bc_machine.specs.declared.part.BucketsPart.{BucketsPart}
+use Rattle.bc_fetch.specs.bc_machine.declared.part.BucketsPart.{BucketsPart}
 use Rattle.bc_reader.specs.Look.{IsSeenBy, NotSeenBy}
 use Rattle.bc_reader.proofs.Finding.{found_in, is_there, not_in}
 use Rattle.bc_reader.proofs.look.find_runs.Goals as goal

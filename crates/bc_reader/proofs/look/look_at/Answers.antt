@@ -1,7 +1,7 @@
 use Rattle.std.proofs.Common.{◌+◌, ◌-◌, ◌%◌, ap, ◌∙◌, sym, subst, arith}
 use Rattle.bc_fetch.specs.Fetch.{HasPart}
-use Rattle.bc_hand.specs.Seats.{note}
-use Rattle.bc_hand.specs.declared.hand.Hand.{Hand}
+use Rattle.bc_fetch.specs.bc_hand.Seats.{note}
+use Rattle.bc_fetch.specs.bc_hand.declared.hand.Hand.{Hand}
 use Rattle.bc_reader.proofs.Finding.{leaf_moved, waited_done}
 use Rattle.bc_reader.proofs.Looking.{buckets_only, over_same, part_moved, range_still, range_way, seen_at, stopped_in, waited_twice}
 use Rattle.bc_reader.proofs.look.look_at.Goals as goal

@@ -1,7 +1,7 @@
 use Rattle.std.proofs.Common.{◌+◌, ap, ◌∙◌, sym, subst, arith}
-use Rattle.bc_hand.specs.Seats.{note}
-use Rattle.bc_hand.specs.declared.hand.Hand.{Hand}
-use Rattle.bc_machine.specs.World.{cache_among}
+use Rattle.bc_fetch.specs.bc_hand.Seats.{note}
+use Rattle.bc_fetch.specs.bc_hand.declared.hand.Hand.{Hand}
+use Rattle.bc_fetch.specs.bc_machine.World.{cache_among}
 use Rattle.bc_reader.specs.Look.{LookStop}
 use Rattle.bc_reader.specs.Runs.{LieWithin}
 use Rattle.bc_reader.specs.declared.error.ReadError.{ReadError}

@@ -1,4 +1,4 @@
-use Rattle.bc_hand.proofs.Knowing.{map_ok}
+use Rattle.bc_fetch.proofs.of_bc_hand.Knowing.{map_ok}
 use Rattle.bc_reader.proofs.Uses.{of_run}
 use Rattle.bc_reader.proofs.noted.note_run.Goals as goal
 

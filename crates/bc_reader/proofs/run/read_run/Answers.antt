@@ -1,13 +1,13 @@
 use Rattle.std.proofs.Common.{◌≡◌, ◌+◌, ◌/◌, ◌≤◌, [], ◌∷◌, inl, inr, length, Some, refl, sym, ap, ◌∙◌, subst, arith}
-use Rattle.bc_deed.proofs.Sequence.{done_one, done_then}
-use Rattle.bc_deed.specs.Asked.{size_of}
-use Rattle.bc_hand.proofs.Knowing.{map_ok}
-use Rattle.bc_deed.proofs.May.{map_if_err}
+use Rattle.bc_fetch.proofs.of_bc_deed.Sequence.{done_one, done_then}
+use Rattle.bc_fetch.specs.bc_deed.Asked.{size_of}
+use Rattle.bc_fetch.proofs.of_bc_hand.Knowing.{map_ok}
+use Rattle.bc_fetch.proofs.of_bc_deed.May.{map_if_err}
 use Rattle.bc_model.proofs.Sectors.{length_values_of}
 use Rattle.bc_model.specs.Sector.{values_of}
 use Rattle.bc_reads.proofs.Still.{law_points}
 use Rattle.bc_reads.specs.declared.source.ReadFrom.TheVariants.{Cache}
-use Rattle.bc_sight.specs.Sight.{PointsTo}
+use Rattle.bc_reads.specs.bc_sight.Sight.{PointsTo}
 use Rattle.bc_reader.specs.Deeds.{cache_fault}
 use Rattle.bc_reader.proofs.Running.{backing_ok, backing_stop, cache_ok, cache_stop, did_none, is_failed, long_of, run_backing, run_cache, run_clean, values_failed}
 use Rattle.bc_reader.proofs.run.read_run.Goals as goal

@@ -1,7 +1,7 @@
 use Rattle.std.proofs.Common.{◌≡◌, ◌+◌, ◌≤◌, List, suc, drop, refl, sym, ap, ◌∙◌, subst, arith}
 use Rattle.std.specs.Prelude.{take}
 use Rattle.std.proofs.lemmas.List.{take_all}
-use Rattle.bc_deed.specs.Asked.{size_of}
+use Rattle.bc_fetch.specs.bc_deed.Asked.{size_of}
 use Rattle.bc_model.proofs.Sectors.{values_whole}
 use Rattle.bc_model.specs.Sector.{Value, sectors}
 use Rattle.bc_reads.specs.Reads.{AreRuns}

@@ -1,6 +1,6 @@
 use Rattle.std.proofs.Common.{◌≡◌, ◌+◌, ◌*◌, ◌≤◌, length}
 use Rattle.std.specs.Prelude.{drop, take}
-use Rattle.bc_hand.specs.Seats.{Works, note}
+use Rattle.bc_fetch.specs.bc_hand.Seats.{Works, note}
 use Rattle.bc_model.specs.Sector.{sectors}
 use Rattle.bc_reads.specs.Reads.{AreRuns}
 use Rattle.bc_reader.specs.Known.{IsSameButDevices, IsSameClaim}

@@ -1,7 +1,7 @@
 use Rattle.std.proofs.Common.{refl, ap, ◌∙◌}
-use Rattle.bc_hand.specs.Seats.{note}
+use Rattle.bc_job.specs.bc_hand.Seats.{note}
 use Rattle.bc_job.proofs.Holding.{still_empty}
-use Rattle.bc_machine.specs.Frame.{Range}
+use Rattle.bc_job.specs.bc_machine.Frame.{Range}
 use Rattle.bc_model.specs.Sector.{values_of}
 use Rattle.bc_reader.proofs.Looking.{range_still}
 use Rattle.bc_request.proofs.Pieces.{claim_still, first_read, halted_or, idle_again, idle_still, over_claim, piece_read, piece_stopped, piece_unclaimed}

@@ -2,7 +2,7 @@ use Rattle.std.proofs.Common.{refl, sym, ap, ◌∙◌, subst}
 use Rattle.std.specs.Prelude.{slice_get}
 use Rattle.bc_cache.specs.Slots.{HasLeaf}
 use Rattle.bc_cache.specs.declared.slots.Cached.{Cached}
-use Rattle.bc_hand.specs.declared.hand.LeafHand.{LeafHand}
+use Rattle.bc_fetch.specs.bc_hand.declared.hand.LeafHand.{LeafHand}
 use Rattle.bc_insert.proofs.Putting.{one_cached, one_some}
 use Rattle.bc_room.proofs.leaf.reserve.Goals as goal
 

@@ -2,9 +2,9 @@ use Rattle.std.proofs.Common.{[], ◌∷◌, None, Some, inl, inr, refl, sym, �
 use Rattle.bc_disk.specs.declared.disk.Device.TheVariants.{Backing}
 use Rattle.bc_events.specs.declared.event.Deed.TheVariants as deed
 use Rattle.bc_events.specs.declared.event.Failure.TheVariants as failure
-use Rattle.bc_hand.specs.declared.error.StepError.{StepError}
-use Rattle.bc_deed.specs.Asked.{HasFailed}
-use Rattle.bc_deed.proofs.Sequence.{done_then}
+use Rattle.bc_plain_laws.specs.bc_hand.declared.error.StepError.{StepError}
+use Rattle.bc_job.specs.bc_deed.Asked.{HasFailed}
+use Rattle.bc_job.proofs.of_bc_deed.Sequence.{done_then}
 use Rattle.bc_serve.proofs.closing.close.Goals as goal
 
 pub returns-in-None-clause-closed : goal.returns-in-None-clause-closed

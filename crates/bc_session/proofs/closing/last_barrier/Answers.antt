@@ -1,11 +1,11 @@
 use Rattle.std.proofs.Common.{[], ◌∷◌, Some, inl, inr, refl, sym, ◌∙◌, subst}
 use Rattle.std.specs.Prelude.{None}
-use Rattle.bc_deed.specs.Asked.{HasFailed}
-use Rattle.bc_deed.proofs.Sequence.{done_then}
+use Rattle.bc_started.specs.bc_deed.Asked.{HasFailed}
+use Rattle.bc_started.proofs.of_bc_deed.Sequence.{done_then}
 use Rattle.bc_disk.specs.declared.disk.Device.TheVariants.{Backing}
 use Rattle.bc_events.specs.declared.event.Deed.TheVariants as deed
 use Rattle.bc_events.specs.declared.event.Failure.TheVariants as failure
-use Rattle.bc_hand.specs.declared.error.StepError.{StepError}
+use Rattle.bc_started.specs.bc_hand.declared.error.StepError.{StepError}
 use Rattle.bc_session.proofs.closing.last_barrier.Goals as goal
 
 pub returns-in-None-clause-made : goal.returns-in-None-clause-made

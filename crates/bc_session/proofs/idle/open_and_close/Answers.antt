@@ -4,8 +4,8 @@ use Rattle.std.specs.Prelude.{Any}
 use Rattle.bc_bucket.specs.declared.bucket.Bucket.{Bucket}
 use Rattle.bc_bucket.specs.declared.bucket.Mark.TheVariants as marks
 use Rattle.bc_loaded.specs.declared.loading.Loaded.{Loaded}
-use Rattle.bc_machine.specs.World.{are_plain}
-use Rattle.bc_machine.specs.declared.part.CorePart.{CorePart}
+use Rattle.bc_started.specs.bc_machine.World.{are_plain}
+use Rattle.bc_started.specs.bc_machine.declared.part.CorePart.{CorePart}
 use Rattle.bc_open.proofs.Exits.{dirty_left, kept_self}
 use Rattle.bc_open.proofs.Left.{kept_leaves}
 use Rattle.bc_open.proofs.States.{same_leaves}

@@ -1,5 +1,5 @@
 use Rattle.std.proofs.Common.{◌≡◌, ◌∙◌, refl, subst, sym}
-use Rattle.bc_cached.specs.declared.run.Ready.{Ready}
+use Rattle.bc_started.specs.bc_cached.declared.run.Ready.{Ready}
 use Rattle.bc_open.proofs.Exits.{failed_of, good_of, kept_self, on_err, on_ok}
 use Rattle.bc_open.proofs.Left.{kept_leaves}
 use Rattle.bc_open.proofs.States.{same_leaves, torn_leaves}
@@ -9,7 +9,7 @@ use Rattle.bc_state.specs.State.{super_in}
 use Rattle.bc_super.specs.Writing.{IsBackingStored, IsBackingTorn}
 use Rattle.bc_super.specs.declared.state.BackingState.{BackingState}
 use Rattle.bc_super.specs.declared.state.BackingState.TheVariants as states
-use Rattle.bc_entered.proofs.Safe.{unmoved}
+use Rattle.bc_open.proofs.of_bc_entered.Safe.{unmoved}
 use Rattle.bc_session.proofs.Left.{both_left}
 use Rattle.bc_session.proofs.Ready.{can_start, stands_still, usable_still}
 use Rattle.bc_session.proofs.Stopped.{not_for_odd, over, stop_cause, stop_left, stop_state}

@@ -1,8 +1,8 @@
 use Rattle.std.proofs.Common.{ap, sym, subst, ◌∙◌}
 use Rattle.bc_events.specs.declared.event.Deed.TheVariants as deed
-use Rattle.bc_hand.specs.Seats.{MayDo}
-use Rattle.bc_machine.specs.World.{are_plain}
-use Rattle.bc_machine.specs.declared.part.CorePart.{CorePart}
+use Rattle.bc_deed.specs.bc_hand.Seats.{MayDo}
+use Rattle.bc_looks.specs.bc_machine.World.{are_plain}
+use Rattle.bc_looks.specs.bc_machine.declared.part.CorePart.{CorePart}
 use Rattle.bc_parts.specs.Seat.{Run}
 use Rattle.bc_deed.proofs.May.{did_nothing, none_changed, works_kept}
 use Rattle.bc_sight.proofs.Answering.{may_answer_cached}

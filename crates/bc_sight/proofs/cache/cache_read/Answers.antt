@@ -1,9 +1,9 @@
 use Rattle.std.proofs.Common.{Some, refl}
 use Rattle.bc_model.specs.Sector.{values_of}
 use Rattle.bc_events.specs.declared.event.Deed.TheVariants as deed
-use Rattle.bc_hand.proofs.Knowing.{map_ok}
-use Rattle.bc_hand.proofs.Lends.{works_cache}
-use Rattle.bc_hand.proofs.Between.{did_between}
+use Rattle.bc_deed.proofs.of_bc_hand.Knowing.{map_ok}
+use Rattle.bc_deed.proofs.of_bc_hand.Lends.{works_cache}
+use Rattle.bc_deed.proofs.of_bc_hand.Between.{did_between}
 use Rattle.bc_deed.proofs.May.{did_nothing, other_number, map_if_err}
 use Rattle.bc_sight.specs.Sight.{HasLooked, with_values}
 use Rattle.bc_sight.proofs.Claims.{claim_waited}

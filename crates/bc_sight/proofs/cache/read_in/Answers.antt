@@ -3,9 +3,9 @@ use Rattle.bc_model.specs.Sector.{Value, values_of}
 use Rattle.bc_model.proofs.Sectors.{length_values_of}
 use Rattle.bc_disk.specs.Disk.{IsRead}
 use Rattle.bc_parts.specs.Seat.{Run}
-use Rattle.bc_machine.specs.declared.part.CorePart.{CorePart}
-use Rattle.bc_machine.specs.World.{are_plain, cache_among}
-use Rattle.bc_hand.specs.Seats.{note}
+use Rattle.bc_looks.specs.bc_machine.declared.part.CorePart.{CorePart}
+use Rattle.bc_looks.specs.bc_machine.World.{are_plain, cache_among}
+use Rattle.bc_deed.specs.bc_hand.Seats.{note}
 use Rattle.bc_deed.specs.Asked.{IsWithin}
 use Rattle.bc_sight.specs.Sight.{PointsTo}
 use Rattle.bc_sight.proofs.Reading.{may_read_cache, may_fail_cache_read, cache_read_stands, failed_read_stands, cache_sectors, cache_changed}

@@ -1,7 +1,7 @@
 use Rattle.std.proofs.Common.{ap, ◌∙◌}
 use Rattle.bc_parts.specs.Seat.{Run}
-use Rattle.bc_machine.specs.declared.part.CorePart.{CorePart}
-use Rattle.bc_machine.specs.World.{are_plain}
+use Rattle.bc_looks.specs.bc_machine.declared.part.CorePart.{CorePart}
+use Rattle.bc_looks.specs.bc_machine.World.{are_plain}
 use Rattle.bc_deed.proofs.May.{did_nothing, none_changed, works_kept}
 use Rattle.bc_sight.proofs.Looking.{may_look, knows_look}
 use Rattle.bc_sight.proofs.look.look.Goals as goal

@@ -1,4 +1,4 @@
-use Rattle.bc_hand.proofs.Knowing.{m}
+use Rattle.bc_entry.proofs.of_bc_hand.Knowing.{m}
 use Rattle.bc_seats.proofs.Between.{waited_given}
 use Rattle.bc_started.proofs.first.give_back.Goals as goal
 

@@ -1,8 +1,8 @@
 use Rattle.std.proofs.Common.{[], ap, sym, subst, arith}
-use Rattle.bc_deed.proofs.Sequence.{done_both}
+use Rattle.bc_entry.proofs.of_bc_deed.Sequence.{done_both}
 use Rattle.bc_entry.specs.Seal.{AreNamed}
-use Rattle.bc_hand.specs.declared.hand.Hand.{Hand}
-use Rattle.bc_machine.specs.World.{FromEach, IsJournal, World}
+use Rattle.bc_entry.specs.bc_hand.declared.hand.Hand.{Hand}
+use Rattle.bc_entry.specs.bc_machine.World.{FromEach, IsJournal, World}
 use Rattle.bc_started.proofs.Entering.{all_behind, as_waited, at_opening, cut_result, halt_result, put_result, still_all, still_new, with_journal}
 use Rattle.bc_started.proofs.first.put_first.Goals as goal
 

@@ -1,7 +1,7 @@
 use Rattle.std.proofs.Common.{sym, subst}
-use Rattle.bc_hand.specs.Seats.{world}
-use Rattle.bc_machine.specs.World.{IsBacking, IsCache}
-use Rattle.bc_machine.specs.declared.part.BackingPart.{BackingPart}
+use Rattle.bc_entry.specs.bc_hand.Seats.{world}
+use Rattle.bc_entry.specs.bc_machine.World.{IsBacking, IsCache}
+use Rattle.bc_entry.specs.bc_machine.declared.part.BackingPart.{BackingPart}
 use Rattle.bc_started.proofs.Ended.{can_first, ended, started}
 use Rattle.bc_started.proofs.start.start.Goals as goal
 

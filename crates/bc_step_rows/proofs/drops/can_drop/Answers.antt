@@ -2,7 +2,7 @@ use Rattle.std.proofs.Common.{◌≤◌, Some, ap, ◌∙◌, subst}
 use Rattle.std.specs.Prelude.{IfSome, Option}
 use Rattle.bc_cache.specs.declared.slots.Cached.{Cached}
 use Rattle.bc_journal.specs.Journal.{Journal}
-use Rattle.bc_machine.specs.declared.part.BucketsPart.{BucketsPart}
+use Rattle.bc_cached.specs.bc_machine.declared.part.BucketsPart.{BucketsPart}
 use Rattle.bc_step_rows.specs.Drop.{HasPlaceFor}
 use Rattle.bc_step_rows.proofs.Dropping.{can_drop, if_both}
 use Rattle.bc_step_rows.proofs.drops.can_drop.Goals as goal

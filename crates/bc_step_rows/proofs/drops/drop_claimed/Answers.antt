@@ -1,6 +1,6 @@
 use Rattle.std.proofs.Common.{◌∙◌}
-use Rattle.bc_hand.proofs.Knowing.{m}
-use Rattle.bc_reader.proofs.Looking.{part_moved}
+use Rattle.bc_cached.proofs.of_bc_hand.Knowing.{m}
+use Rattle.bc_request.proofs.of_bc_reader.Looking.{part_moved}
 use Rattle.bc_seats.proofs.Between.{same_both}
 use Rattle.bc_step_rows.proofs.Dropping.{range_kept, read_same}
 use Rattle.bc_step_rows.proofs.drops.drop_claimed.Goals as goal

@@ -1,5 +1,5 @@
 use Rattle.std.proofs.Common.{length}
-use Rattle.bc_hand.specs.Seats.{note}
+use Rattle.bc_cached.specs.bc_hand.Seats.{note}
 use Rattle.bc_step_rows.specs.Drop.{alone_at}
 use Rattle.bc_step_rows.proofs.Dropping.{can_under, put_kinds}
 use Rattle.bc_step_rows.proofs.drops.drop_in.Goals as goal

@@ -1,4 +1,4 @@
-use Rattle.bc_hand.proofs.Knowing.{m}
+use Rattle.bc_cached.proofs.of_bc_hand.Knowing.{m}
 use Rattle.bc_seats.proofs.Between.{same_both}
 use Rattle.bc_step_rows.proofs.drops.give_back.Goals as goal
 

@@ -1,6 +1,6 @@
 use Rattle.std.proofs.Common.{None, Some, ap, ◌∙◌}
 use Rattle.std.specs.Prelude.{Option}
-use Rattle.bc_hand.specs.declared.hand.Hand.{Hand}
+use Rattle.bc_cached.specs.bc_hand.declared.hand.Hand.{Hand}
 use Rattle.bc_step_rows.proofs.Dropping.{three, took}
 use Rattle.bc_step_rows.proofs.drops.take_both.Goals as goal
 

@@ -1,11 +1,11 @@
 use Rattle.std.proofs.Common.{◌≡◌, ℕ, ◌+◌, ◌-◌, ◌%◌, inl, inr, sym, ◌∙◌, subst, arith}
 use Rattle.bc_disk.specs.Disk.{DiskFacts}
-use Rattle.bc_hand.proofs.Knowing.{View, m}
-use Rattle.bc_hand.specs.declared.error.StepError.TheVariants as steps
+use Rattle.bc_cached.proofs.of_bc_hand.Knowing.{View, m}
+use Rattle.bc_cached.specs.bc_hand.declared.error.StepError.TheVariants as steps
 use Rattle.bc_seats.specs.Seats.{Same}
-use Rattle.bc_fetch.specs.Fetch.{HasPart, HasReadOne, HasStoppedAt}
-use Rattle.bc_fetch.specs.declared.error.LeafError.{LeafError}
-use Rattle.bc_fetch.specs.declared.error.LeafError.TheVariants as errors
+use Rattle.bc_request.specs.bc_fetch.Fetch.{HasPart, HasReadOne, HasStoppedAt}
+use Rattle.bc_request.specs.bc_fetch.declared.error.LeafError.{LeafError}
+use Rattle.bc_request.specs.bc_fetch.declared.error.LeafError.TheVariants as errors
 use Rattle.bc_step_rows.proofs.leaves.try_leaf.Goals as goal
 
 only_part : (number count : ℕ) → count ≡ 7 → 6 + number % (count - 6) ≡ 6

@@ -1,5 +1,5 @@
 use Rattle.std.proofs.Common.{ℕ, false}
-use Rattle.bc_job.specs.declared.job.Job.{Job}
+use Rattle.bc_request.specs.bc_job.declared.job.Job.{Job}
 use Rattle.bc_request.proofs.Lines.{line_same, no_line_same}
 use Rattle.bc_step_rows.proofs.Pieces.{all_still}
 use Rattle.bc_step_rows.proofs.lines.try_line.Goals as goal

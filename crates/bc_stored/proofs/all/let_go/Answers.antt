@@ -1,10 +1,10 @@
 use Rattle.std.proofs.Common.{◌≡◌, ◌+◌, List, ◌∷◌, drop, sym, ap, ◌∙◌, subst, arith, None, rules}
 use Rattle.std.proofs.lemmas.List.{drop_more}
-use Rattle.bc_deed.proofs.May.{did_nothing}
-use Rattle.bc_deed.proofs.Sequence.{done_first}
+use Rattle.bc_insert.proofs.of_bc_deed.May.{did_nothing}
+use Rattle.bc_insert.proofs.of_bc_deed.Sequence.{done_first}
 use Rattle.bc_fill.specs.declared.fill.Placed.{Placed}
-use Rattle.bc_hand.specs.Seats.{empty, world}
-use Rattle.bc_machine.specs.World.{FromEach}
+use Rattle.bc_insert.specs.bc_hand.Seats.{empty, world}
+use Rattle.bc_insert.specs.bc_machine.World.{FromEach}
 use Rattle.bc_stored.specs.All.{AreOwnApart}
 use Rattle.bc_stored.proofs.Letting.{rest_own, unpinned_more}
 use Rattle.bc_stored.proofs.all.let_go.Goals as goal

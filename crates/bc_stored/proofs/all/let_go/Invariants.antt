@@ -1,7 +1,7 @@
 use Rattle.std.proofs.Common.{◌≡◌, ◌+◌, ◌≤◌, drop, length, take}
-use Rattle.bc_deed.specs.Flushed.{HasDone}
-use Rattle.bc_hand.specs.Seats.{Works, empty, world}
-use Rattle.bc_machine.specs.World.{FromEach}
+use Rattle.bc_insert.specs.bc_deed.Flushed.{HasDone}
+use Rattle.bc_insert.specs.bc_hand.Seats.{Works, empty, world}
+use Rattle.bc_insert.specs.bc_machine.World.{FromEach}
 use Rattle.bc_stored.specs.All.{AreOwnApart, unpins}
 use Rattle.bc_stored.proofs.all.let_go.Given as goal
 

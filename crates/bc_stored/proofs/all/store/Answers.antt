@@ -3,10 +3,10 @@ use Rattle.std.specs.Prelude.{All}
 use Rattle.std.proofs.lemmas.List.{length-append, length-drop}
 use Rattle.std.proofs.lemmas.List.Elements.{All-push}
 use Rattle.bc_fill.specs.declared.fill.Placed.{Placed}
-use Rattle.bc_hand.specs.Seats.{world}
+use Rattle.bc_insert.specs.bc_hand.Seats.{world}
 use Rattle.bc_insert.specs.Write.{AreReady}
-use Rattle.bc_machine.specs.World.{FromEach}
-use Rattle.bc_place.specs.Named.{AreOnDevice, sectors_of}
+use Rattle.bc_insert.specs.bc_machine.World.{FromEach}
+use Rattle.bc_insert.specs.bc_place.Named.{AreOnDevice, sectors_of}
 use Rattle.bc_stored.specs.All.{AreOwnApart, HaveStored}
 use Rattle.bc_stored.specs.Stored.{HasStoredAt}
 use Rattle.bc_stored.proofs.Filling.{device_then, stored_then}

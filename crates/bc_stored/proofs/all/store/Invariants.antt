@@ -1,10 +1,10 @@
 use Rattle.std.proofs.Common.{◌≡◌, ◌+◌, ◌-◌, ◌*◌, ◌≤◌, length}
 use Rattle.std.specs.Prelude.{All, vec_capacity}
-use Rattle.bc_hand.specs.Seats.{Works, empty, world}
+use Rattle.bc_insert.specs.bc_hand.Seats.{Works, empty, world}
 use Rattle.bc_insert.specs.Write.{AreReady}
-use Rattle.bc_machine.specs.World.{FromEach}
-use Rattle.bc_place.specs.Named.{AreOnDevice, sectors_of}
-use Rattle.bc_place.specs.Place.{HasBefore}
+use Rattle.bc_insert.specs.bc_machine.World.{FromEach}
+use Rattle.bc_insert.specs.bc_place.Named.{AreOnDevice, sectors_of}
+use Rattle.bc_insert.specs.bc_place.Place.{HasBefore}
 use Rattle.bc_stored.specs.All.{HaveStored}
 use Rattle.bc_stored.proofs.all.store.Given as goal
 

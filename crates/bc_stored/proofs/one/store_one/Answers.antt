@@ -1,10 +1,10 @@
 use Rattle.std.proofs.Common.{◌-◌, drop, sym, ap, ◌∙◌, subst}
 use Rattle.std.specs.Prelude.{IfOk}
 use Rattle.std.proofs.lemmas.List.{length-drop}
-use Rattle.bc_hand.specs.Seats.{world}
-use Rattle.bc_machine.specs.World.{FromEach}
-use Rattle.bc_place.specs.Place.{HasGiven, HasPlaced, IsOwn}
-use Rattle.bc_place.specs.Written.{IsNew}
+use Rattle.bc_insert.specs.bc_hand.Seats.{world}
+use Rattle.bc_insert.specs.bc_machine.World.{FromEach}
+use Rattle.bc_insert.specs.bc_place.Place.{HasGiven, HasPlaced, IsOwn}
+use Rattle.bc_insert.specs.bc_place.Written.{IsNew}
 use Rattle.bc_stored.proofs.Storing.{keeps_let_go, why_not}
 use Rattle.bc_stored.proofs.one.store_one.Goals as goal
 

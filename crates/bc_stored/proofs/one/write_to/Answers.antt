@@ -1,5 +1,5 @@
 use Rattle.std.proofs.Common.{refl}
-use Rattle.bc_deed.proofs.May.{did_nothing}
+use Rattle.bc_insert.proofs.of_bc_deed.May.{did_nothing}
 use Rattle.bc_stored.proofs.one.write_to.Goals as goal
 
 pub returns-then-not-lies_before-clause-err : goal.returns-then-not-lies_before-clause-err

@@ -4,12 +4,12 @@ use Rattle.std.specs.Prelude.{Any, IfErr, IfOk, Result}
 use Rattle.bc_bucket.specs.declared.bucket.Bucket.{Bucket}
 use Rattle.bc_bucket.specs.declared.bucket.Mark.TheVariants as marks
 use Rattle.bc_cached_serve.specs.Run.{HasRunOver}
-use Rattle.bc_loaded.specs.declared.loading.Loaded.{Loaded}
-use Rattle.bc_open.specs.Left.{LeavesThePair}
-use Rattle.bc_open.proofs.Exits.{kept_self}
-use Rattle.bc_open.proofs.Left.{kept_leaves}
+use Rattle.bc_session_laws.specs.bc_loaded.declared.loading.Loaded.{Loaded}
+use Rattle.bc_session_laws.specs.bc_open.Left.{LeavesThePair}
+use Rattle.bc_session_laws.proofs.of_bc_open.Exits.{kept_self}
+use Rattle.bc_session_laws.proofs.of_bc_open.Left.{kept_leaves}
 use Rattle.bc_recover.specs.Read.{IsReadOf}
-use Rattle.bc_session.proofs.Stops.{held_on, left_back, load_stop, stands_kept}
+use Rattle.bc_session_laws.proofs.of_bc_session.Stops.{held_on, left_back, load_stop, stands_kept}
 use Rattle.bc_top.specs.Cached.{HasRunFrom}
 use Rattle.bc_top.specs.Idle.{left_with}
 use Rattle.bc_top.proofs.cached.run_reads.Goals as goal

@@ -1,6 +1,6 @@
 use Rattle.std.proofs.Common.{List, Option, ℕ, refl, subst}
 use Rattle.bc_script.specs.declared.answer.Answer.{Answer}
-use Rattle.bc_serve.specs.declared.closing.Closing.{Closing}
+use Rattle.bc_cached_serve.specs.bc_serve.declared.closing.Closing.{Closing}
 use Rattle.bc_top.specs.Cached.{closing_of, stopped_at}
 use Rattle.bc_top.specs.Ended.{IsEnd}
 use Rattle.bc_top.proofs.Reading.{reported_done, reported_served}

@@ -1,7 +1,7 @@
 use Rattle.std.specs.Prelude.{IfErr, Result, Err}
 use Rattle.std.proofs.Common.{◌≡◌, inr, ap, ◌∙◌, subst}
 use Rattle.bc_replay.specs.declared.error.OpenError.{OpenError}
-use Rattle.bc_session.specs.Idle.{IsIdleStop}
+use Rattle.bc_session_laws.specs.bc_session.Idle.{IsIdleStop}
 use Rattle.bc_output.specs.Message.{message_text}
 use Rattle.bc_top.specs.Ended.{IsPutOf}
 use Rattle.bc_top.specs.Stops.{message_of, status_of}

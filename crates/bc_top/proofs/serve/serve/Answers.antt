@@ -1,8 +1,8 @@
 use Rattle.std.proofs.Common.{◌≡◌, ◌||◌, inl, inr, Bool, List, [], None, true, false, sym, ap, ◌∙◌, subst, refl}
 use Rattle.bc_disk.specs.Device.{HasRisen}
 use Rattle.bc_disk.specs.Disk.{DiskFacts, IfTold}
-use Rattle.bc_machine.specs.declared.part.BackingPart.{BackingPart}
-use Rattle.bc_plain_laws.specs.Promises.{LeavesLastWrites, IsUntouched, Survives}
+use Rattle.bc_session_laws.specs.bc_machine.declared.part.BackingPart.{BackingPart}
+use Rattle.bc_session_laws.specs.bc_plain_laws.Promises.{LeavesLastWrites, IsUntouched, Survives}
 use Rattle.bc_script.specs.declared.answer.Answer.{Answer}
 use Rattle.bc_super.specs.Super.{data_sectors}
 use Rattle.bc_super.proofs.Told.{reads_before}
