@@ -4,7 +4,7 @@ use Rattle.bc_book.specs.Pass.{events_in}
 use Rattle.bc_started.specs.bc_deed.Flushed.{HasDone}
 use Rattle.bc_disk.specs.Disk.{DiskFacts}
 use Rattle.bc_disk.specs.declared.disk.Device.TheVariants.{Backing}
-use Rattle.bc_events.specs.Columns.{halt_of}
+use Rattle.bc_events.specs.Columns.{entries_of, halt_of}
 use Rattle.bc_events.specs.declared.event.Deed.{Deed}
 use Rattle.bc_events.specs.declared.event.Deed.TheVariants as deed
 use Rattle.bc_events.specs.declared.event.Event.{Event}
@@ -71,3 +71,4 @@ module _ {C B : Type 0} (cache_facts : C → DiskFacts) (backing_facts : B → D
         (world cache_facts backing_facts last)
     pub state : IsLastState backing_facts b dirty barrier r.result between.disk r.backing
     pub events : events_in r.pass ≡ last.seen
+    pub history : r.pass.entries.items ≡ entries_of last.seen

@@ -31,8 +31,8 @@ pub struct Idled<C, B> {
     pub result: Result<(), OpenError>,
 }
 
-// Whether one of the buckets has data that is in the cache alone.
-fn has_dirty(buckets: &[Bucket]) -> bool
+/// Whether one of the buckets has data that is in the cache alone.
+pub fn has_dirty(buckets: &[Bucket]) -> bool
     ensures { MatchBool result (Any (λ b. b.mark ≡ marks.Dirty) buckets.now)
         (¬ (Any (λ b. b.mark ≡ marks.Dirty) buckets.now)) }
 {

@@ -20,7 +20,7 @@ mod odd;
 mod opening;
 
 pub use closing::{CloseError, Closed, close};
-pub use idle::{Idled, open_and_close};
+pub use idle::{Idled, has_dirty, open_and_close};
 pub use opening::{NotOpened, open};
 
 // Passed on, so that a crate above need not list these.

@@ -28,4 +28,5 @@ returns g c = record {
   backing = c.end-cache.ensures.backing;
   state = c.last_state-result.ensures;
   events = c.end-cache.ensures.events;
+  history = c.end-cache.ensures.history;
 }
