@@ -18,3 +18,9 @@ pub mod flush;
 pub mod laws;
 pub mod said;
 pub mod sync;
+
+// Passed on, so that a crate above need not list these.
+pub use bc_entry::{bc_deed, bc_hand, bc_machine};
+pub use bc_request;
+pub use bc_request::bc_reads::bc_sight;
+pub use bc_request::{bc_fetch, bc_job};

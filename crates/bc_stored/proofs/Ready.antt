@@ -18,7 +18,7 @@ use Rattle.bc_model.proofs.Cases.{by_test}
 use Rattle.bc_model.proofs.Runs.{at_miss}
 use Rattle.bc_insert.specs.bc_place.Named.{AreFilled, IsApartFrom, IsFilled, sectors_of}
 use Rattle.bc_insert.specs.bc_place.Place.{IsOwn}
-use Rattle.bc_insert.specs.bc_place.Written.{AreApart, HasWritten, IsWrittenAt, with_written}
+use Rattle.bc_insert.specs.bc_place.Written.{AreApart, HasWritten, IsWrittenAt, KeepsPlaces, with_written}
 use Rattle.bc_stored.specs.Stored.{HasStoredAt}
 
 -- ---- one sector
@@ -196,6 +196,37 @@ module _ {C B : Type 0} (cache_facts : C → DiskFacts) (backing_facts : B → D
     new q (λ o is course. (h o is course).0.own) o is course,
     new_apart p new (first + q.count) want qs (λ o is course. (h o is course).1) o is course,
   )
+
+  -- ---- a way that leaves them alone
+
+  still : KeepsPlaces cache_facts backing_facts v w → Keeps 0 []
+  still keeps = record {
+    own = keeps.own;
+    written = λ known h. keeps.written known h;
+    apart = keeps.opening.apart;
+  }
+
+  pub filled_still : KeepsPlaces cache_facts backing_facts v w → (first : ℕ)
+      → (want : ℕ → Option Value) (ps : List Placed) → Before (AreFilled v.first first want ps)
+      → Behind (AreFilled w.first first want ps)
+  filled_still keeps first want [] h o is course = tt
+  filled_still keeps first want (q ∷ qs) h o is course = (
+    record {
+      own = keeps.own q (λ o is course. (h o is course).0.own) o is course;
+      holds = λ s t y there wants. one_kept 0 [] (still keeps) t y
+          (λ o is course. (h o is course).0.holds s t y there wants) o is course refl;
+    },
+    filled_still keeps (first + q.count) want qs (λ o is course. (h o is course).1) o is course,
+  )
+
+  pub ready_still : KeepsPlaces cache_facts backing_facts v w → (first : ℕ) (values : List Value)
+      (ps : List Placed) → Before (AreReady v.first first values ps)
+      → Behind (AreReady w.first first values ps)
+  ready_still keeps first values ps ready o is course = record {
+    filled = filled_still keeps first (at_run first values) ps (λ o is course. (ready o is course).filled)
+        o is course;
+    apart = apart_kept 0 [] (still keeps) ps (λ o is course. (ready o is course).apart) o is course;
+  }
 
 -- ---- one place more
 

@@ -26,7 +26,8 @@ use std::sync::Wait;
 /// `first` on.
 ///
 /// After an error each place that was pinned is let go. Room for four deeds a sector has to be
-/// promised before, since each may need a place of its own.
+/// promised before, since each may need a place of its own; of that there is enough left to let the
+/// places go that come back.
 pub fn store<C: Disk + Drop, B: Disk + Drop, R: Wait>(
     rt: &R,
     alloc: Global,
@@ -54,6 +55,9 @@ pub fn store<C: Disk + Drop, B: Disk + Drop, R: Wait>(
         (AreReady seat.new.first first values.now places.items)) }
     ensures device { IfOk result (λ places. AreOnDevice places.items) }
     ensures few { IfOk result (λ places. All (λ p. p.count ≤ 32768) places.items) }
+    ensures room { IfOk result (λ places. seat.old.promises + length places.items
+        ≤ seat.new.promises + 4 * length values.now) }
+    ensures left { seat.old.promises ≤ seat.new.promises + 4 * length values.now }
     ensures err { IfErr result (λ error. HaveNotStored C.facts B.facts before sectors error
         values.now seat.old seat.new) }
 {
@@ -78,8 +82,8 @@ pub fn store<C: Disk + Drop, B: Disk + Drop, R: Wait>(
     Ok(places)
 }
 
-// Lets these places go, one behind the other.
-fn let_go<C: Disk + Drop, B: Disk + Drop, R: Wait>(
+/// Lets these places of the seat go, one behind the other, also after a halt.
+pub fn let_go<C: Disk + Drop, B: Disk + Drop, R: Wait>(
     rt: &R,
     parts: &CoreParts<C, B>,
     seat: &mut CoreSeat<C, B>,
@@ -95,6 +99,7 @@ fn let_go<C: Disk + Drop, B: Disk + Drop, R: Wait>(
     ensures works { Works C.facts B.facts parts.now seat.new hand.new }
     ensures empty { hand.new ≡ empty }
     ensures done { HasDone C.facts B.facts (unpins places.now) seat.old seat.new }
+    ensures left { seat.old.promises ≡ seat.new.promises + length places.now }
 {
     for place in places {
         unpin(rt, parts, seat, hand, *place);

@@ -10,3 +10,7 @@
 pub mod all;
 pub mod error;
 pub mod one;
+
+// Passed on, so that a crate above need not list these.
+pub use bc_insert;
+pub use bc_insert::{bc_hand, bc_machine, bc_place};

@@ -13,11 +13,10 @@ pub loop-place-init : goal.loop-place-init
 loop-place-init g c =
     let cf = g.C.Disk.facts in
     let bf = g.B.Disk.facts in
-    let v = c.args.seat.now in
-    let promised = c.requires.promise in (
+    let v = c.args.seat.now in (
       c.requires.works,
       c.requires.empty,
-      omega (arith, promised),
+      omega arith,
       c.requires.own,
       done_first cf bf None v v (did_nothing cf bf v c.requires.works.seat),
     )

@@ -13,7 +13,7 @@ invariant-loop-done g l = Works g.C.Disk.facts g.B.Disk.facts l.parts l.seat l.h
     × (l.hand ≡ empty) × (length l.places.items ≤ l.done)
     × (length l.values ≤ vec_capacity l.places) × (l.done ≡ sectors_of l.places.items)
     × (l.done ≤ length l.values)
-    × (4 * length l.values + length l.places.items ≤ l.seat.promises + 4 * l.done)
+    × (l.initial.seat.promises + length l.places.items ≤ l.seat.promises + 4 * l.done)
     × FromEach (world g.C.Disk.facts g.B.Disk.facts l.seat) (HasBefore l.before)
     × HaveStored g.C.Disk.facts g.B.Disk.facts l.before l.sectors l.places.items l.values
     l.initial.seat l.seat

@@ -1,0 +1,11 @@
+pub mod Writing
+pub mod Holding
+pub mod Counting
+pub mod Last
+pub mod Keyed
+pub mod Finding
+pub mod Looked
+pub mod Owing
+pub mod Steps
+pub mod Going
+pub mod Pieces

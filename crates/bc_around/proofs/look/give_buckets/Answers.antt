@@ -1,0 +1,13 @@
+use Rattle.std.proofs.Common.{None}
+use Rattle.bc_flush.proofs.of_bc_hand.Between.{did_between}
+use Rattle.bc_flush.proofs.of_bc_deed.May.{did_nothing}
+use Rattle.bc_around.proofs.look.give_buckets.Goals as goal
+
+pub returns-clause-waited : goal.returns-clause-waited
+returns-clause-waited g c = (did_between g.C.Disk.facts g.B.Disk.facts None c.args.seat.now
+    c.borrow_buckets-buckets.new.seat c.borrow_buckets-buckets.new.seat c.return_buckets.new.seat
+    c.borrow_buckets-buckets.ensures.still c.borrow_buckets-buckets.ensures.waited
+    (did_nothing g.C.Disk.facts g.B.Disk.facts c.borrow_buckets-buckets.new.seat
+    c.borrow_buckets-buckets.ensures.lent.seat) c.return_buckets.ensures.waited
+    c.return_buckets.ensures.seen c.return_buckets.ensures.heard
+    c.return_buckets.ensures.works.seat).is

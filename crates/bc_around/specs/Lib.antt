@@ -1,0 +1,5 @@
+pub mod Bare
+pub mod Look
+pub mod Owed
+pub mod Past
+pub mod Alone

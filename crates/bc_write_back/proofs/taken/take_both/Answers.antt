@@ -1,0 +1,68 @@
+use Rattle.std.proofs.Common.{Some, ap, ◌∙◌}
+use Rattle.bc_stored.specs.bc_hand.declared.hand.Hand.{Hand}
+use Rattle.bc_write_back.proofs.Coming.{took}
+use Rattle.bc_write_back.proofs.Hands.{three}
+use Rattle.bc_write_back.proofs.taken.take_both.Goals as goal
+
+pub borrow_buckets-buckets-requires-clause-order : goal.borrow_buckets-buckets-requires-clause-order
+borrow_buckets-buckets-requires-clause-order g c = λ _. record {
+  journal = ap (λ (h : Hand _ _). h.journal) c.requires.leaves;
+  cache = ap (λ (h : Hand _ _). h.cache) c.requires.leaves;
+  backing = ap (λ (h : Hand _ _). h.backing) c.requires.leaves;
+}
+
+pub borrow_journal-journal-requires-clause-order : goal.borrow_journal-journal-requires-clause-order
+borrow_journal-journal-requires-clause-order g c = λ _. record {
+  cache = ap (λ (h : Hand _ _). h.cache) c.return_buckets.ensures.hand
+      ∙ ap (λ (h : Hand _ _). h.cache) c.borrow_buckets-buckets.ensures.hand
+      ∙ ap (λ (h : Hand _ _). h.cache) c.requires.leaves;
+  backing = ap (λ (h : Hand _ _). h.backing) c.return_buckets.ensures.hand
+      ∙ ap (λ (h : Hand _ _). h.backing) c.borrow_buckets-buckets.ensures.hand
+      ∙ ap (λ (h : Hand _ _). h.backing) c.requires.leaves;
+}
+
+pub returns-clause-done : goal.returns-clause-done
+returns-clause-done g c = took g.C.Disk.facts g.B.Disk.facts c.args.seat.now
+    c.borrow_buckets-buckets.new.seat c.return_buckets.new.seat c.borrow_journal-journal.new.seat
+    c.return_journal.new.seat c.borrow_buckets-buckets.ensures.lent.seat
+    c.borrow_buckets-buckets.ensures.waited c.return_buckets.ensures.works.seat
+    c.return_buckets.ensures.waited c.borrow_journal-journal.ensures.lent.seat
+    c.borrow_journal-journal.ensures.waited c.return_journal.ensures.works.seat
+    c.return_journal.ensures.waited
+
+pub returns-clause-promises : goal.returns-clause-promises
+returns-clause-promises g c = c.return_journal.ensures.waited.promises
+    ∙ c.borrow_journal-journal.ensures.waited.promises ∙ c.return_buckets.ensures.waited.promises
+    ∙ c.borrow_buckets-buckets.ensures.waited.promises
+
+pub returns-clause-leaves : goal.returns-clause-leaves
+returns-clause-leaves g c = ap (λ (h : Hand _ _). h.leaves) c.return_journal.ensures.hand
+    ∙ ap (λ (h : Hand _ _). h.leaves) c.borrow_journal-journal.ensures.hand
+    ∙ ap (λ (h : Hand _ _). h.leaves) c.return_buckets.ensures.hand
+    ∙ ap (λ (h : Hand _ _). h.leaves) c.borrow_buckets-buckets.ensures.hand
+
+pub returns-clause-buckets : goal.returns-clause-buckets
+returns-clause-buckets g c = (
+  c.borrow_buckets-buckets.result.0,
+  ap (λ (h : Hand _ _). h.buckets) c.return_journal.ensures.hand
+      ∙ ap (λ (h : Hand _ _). h.buckets) c.borrow_journal-journal.ensures.hand
+      ∙ ap (λ (h : Hand _ _). h.buckets) c.return_buckets.ensures.hand,
+)
+
+pub returns-clause-journal : goal.returns-clause-journal
+returns-clause-journal g c = (
+  c.borrow_journal-journal.result.0,
+  ap (λ (h : Hand _ _). h.journal) c.return_journal.ensures.hand,
+)
+
+pub returns-clause-kinds : goal.returns-clause-kinds
+returns-clause-kinds g c = λ l is.
+    let k = c.borrow_buckets-buckets.result.0 in
+    let j = c.borrow_journal-journal.result.0 in
+    three c.args.hand.now c.return_journal.new.hand l k j is
+    (c.return_journal.ensures.hand
+    ∙ ap (λ (h : Hand _ _). record h { journal = Some j }) c.borrow_journal-journal.ensures.hand
+    ∙ ap (λ (h : Hand _ _). record h { journal = Some j }) c.return_buckets.ensures.hand
+    ∙ ap (λ (h : Hand _ _). record h { buckets = Some k; journal = Some j })
+    c.borrow_buckets-buckets.ensures.hand
+    ∙ ap (λ (h : Hand _ _). record h { buckets = Some k; journal = Some j }) c.requires.leaves)
