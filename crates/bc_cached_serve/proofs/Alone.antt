@@ -1,5 +1,5 @@
 -- What a seat did behind what was done before, where no other seat did anything.
-use Rattle.std.proofs.Common.{◌≡◌, ◌≢◌, ℕ, ◌<◌, List, [], ◌∷◌, ◌++◌, refl, sym, ap, ◌∙◌, subst}
+use Rattle.std.proofs.Common.{◌≡◌, ◌≢◌, ℕ, ◌<◌, List, [], ◌∷◌, ◌++◌, append-nil, refl, sym, ap, ◌∙◌, subst}
 use Rattle.std.specs.Prelude.{map, if◌then◌else◌}
 use Rattle.std.proofs.lemmas.Bool.{ltb-true}
 use Rattle.bc_disk.specs.Disk.{DiskFacts}
@@ -36,6 +36,16 @@ own_both i (x ∷ xs) ys = by_test x.seat i
     ≡ (if b then x ∷ events_by i xs else events_by i xs) ++ events_by i ys)
     (λ same. ap (λ (l : List Event). x ∷ l) (own_both i xs ys)) (λ other. own_both i xs ys)
 
+found : (e : Event) (es : List Event) → events_by e.seat (e ∷ es) ≡ [] → ⊥
+found e es at = by_test e.seat e.seat
+    (λ b. (if b then e ∷ events_by e.seat es else events_by e.seat es) ≡ [] → ⊥)
+    (λ same is. cc) (λ no is. no refl) at
+
+-- where no seat did anything nothing happened
+none_left : (es : List Event) → AreBySeats es → ((n : ℕ) → n < 320 → events_by n es ≡ []) → es ≡ []
+none_left [] seats none = refl
+none_left (e ∷ es) seats none = absurd (found e es (none e.seat seats.0))
+
 -- where no other seat did anything all is this one's
 sole : (i : ℕ) (es : List Event) → AreBySeats es
     → ((n : ℕ) → n < 320 → n ≢ i → events_by n es ≡ []) → es ≡ events_by i es
@@ -43,20 +53,15 @@ sole i [] seats none = refl
 sole i (e ∷ es) seats none = by_test e.seat i
     (λ b. e ∷ es ≡ (if b then e ∷ events_by i es else events_by i es))
     (λ same. ap (λ (l : List Event). e ∷ l) (sole i es seats.1 rest))
-    (λ other. absurd (found (none e.seat seats.0 other)))
+    (λ other. absurd (found e es (none e.seat seats.0 other)))
   where
     rest : (n : ℕ) → n < 320 → n ≢ i → events_by n es ≡ []
     rest n low other = by_test e.seat n
         (λ b. (if b then e ∷ events_by n es else events_by n es) ≡ [] → events_by n es ≡ [])
         (λ same at. absurd (cc)) (λ no at. at) (none n low other)
 
-    found : events_by e.seat (e ∷ es) ≡ [] → ⊥
-    found at = by_test e.seat e.seat
-        (λ b. (if b then e ∷ events_by e.seat es else events_by e.seat es) ≡ [] → ⊥)
-        (λ same is. cc) (λ no is. no refl) at
-
 -- what stands behind a list and leaves it as it is is nothing
-nothing_behind : (xs ys : List Event) → xs ++ ys ≡ xs → ys ≡ []
+pub nothing_behind : (xs ys : List Event) → xs ++ ys ≡ xs → ys ≡ []
 nothing_behind [] ys is = is
 nothing_behind (x ∷ xs) ys is = nothing_behind xs ys (let same : xs ++ ys ≡ xs = cc in same)
 
@@ -96,3 +101,12 @@ module _ {C B : Type 0} (cache_facts : C → DiskFacts) (backing_facts : B → D
       same_behind (events_by i old) (events_by i more) (map (by i) ds)
       (sym (own_both i old more) ∙ ap (λ (l : List Event). events_by i l) (sym is) ∙ own) in
       is ∙ ap (λ (l : List Event). old ++ l) (sole i more seats none ∙ mine)
+
+  -- nothing comes behind these, of which no seat did anything more
+  pub ended_there : (start : World) (old new more : List Event)
+      → IsRun (m cache_facts backing_facts) start new → new ≡ old ++ more
+      → ((n : ℕ) → n < 320 → events_by n more ≡ []) → old ≡ new
+  ended_there start old new more run is none =
+      let nothing = none_left more (by_behind old more
+      (subst AreBySeats is (run_by_seats cache_facts backing_facts new start run))) none in
+      sym (is ∙ ap (λ (l : List Event). old ++ l) nothing ∙ append-nil old)

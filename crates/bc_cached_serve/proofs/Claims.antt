@@ -11,9 +11,9 @@ use Rattle.bc_events.specs.declared.event.Deed.TheVariants as deed
 use Rattle.bc_events.specs.declared.event.Event.{Event}
 use Rattle.bc_events.specs.declared.event.Failure.TheVariants as failure
 use Rattle.bc_events.specs.declared.event.LineNumber.{LineNumber}
-use Rattle.bc_request.specs.bc_fetch.Fetch.{HasReadOne, HasStoppedAt, node_read}
-use Rattle.bc_request.specs.bc_fetch.declared.error.LeafError.{LeafError}
-use Rattle.bc_request.specs.bc_fetch.declared.error.LeafError.TheVariants as leaf
+use Rattle.bc_flush.specs.bc_fetch.Fetch.{HasReadOne, HasStoppedAt, node_read}
+use Rattle.bc_flush.specs.bc_fetch.declared.error.LeafError.{LeafError}
+use Rattle.bc_flush.specs.bc_fetch.declared.error.LeafError.TheVariants as leaf
 use Rattle.bc_flight.specs.declared.claim.Share.TheVariants.{Shared}
 use Rattle.bc_serve.proofs.of_bc_hand.Knowing.{View}
 use Rattle.bc_serve.specs.bc_hand.declared.error.StepError.{StepError}
@@ -25,13 +25,13 @@ use Rattle.bc_serve.specs.bc_machine.declared.part.CorePart.{CorePart}
 use Rattle.bc_model.specs.Sector.{Value}
 use Rattle.bc_model.specs.declared.history.Entry.TheVariants as entry
 use Rattle.bc_parts.specs.Seat.{PartsView}
-use Rattle.bc_request.specs.bc_reader.Claimed.{HasAnswered, HasNotAnswered, HasTried, MayHaveTurned, ReadStop}
-use Rattle.bc_request.specs.bc_reader.Deeds.{IsHaltAt}
-use Rattle.bc_request.specs.bc_reader.Look.{HasSeen, IsStoppedIn, IsWay, LookStop, NotSeen}
-use Rattle.bc_request.specs.bc_reader.declared.error.ReadError.{ReadError}
-use Rattle.bc_request.specs.bc_reader.declared.error.ReadError.TheVariants as error
-use Rattle.bc_request.specs.bc_reader.declared.look.Seen.{Seen}
-use Rattle.bc_request.specs.Piece.{HasNotClaimed, HasNotReadPiece, HasReadPiece, HasStoppedUnder}
+use Rattle.bc_flush.specs.bc_reader.Claimed.{HasAnswered, HasNotAnswered, HasTried, MayHaveTurned, ReadStop}
+use Rattle.bc_flush.specs.bc_reader.Deeds.{IsHaltAt}
+use Rattle.bc_flush.specs.bc_reader.Look.{HasSeen, IsStoppedIn, IsWay, LookStop, NotSeen}
+use Rattle.bc_flush.specs.bc_reader.declared.error.ReadError.{ReadError}
+use Rattle.bc_flush.specs.bc_reader.declared.error.ReadError.TheVariants as error
+use Rattle.bc_flush.specs.bc_reader.declared.look.Seen.{Seen}
+use Rattle.bc_flush.specs.bc_request.Piece.{HasNotClaimed, HasNotReadPiece, HasReadPiece, HasStoppedUnder}
 use Rattle.bc_cached_serve.proofs.Going.{HasRead, Reads, either_read, none_read, reads_both, reads_none, runs_read, then_read}
 use Rattle.bc_cached_serve.proofs.Stops.{HasStoppedReading, ReadStops, StepStops, runs_stop, stopped_still, stops_still, then_stopped}
 

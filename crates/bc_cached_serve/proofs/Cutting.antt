@@ -1,4 +1,4 @@
--- A seat that is cut off from one that did all that has happened.
+-- The seat of worker 1, which is cut off from one that did all that has happened.
 use Rattle.std.proofs.Common.{◌≡◌, ◌^◌, ◌<◌, List, [], ◌∷◌, refl, sym, ap, ◌∙◌, subst, arith}
 use Rattle.std.specs.Prelude.{All, false, length, map}
 use Rattle.std.proofs.lemmas.List.Elements.{All-cons, All-nil}
@@ -10,23 +10,16 @@ use Rattle.bc_serve.proofs.of_bc_hand.Knowing.{IsFresh, View, fresh_since, m}
 use Rattle.bc_serve.specs.bc_hand.Seats.{Works, by, empty, note, world}
 use Rattle.bc_serve.proofs.of_bc_machine.Viewing.{new_view}
 use Rattle.bc_serve.specs.bc_machine.Note.{note_by}
-use Rattle.bc_serve.specs.bc_machine.World.{are_plain}
+use Rattle.bc_serve.specs.bc_machine.World.{FromEach, are_plain}
 use Rattle.bc_serve.specs.bc_machine.declared.part.CorePart.{CorePart}
 use Rattle.bc_parts.specs.Seat.{PartsView}
-use Rattle.bc_request.specs.Asked.{IsIdle}
 use Rattle.bc_seats.specs.Seats.{Foreign, Since}
 use Rattle.bc_serve.specs.Run.{events_by}
 use Rattle.bc_cached_serve.proofs.Alone.{none_by}
-use Rattle.bc_cached_serve.specs.Run.{IsAlone, kept_seat, worker_seat}
+use Rattle.bc_cached_serve.specs.Run.{IsAlone}
+use Rattle.bc_cached_serve.specs.Worker.{AreAllDurable, IsReady, kept_seat, worker_seat}
 
 module _ {C B : Type 0} (cache_facts : C → DiskFacts) (backing_facts : B → DiskFacts) where
-  pub kept_works : (p : PartsView (CorePart C B)) (v : View cache_facts backing_facts)
-      → Works cache_facts backing_facts p v empty → IsAlone cache_facts backing_facts v
-      → Works cache_facts backing_facts p (kept_seat cache_facts backing_facts v) empty
-  kept_works p v works alone =
-      let a = alone.all.first in let b = alone.all.end in
-      works_kept_half cache_facts backing_facts p v 16 works (omega arith) (omega arith)
-
   -- the worker's seat before anything has happened
   abbrev newborn : View cache_facts backing_facts → View cache_facts backing_facts
   newborn v = record v { first = 16; seen = []; parts = []; promises = 0 }
@@ -50,7 +43,7 @@ module _ {C B : Type 0} (cache_facts : C → DiskFacts) (backing_facts : B → D
         (foreign_deeds v alone.deeds);
   }
 
-  pub worker_works : (p : PartsView (CorePart C B)) (v : View cache_facts backing_facts)
+  worker_works : (p : PartsView (CorePart C B)) (v : View cache_facts backing_facts)
       → Works cache_facts backing_facts p v empty → IsAlone cache_facts backing_facts v
       → Works cache_facts backing_facts p (worker_seat cache_facts backing_facts v) empty
   worker_works p v works alone =
@@ -73,23 +66,36 @@ module _ {C B : Type 0} (cache_facts : C → DiskFacts) (backing_facts : B → D
       }
 
   -- it has claimed nothing
-  pub worker_unclaimed : (v : View cache_facts backing_facts) → IsAlone cache_facts backing_facts v
+  worker_unclaimed : (v : View cache_facts backing_facts) → IsAlone cache_facts backing_facts v
       → (note cache_facts backing_facts (worker_seat cache_facts backing_facts v)).range.count ≡ 0
   worker_unclaimed v alone = ap (λ (es : List Event).
       (note_by (are_plain cache_facts backing_facts v.run.start) es).range.count)
       (ap (λ (es : List Event). events_by 16 es) alone.seen
       ∙ none_by 16 0 alone.deeds (λ is. omega (arith, is)))
 
-  pub worker_idle : (p : PartsView (CorePart C B)) (v o : View cache_facts backing_facts)
-      → o ≡ worker_seat cache_facts backing_facts v
-      → Works cache_facts backing_facts p o empty → IsAlone cache_facts backing_facts v
+  -- so it can serve lines, where all that came in is durable
+  pub ready_alone : (p : PartsView (CorePart C B)) (v : View cache_facts backing_facts)
+      → Works cache_facts backing_facts p v empty → IsAlone cache_facts backing_facts v
       → are_plain cache_facts backing_facts p.run.start ≡ false
       → (6 < length p.run.start) × (length p.run.start < 2 ^ 32)
-      → IsIdle cache_facts backing_facts p o
-  worker_idle p v o is works alone cached leaves = record {
+      → FromEach (world cache_facts backing_facts v) AreAllDurable
+      → IsReady cache_facts backing_facts p v
+  ready_alone p v works alone cached leaves durable = record {
+    all = alone.all;
     works = works;
-    cached = cached;
-    leaves = leaves;
-    unclaimed = ap (λ (x : View cache_facts backing_facts).
-        (note cache_facts backing_facts x).range.count) is ∙ worker_unclaimed v alone;
+    worker = record {
+      works = worker_works p v works alone;
+      cached = cached;
+      leaves = leaves;
+      unclaimed = worker_unclaimed v alone;
+    };
+    durable = durable;
   }
+
+  -- what is left of it
+  pub kept_works : (p : PartsView (CorePart C B)) (v : View cache_facts backing_facts)
+      → IsReady cache_facts backing_facts p v
+      → Works cache_facts backing_facts p (kept_seat cache_facts backing_facts v) empty
+  kept_works p v ready =
+      let a = ready.all.first in let b = ready.all.end in
+      works_kept_half cache_facts backing_facts p v 16 ready.works (omega arith) (omega arith)

@@ -5,20 +5,42 @@ use Rattle.bc_serve.specs.bc_deed.Flushed.{HasDone}
 use Rattle.bc_disk.specs.Disk.{DiskFacts}
 use Rattle.bc_events.specs.declared.event.Deed.{Deed}
 use Rattle.bc_events.specs.declared.event.Deed.TheVariants as deed
+use Rattle.bc_events.specs.declared.event.Failure.{Failure}
+use Rattle.bc_events.specs.declared.event.Failure.TheVariants as failure
 use Rattle.bc_serve.proofs.of_bc_hand.Knowing.{View}
 use Rattle.bc_model.specs.Sector.{Value}
 use Rattle.bc_model.specs.declared.history.Entry.{Entry}
-use Rattle.bc_request.specs.bc_reader.Deeds.{AreRunDeeds, AreRunsDeeds, HasTurned}
-use Rattle.bc_request.specs.bc_reads.declared.runs.ReadRun.{ReadRun}
+use Rattle.bc_flush.specs.bc_reader.Deeds.{AreRunDeeds, AreRunsDeeds, HasTurned}
+use Rattle.bc_flush.specs.bc_reads.declared.runs.ReadRun.{ReadRun}
 use Rattle.bc_serve.specs.Causes.{entries_by}
 use Rattle.bc_serve.proofs.Lists.{entries_both}
-use Rattle.bc_cached_serve.specs.Deeds.{AreReading, AreTurned, GoesOn, IsTurned}
+use Rattle.bc_cached_serve.specs.Deeds.{AreKeeping, AreReading, AreTurned, GoesOn, IsKeeping, IsRead, IsReadOrBarrier, IsReading, IsTurned}
 
 -- ---- lists
 
 pub reading_both : (xs ys : List Deed) → AreReading xs → AreReading ys → AreReading (xs ++ ys)
 reading_both [] ys a b = b
 reading_both (x ∷ xs) ys a b = (a.0, reading_both xs ys a.1 b)
+
+-- what reads changes no value
+fault_keeps : (x : Failure) → IsRead x → IsReadOrBarrier x
+fault_keeps (failure.Read which) is = tt
+fault_keeps x is = absurd is
+
+reading_keeps : (d : Deed) → IsReading d → IsKeeping d
+reading_keeps (deed.FlushFrom of) is = tt
+reading_keeps deed.BackingBarrier is = tt
+reading_keeps (deed.FlushDone of) is = tt
+reading_keeps (deed.DeviceFault x) is = fault_keeps x is
+reading_keeps d is = is
+
+pub keeping_of : (ds : List Deed) → AreReading ds → AreKeeping ds
+keeping_of [] are = tt
+keeping_of (d ∷ ds) are = (reading_keeps d are.0, keeping_of ds are.1)
+
+pub keeping_both : (xs ys : List Deed) → AreKeeping xs → AreKeeping ys → AreKeeping (xs ++ ys)
+keeping_both [] ys a b = b
+keeping_both (x ∷ xs) ys a b = (a.0, keeping_both xs ys a.1 b)
 
 goes_behind : (cut : Bool) (xs ys : List Deed) → GoesOn false xs → GoesOn cut (xs ++ ys)
 goes_behind cut [] ys is = absurd (cc)

@@ -11,7 +11,7 @@ use Rattle.bc_events.specs.declared.event.Deed.TheVariants as deed
 use Rattle.bc_events.specs.declared.event.Event.{Event}
 use Rattle.bc_events.specs.declared.event.Failure.TheVariants as failure
 use Rattle.bc_events.specs.declared.event.LineNumber.{LineNumber}
-use Rattle.bc_request.specs.bc_fetch.declared.error.LeafError.TheVariants as leaf
+use Rattle.bc_flush.specs.bc_fetch.declared.error.LeafError.TheVariants as leaf
 use Rattle.bc_serve.proofs.of_bc_hand.Knowing.{View}
 use Rattle.bc_serve.specs.bc_hand.Seats.{IsCoreSeat}
 use Rattle.bc_serve.specs.bc_hand.declared.error.StepError.TheVariants as step
@@ -24,12 +24,12 @@ use Rattle.bc_model.specs.Sector.{Value}
 use Rattle.bc_model.specs.declared.history.Entry.{Entry}
 use Rattle.bc_model.specs.declared.history.Entry.TheVariants as entry
 use Rattle.bc_parts.specs.Seat.{PartsView}
-use Rattle.bc_request.specs.bc_reader.declared.error.ReadError.{ReadError}
-use Rattle.bc_request.specs.bc_reader.declared.error.ReadError.TheVariants as error
-use Rattle.bc_request.specs.Line.{HasNotReadLine, HasReadLine, HasReadPieces, HasRefusedAt}
-use Rattle.bc_request.specs.Refusals.{refusal}
-use Rattle.bc_request.specs.declared.error.RequestError.{RequestError}
-use Rattle.bc_request.specs.declared.error.RequestError.TheVariants as request
+use Rattle.bc_flush.specs.bc_reader.declared.error.ReadError.{ReadError}
+use Rattle.bc_flush.specs.bc_reader.declared.error.ReadError.TheVariants as error
+use Rattle.bc_flush.specs.bc_request.Line.{HasNotReadLine, HasReadLine, HasReadPieces, HasRefusedAt}
+use Rattle.bc_flush.specs.bc_request.Refusals.{refusal}
+use Rattle.bc_flush.specs.bc_request.declared.error.RequestError.{RequestError}
+use Rattle.bc_flush.specs.bc_request.declared.error.RequestError.TheVariants as request
 use Rattle.bc_script.specs.Served.{ServesPartRead, ServesRead}
 use Rattle.bc_script.specs.declared.answer.Answer.{Answer}
 use Rattle.bc_script.specs.declared.answer.Answer.TheVariants.{Runs, Refused}
@@ -38,7 +38,7 @@ use Rattle.bc_script.specs.declared.answer.Refusal.TheVariants as refusals
 use Rattle.bc_serve.proofs.Lists.{entries_both}
 use Rattle.bc_serve.specs.Causes.{entries_by}
 use Rattle.bc_cached_serve.proofs.Claims.{piece_read, piece_stops}
-use Rattle.bc_cached_serve.proofs.Going.{HasRead, none_read, reading_both, then_read, turned_both}
+use Rattle.bc_cached_serve.proofs.Going.{HasRead, keeping_of, none_read, reading_both, then_read, turned_both}
 use Rattle.bc_cached_serve.proofs.Stops.{ReadStops, stops_behind}
 use Rattle.bc_cached_serve.specs.Answered.{HasAnsweredRead, HasStoppedRead}
 use Rattle.bc_cached_serve.specs.Deeds.{AreReading, AreTurned, HasFailedAt, HaveEnded, IsRefusedBy}
@@ -234,7 +234,7 @@ module _ {C B : Type 0} (cache_facts : C → DiskFacts) (backing_facts : B → D
       (nothing_read v seat) h.1 in record {
         deeds = all.read.deeds;
         done = all.read.done;
-        reading = all.read.reads.reading;
+        keeping = keeping_of all.read.deeds all.read.reads.reading;
         serves = (
           h.0,
           refl,
@@ -299,7 +299,7 @@ module _ {C B : Type 0} (cache_facts : C → DiskFacts) (backing_facts : B → D
       let all = refused_at job e v w seat h in record {
         deeds = all.deeds;
         done = all.done;
-        reading = all.reading;
+        keeping = keeping_of all.deeds all.reading;
         serves = serves_part cause why job (entries_by all.deeds) here all.part;
         caused = caused_by cause why w.seen all.deeds here all.ends;
         did = (e, is, none);
@@ -315,7 +315,7 @@ module _ {C B : Type 0} (cache_facts : C → DiskFacts) (backing_facts : B → D
         done = subst (λ (x : View cache_facts backing_facts).
             HasDone cache_facts backing_facts [] v x) (sym h.1)
             (done_none cache_facts backing_facts v seat);
-        reading = tt;
+        keeping = tt;
         serves = (h.0, refl);
         caused = refl;
         did = (request.OutOfRange, refl, h);
@@ -349,7 +349,7 @@ module _ {C B : Type 0} (cache_facts : C → DiskFacts) (backing_facts : B → D
       let all = refused_at job e v w seat h in record {
         deeds = all.deeds;
         done = all.done;
-        reading = all.reading;
+        keeping = keeping_of all.deeds all.reading;
         serves = all.part;
         turned = unsound_turned cause w.seen all.deeds
             (subst (λ (x : RequestError). IsUnsound x) h.stop.is is) all.ends;

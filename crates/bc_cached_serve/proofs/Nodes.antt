@@ -3,7 +3,7 @@ use Rattle.std.specs.Prelude.{◌≢◌, ℕ, List}
 use Rattle.std.proofs.Common.{inl, inr, refl, sym, subst}
 use Rattle.bc_disk.specs.Disk.{DiskFacts}
 use Rattle.bc_disk.specs.declared.geometry.Geometry.{Geometry}
-use Rattle.bc_request.specs.bc_fetch.declared.error.LeafError.TheVariants as leaf
+use Rattle.bc_flush.specs.bc_fetch.declared.error.LeafError.TheVariants as leaf
 use Rattle.bc_serve.proofs.of_bc_hand.Knowing.{View}
 use Rattle.bc_serve.specs.bc_hand.declared.error.StepError.TheVariants as step
 use Rattle.bc_serve.specs.bc_job.declared.job.Job.{Job}
@@ -13,14 +13,14 @@ use Rattle.bc_node.specs.Loading.{IsNotDecoded}
 use Rattle.bc_node.specs.declared.error.NodeError.{NodeError}
 use Rattle.bc_node.specs.declared.error.NodeError.TheVariants as node
 use Rattle.bc_parts.specs.Seat.{PartsView}
-use Rattle.bc_request.specs.bc_reader.Look.{NotSeen}
-use Rattle.bc_request.specs.bc_reader.declared.error.ReadError.{ReadError}
-use Rattle.bc_request.specs.bc_reader.declared.error.ReadError.TheVariants as error
-use Rattle.bc_request.specs.Line.{HasNotReadLine, HasRefusedAt}
-use Rattle.bc_request.specs.Piece.{HasNotReadPiece}
-use Rattle.bc_request.specs.Refusals.{refusal}
-use Rattle.bc_request.specs.declared.error.RequestError.{RequestError}
-use Rattle.bc_request.specs.declared.error.RequestError.TheVariants as request
+use Rattle.bc_flush.specs.bc_reader.Look.{NotSeen}
+use Rattle.bc_flush.specs.bc_reader.declared.error.ReadError.{ReadError}
+use Rattle.bc_flush.specs.bc_reader.declared.error.ReadError.TheVariants as error
+use Rattle.bc_flush.specs.bc_request.Line.{HasNotReadLine, HasRefusedAt}
+use Rattle.bc_flush.specs.bc_request.Piece.{HasNotReadPiece}
+use Rattle.bc_flush.specs.bc_request.Refusals.{refusal}
+use Rattle.bc_flush.specs.bc_request.declared.error.RequestError.{RequestError}
+use Rattle.bc_flush.specs.bc_request.declared.error.RequestError.TheVariants as request
 use Rattle.bc_cached_serve.specs.Refusals.{IsNoNode, NamesNoNode}
 
 no_node : (g : Geometry) (key : Key) (from : ℕ) (bytes : List ℕ) (e : NodeError)

@@ -10,16 +10,16 @@ use Rattle.bc_events.specs.declared.event.Deed.{Deed}
 use Rattle.bc_events.specs.declared.event.Deed.TheVariants as deed
 use Rattle.bc_events.specs.declared.event.Event.{Event}
 use Rattle.bc_events.specs.declared.event.Failure.TheVariants as failure
-use Rattle.bc_request.specs.bc_fetch.declared.error.LeafError.TheVariants as leaf
+use Rattle.bc_flush.specs.bc_fetch.declared.error.LeafError.TheVariants as leaf
 use Rattle.bc_serve.proofs.of_bc_hand.Knowing.{View}
 use Rattle.bc_serve.specs.bc_hand.declared.error.StepError.{StepError}
 use Rattle.bc_serve.specs.bc_hand.declared.error.StepError.TheVariants as step
 use Rattle.bc_serve.proofs.of_bc_job.Holding.{halted_still}
 use Rattle.bc_model.specs.declared.history.Entry.{Entry}
-use Rattle.bc_request.specs.bc_reader.Deeds.{HasTurned, IsHaltAt, RunStop, RunsStop, backing_fault, cache_fault}
-use Rattle.bc_request.specs.bc_reader.declared.error.ReadError.{ReadError}
-use Rattle.bc_request.specs.bc_reader.declared.error.ReadError.TheVariants as error
-use Rattle.bc_request.specs.bc_reads.declared.runs.ReadRun.{ReadRun}
+use Rattle.bc_flush.specs.bc_reader.Deeds.{HasTurned, IsHaltAt, RunStop, RunsStop, backing_fault, cache_fault}
+use Rattle.bc_flush.specs.bc_reader.declared.error.ReadError.{ReadError}
+use Rattle.bc_flush.specs.bc_reader.declared.error.ReadError.TheVariants as error
+use Rattle.bc_flush.specs.bc_reads.declared.runs.ReadRun.{ReadRun}
 use Rattle.bc_cached_serve.specs.Deeds.{is_backing}
 use Rattle.bc_cached_serve.proofs.Going.{HasRead, Reads, before_run, reads_both, reads_none, runs_read, turned_run}
 

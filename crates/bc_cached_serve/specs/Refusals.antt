@@ -2,8 +2,8 @@
 use Rattle.std.specs.Prelude.{◌≡◌, ℕ}
 use Rattle.bc_node.specs.declared.error.NodeError.{NodeError}
 use Rattle.bc_node.specs.declared.error.NodeError.TheVariants as node
-use Rattle.bc_request.specs.declared.error.RequestError.{RequestError}
-use Rattle.bc_request.specs.declared.error.RequestError.TheVariants as request
+use Rattle.bc_flush.specs.bc_request.declared.error.RequestError.{RequestError}
+use Rattle.bc_flush.specs.bc_request.declared.error.RequestError.TheVariants as request
 use Rattle.bc_script.specs.declared.answer.Answer.{Answer}
 use Rattle.bc_script.specs.declared.answer.Answer.TheVariants as answer
 use Rattle.bc_script.specs.declared.answer.Refusal.{Refusal}
@@ -30,7 +30,8 @@ IsRefusalOf error why = ⊥
 abbrev pub IsRefusedAs : RequestError → Answer → Type 0
 IsRefusedAs error a = (why : Refusal) × (a ≡ answer.Refused why) × IsRefusalOf error why
 
--- no answer says it: the index in memory is as that of no sound pair
+-- no answer says it: a part of the index is busy, or the index in memory is as that of no sound
+-- pair
 abbrev pub IsUnsound : RequestError → Type 0
 IsUnsound request.Busy = Unit {0}
 IsUnsound request.Outside = Unit {0}

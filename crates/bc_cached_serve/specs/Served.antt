@@ -1,17 +1,16 @@
--- The lines of a trace, served in order by one seat of a run with a cache.
-use Rattle.std.specs.Prelude.{◌≡◌, ℕ, suc, List, [], ◌∷◌, ◌++◌, length, Result, Ok, Err}
-use Rattle.bc_serve.specs.bc_deed.Flushed.{HasDone}
+-- The lines of a trace, served in order in a run with a cache.
+use Rattle.std.specs.Prelude.{◌≡◌, ℕ, suc, List, [], ◌∷◌, ◌++◌, length, map, Result, Ok, Err}
 use Rattle.bc_disk.specs.Disk.{DiskFacts}
 use Rattle.bc_events.specs.declared.event.Deed.{Deed}
-use Rattle.bc_serve.specs.bc_hand.Seats.{View}
+use Rattle.bc_serve.specs.bc_hand.Seats.{View, by}
 use Rattle.bc_serve.specs.bc_machine.declared.part.CorePart.{CorePart}
 use Rattle.bc_parts.specs.Seat.{PartsView}
 use Rattle.bc_script.specs.Served.{Served}
 use Rattle.bc_script.specs.declared.answer.Answer.{Answer}
 use Rattle.bc_script.specs.declared.line.Line.{Line}
 use Rattle.bc_serve.specs.Causes.{entries_by}
-use Rattle.bc_cached_serve.specs.Answered.{HasAnsweredLine, HasStoppedLine}
-use Rattle.bc_cached_serve.specs.Deeds.{AreReading}
+use Rattle.bc_cached_serve.specs.Answered.{HasHalfServedLine, HasServedLine}
+use Rattle.bc_cached_serve.specs.Deeds.{AreKeeping}
 use Rattle.bc_cached_serve.specs.declared.unsound.Unsound.{Unsound}
 
 module _ {C B : Type 0} (cache_facts : C → DiskFacts) (backing_facts : B → DiskFacts) where
@@ -20,17 +19,18 @@ module _ {C B : Type 0} (cache_facts : C → DiskFacts) (backing_facts : B → D
       → View cache_facts backing_facts → View cache_facts backing_facts → Type 0
   AreAnswered p size number [] [] v w = w ≡ v
   AreAnswered p size number (l ∷ ls) (a ∷ others) v w = (u : View cache_facts backing_facts)
-      × HasAnsweredLine cache_facts backing_facts p size number l a v u
+      × HasServedLine cache_facts backing_facts p size number l a v u
       × AreAnswered p size (suc number) ls others u w
   AreAnswered p size number [] (a ∷ others) v w = ⊥
   AreAnswered p size number (l ∷ ls) [] v w = ⊥
 
-  -- The seat has served the lines, by reading alone.
+  -- The seat of worker 1 has served the lines, changing no value, and nothing else happened.
   pub record HaveAnswered (p : PartsView (CorePart C B)) (size : ℕ) (lines : List Line)
       (answers : List Answer) (v w : View cache_facts backing_facts) : Type 0 where
     pub deeds : List Deed
-    pub done : HasDone cache_facts backing_facts deeds v w
-    pub reading : AreReading deeds
+    pub run : w.run ≡ v.run
+    pub seen : w.seen ≡ v.seen ++ map (by 16) deeds
+    pub keeping : AreKeeping deeds
     pub served : Served size lines answers (entries_by deeds)
     pub by_line : AreAnswered p size 1 lines answers v w
 
@@ -45,7 +45,8 @@ module _ {C B : Type 0} (cache_facts : C → DiskFacts) (backing_facts : B → D
     pub number : stop.line ≡ suc (length before)
     pub at : View cache_facts backing_facts
     pub answered : HaveAnswered p size before answers v at
-    pub stopped : HasStoppedLine cache_facts backing_facts p size stop.line refused stop.why at w
+    pub stopped : HasHalfServedLine cache_facts backing_facts p size stop.line refused stop.why at
+        w
 
   -- all of them were served, or those before one
   abbrev pub HaveServed : PartsView (CorePart C B) → (size : ℕ) → List Line → List Answer

@@ -3,8 +3,8 @@ ghost use Rattle.std.specs.Prelude.{◌≡◌, IfErr, IfOk};
 ghost use Rattle.bc_script.specs.Answer.{IsPrintable};
 ghost use Rattle.bc_cached_serve.specs.Refusals.{IsNoNode, IsNumberOf, IsRefusedAs, IsUnsound, NamesNoNode};
 
+use bc_flush::bc_request::error::RequestError;
 use bc_node::NodeError;
-use bc_request::error::RequestError;
 use bc_script::answer::{Answer, Refusal};
 
 // The number by which an answer says why bytes are no node.

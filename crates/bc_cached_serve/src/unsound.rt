@@ -1,9 +1,9 @@
 //! Where lines over a cache are stopped.
 
-use bc_request::error::RequestError;
+use bc_flush::bc_request::error::RequestError;
 
-/// A line at which a run stopped, since it was refused for a cause that no sound pair has and that
-/// no answer says.
+/// A line at which a run stopped, since it was refused for a cause that no answer says: a part of
+/// the index was busy, or the index in memory is as that of no sound pair.
 #[derive(Clone, Copy, Debug, PartialEq, Eq, Drop)]
 pub struct Unsound {
     /// The line's number in the trace, counted from 1.

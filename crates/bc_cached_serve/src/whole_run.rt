@@ -4,7 +4,7 @@ ghost use Rattle.bc_serve.specs.bc_deed.Asked.{size_of};
 ghost use Rattle.bc_disk.specs.Disk.{StandsFor};
 ghost use Rattle.bc_disk.specs.Stands.{settled_model};
 ghost use Rattle.bc_serve.specs.bc_hand.Seats.{Works, empty, world};
-ghost use Rattle.bc_serve.specs.bc_machine.World.{are_plain};
+ghost use Rattle.bc_serve.specs.bc_machine.World.{FromEach, are_plain};
 ghost use Rattle.bc_session.specs.bc_open.Left.{ChangesState, LeavesThePair};
 ghost use Rattle.bc_recover.specs.Read.{HasParts, IsReadOf};
 ghost use Rattle.bc_replay.specs.Causes.{OfHeld};
@@ -13,8 +13,9 @@ ghost use Rattle.bc_script.specs.Proper.{IsLine};
 ghost use Rattle.bc_session.specs.Open.{IsLoaded, IsStopOf};
 ghost use Rattle.bc_super.specs.Reading.{ReadsSuper};
 ghost use Rattle.bc_super.specs.Super.{IsUsable};
-ghost use Rattle.bc_cached_serve.specs.Answered.{AsksToRead};
-ghost use Rattle.bc_cached_serve.specs.Run.{HasRunOn, HasRunOver, IsAlone, kept_seat, worker_seat};
+ghost use Rattle.bc_cached_serve.specs.Answered.{KeepsValues};
+ghost use Rattle.bc_cached_serve.specs.Run.{HasRunOn, HasRunOver, IsAlone};
+ghost use Rattle.bc_cached_serve.specs.Worker.{AreAllDurable};
 
 use crate::in_order::serve_lines;
 use crate::unsound::Unsound;
@@ -22,9 +23,7 @@ use bc_disk::disk::Disk;
 use bc_replay::{OpenError, Survey};
 use bc_script::answer::Answer;
 use bc_script::line::Line;
-use bc_serve::bc_deed::run::join;
 use bc_serve::bc_machine::machine::{CoreParts, CoreSeat};
-use bc_serve::whole_run::WORKER;
 use bc_session::bc_loaded::Loaded;
 use bc_session::{Closed, NotOpened, close, open};
 use bc_super::backing::BackingSuper;
@@ -44,23 +43,12 @@ pub struct Outcome<C, B> {
     pub closed: Closed<C, B>,
 }
 
-// Cuts the seat of worker 1 off from the one that did all that has happened.
-fn cut_off<C: Disk, B: Disk>(parts: &CoreParts<C, B>, seat: &mut CoreSeat<C, B>) -> CoreSeat<C, B>
-    requires works { Works C.facts B.facts parts.now seat.old empty }
-    requires alone { IsAlone C.facts B.facts seat.old }
-    ensures kept { seat.new ≡ kept_seat C.facts B.facts seat.old }
-    ensures new { result ≡ worker_seat C.facts B.facts seat.old }
-    ensures works { Works C.facts B.facts parts.now seat.new empty }
-    ensures other { Works C.facts B.facts parts.now result empty }
-{
-    parts.split(seat, WORKER)
-}
-
-/// Serves the lines of a trace, each of which reads or asks for nothing, in a run of which the one
-/// seat did all that has happened, as it did once a pair was opened, and closes the run. The lines
-/// are served by the seat of worker 1, over a device of so many data sectors, and there is room for
-/// an answer to each. The superblock is the one that the backing device had when it was opened, and
-/// `dirty` says whether some data is in the cache alone, which reads don't change.
+/// Serves the lines of a trace, each of which reads, flushes or asks for nothing, in a run of which
+/// the one seat did all that has happened, as it did once a pair was opened, and closes the run.
+/// All that has come into the index is durable. The lines are served by the seat of worker 1, over
+/// a device of so many data sectors, and there is room for an answer to each. The superblock is the
+/// one that the backing device had when it was opened, and `dirty` says whether some data is in the
+/// cache alone, which such lines don't change.
 ///
 /// Where a line was refused for a cause of which no answer has a word, the lines behind it aren't
 /// served, and the run is closed all the same.
@@ -78,13 +66,14 @@ pub fn serve_run<C: Disk + Drop, B: Disk + Drop, R: Wait, G: Gate>(
 ) -> Outcome<C, B>
     requires works { Works C.facts B.facts parts seat empty }
     requires alone { IsAlone C.facts B.facts seat }
+    requires durable { FromEach (world C.facts B.facts seat) AreAllDurable }
     requires seats { parts.seats ≡ 320 }
     requires cached { are_plain C.facts B.facts parts.run.start ≡ false }
     requires leaves { (6 < length parts.run.start) × (length parts.run.start < 2 ^ 32) }
     requires size { size ≡ size_of C.facts B.facts seat.run.start }
     requires usable { IsUsable (world C.facts B.facts seat).backing.sectors superblock.now }
     requires lines { All IsLine lines.now }
-    requires reads { All AsksToRead lines.now }
+    requires keep { All KeepsValues lines.now }
     requires few { length lines.now < 2 ^ 32 }
     requires none { answers.items ≡ [] }
     requires room { length lines.now ≤ vec_capacity answers }
@@ -93,18 +82,16 @@ pub fn serve_run<C: Disk + Drop, B: Disk + Drop, R: Wait, G: Gate>(
 {
     let mut seat = seat;
     let mut answers = answers;
-    let mut worker = cut_off(&parts, &mut seat);
     let served = serve_lines(
         rt,
         alloc,
         &parts,
-        &mut worker,
+        &mut seat,
         size,
         lines,
         &mut answers,
         gate,
     );
-    join(&parts, &mut seat, worker);
     let closed = close(rt, parts, seat, superblock, dirty);
     Outcome {
         answers,
@@ -113,10 +100,10 @@ pub fn serve_run<C: Disk + Drop, B: Disk + Drop, R: Wait, G: Gate>(
     }
 }
 
-/// Opens a pair whose parts are in memory, serves the lines of a trace, each of which reads or asks
-/// for nothing, and closes the pair. Both devices are such that a crash would leave exactly what
-/// they hold; the superblock is the one that the backing device holds, and `dirty` says whether
-/// some data is in the cache alone.
+/// Opens a pair whose parts are in memory, serves the lines of a trace, each of which reads,
+/// flushes or asks for nothing, and closes the pair. Both devices are such that a crash would leave
+/// exactly what they hold; the superblock is the one that the backing device holds, and `dirty`
+/// says whether some data is in the cache alone.
 ///
 /// An error is that of `open`, or `Memory`, where there was none for the answers, and hands both
 /// devices back: no line was served. A crash leaves a sound pair then that shows what the pair
@@ -142,7 +129,7 @@ pub fn run_lines<C: Disk + Drop, B: Disk + Drop, R: Wait, G: Gate>(
     requires still { StandsFor (C.facts cache) (settled_model (C.facts cache)) }
     requires rests { StandsFor (B.facts backing) (settled_model (B.facts backing)) }
     requires lines { All IsLine lines.now }
-    requires reads { All AsksToRead lines.now }
+    requires keep { All KeepsValues lines.now }
     requires few { length lines.now < 2 ^ 32 }
     ensures printable { IfOk result (λ o. All IsPrintable o.answers.items) }
     ensures run { IfOk result (λ o. HasRunOver C.facts B.facts s.now superblock.now dirty cache

@@ -10,8 +10,8 @@ use std::process::Abort;
 use std::sync::Wait;
 use std::test::Fail;
 
-/// A comment; the first 32 sectors, twice; 32 of two pieces; and 32 of which the last one lies behind
-/// the end.
+/// A comment; the first 32 sectors, twice; 32 of two pieces; and 32 of which the last one lies
+/// behind the end.
 const TRACE: &str = "# reads\n1 r 0 32\n1 r 0 32\n1 r 240 32\n1 r 993 32\n";
 
 /// Of the first 32 sectors what the cache has, where it gives that, and else the backing device.
@@ -150,5 +150,40 @@ fn a_device_that_stops_ends_no_run(rt: HostRuntime) -> Result<(), Fail> {
     assert_eq!(rt; told.as_slice(), wanted(fault, fault).as_slice());
     assert_eq!(rt; reads.as_slice(), [768, 6400].as_slice());
     assert_eq!(rt; faults, 3);
+    Ok(())
+}
+
+// A flush between two reads of the first 32 sectors.
+const FLUSHED: &str = "1 r 0 32\n1 f\n1 r 0 32\n";
+
+#[test]
+fn a_flush_is_done_among_reads(rt: HostRuntime) -> Result<(), Fail> {
+    let alloc = rt.alloc();
+    let (cache, backing) = pair_with_data(&rt, alloc)?;
+    let outcome = served(&rt, alloc, cache, backing, FLUSHED)?;
+    assert_eq!(rt; outcome.served, Ok(()));
+    assert_eq!(rt; outcome.closed.result, Ok(()));
+    let wanted = [Told::Read(LOW), Told::Done, Told::Read(LOW)];
+    assert_eq!(rt; tell(alloc, &outcome)?.as_slice(), wanted.as_slice());
+    Ok(())
+}
+
+#[test]
+fn a_failed_barrier_halts_the_run(rt: HostRuntime) -> Result<(), Fail> {
+    let alloc = rt.alloc();
+    // The calls of the backing device that come before the flush: those of a trace without one, but
+    // for the barrier of its closing.
+    let (cache, backing) = pair_with_data(&rt, alloc)?;
+    let without = served(&rt, alloc, cache, backing, "1 r 0 32\n")?;
+    let barrier = without.closed.backing.calls();
+    let (cache, mut backing) = pair_with_data(&rt, alloc)?;
+    backing.fail(barrier)?;
+    let outcome = served(&rt, alloc, cache, backing, FLUSHED)?;
+    assert_eq!(rt; outcome.served, Ok(()));
+    let fault = Told::Refused(Refusal::Fault(Device::Backing));
+    let halted = Told::Refused(Refusal::Halted(Device::Backing));
+    let wanted = [Told::Read(LOW), fault, halted];
+    assert_eq!(rt; tell(alloc, &outcome)?.as_slice(), wanted.as_slice());
+    assert_eq!(rt; outcome.closed.backing.faults(), 1);
     Ok(())
 }

@@ -6,9 +6,9 @@ ghost use Rattle.bc_recover.specs.Read.{HasParts, IsReadOf};
 ghost use Rattle.bc_replay.specs.Causes.{OfHeld};
 ghost use Rattle.bc_script.specs.Trace.{IsTrace};
 ghost use Rattle.bc_super.specs.Reading.{ReadsSuper};
-ghost use Rattle.bc_cached_serve.specs.Answered.{AsksToRead};
+ghost use Rattle.bc_cached_serve.specs.Answered.{KeepsValues};
 
-use bc_cached_serve::asked::ask_to_read;
+use bc_cached_serve::asked::keep_values;
 use bc_cached_serve::bc_loaded::load;
 use bc_cached_serve::bc_session::NotOpened;
 use bc_cached_serve::whole_run::{Outcome, run_lines};
@@ -32,6 +32,7 @@ use std::test::Fail;
 pub(crate) enum Told {
     Silent,
     Read([u8; 32]),
+    Done,
     Refused(Refusal),
     Other,
 }
@@ -51,7 +52,7 @@ fn firsts_of(values: &Values) -> [u8; 32]
 fn told_by(answer: &Answer) -> Told {
     match answer {
         Answer::Silent => Told::Silent,
-        Answer::Done => Told::Other,
+        Answer::Done => Told::Done,
         Answer::Runs { first: _, values } => {
             if values.len() == 32 {
                 Told::Read(firsts_of(values))
@@ -90,7 +91,7 @@ fn serve_surveyed<C: Disk + Drop, B: Disk + Drop, R: Wait>(
     requires still { StandsFor (C.facts cache) (settled_model (C.facts cache)) }
     requires rests { StandsFor (B.facts backing) (settled_model (B.facts backing)) }
     requires trace { IsTrace lines.now }
-    requires asks { All AsksToRead lines.now }
+    requires keep { All KeepsValues lines.now }
 {
     let mut cache = cache;
     let loaded = load(alloc, &mut cache, s, 1)?;
@@ -118,7 +119,7 @@ fn serve_lines_over<C: Disk + Drop, B: Disk + Drop, R: Abort + Wait>(
 ) -> Result<Outcome<C, B>, Fail>
     requires trace { IsTrace lines.now }
 {
-    if !ask_to_read(lines) {
+    if !keep_values(lines) {
         return Err(Fail::from(OpenError::Memory));
     }
     settle(&mut cache)?;
@@ -128,7 +129,7 @@ fn serve_lines_over<C: Disk + Drop, B: Disk + Drop, R: Abort + Wait>(
     Ok(serve_surveyed(rt, alloc, &s, &superblock, cache, backing, lines)?)
 }
 
-/// Reads a pair, and serves the lines of a trace over it, which only read.
+/// Reads a pair, and serves the lines of a trace over it, which read or flush.
 pub(crate) fn served<C: Disk + Drop, B: Disk + Drop, R: Abort + Wait>(
     rt: &R,
     alloc: Global,

@@ -26,10 +26,11 @@ pub enum Message {
     Superblock { device: Device, number: u8 },
     /// What the pair holds behind its superblocks is refused for the reason with this number.
     Image(u8),
-    /// The pair has a cache, which isn't served yet.
+    /// The pair has a cache, over which a write or a round isn't served yet.
     Unserved,
     /// This line of the trace, and each behind it, isn't served: it found the index in memory as
-    /// that of no sound pair. `check` names what is wrong. The first line has number 1.
+    /// that of no sound pair, of which `check` names what is wrong, or a part of it busy. The first
+    /// line has number 1.
     Unsound(u32),
     /// A device or the source failed.
     Fault(Origin),

@@ -15,8 +15,8 @@ pub enum Status {
     Trace,
     /// A superblock is refused.
     Superblock,
-    /// What stands behind the superblocks is refused, or a line found it unsound; or the pair has a
-    /// cache, which isn't served yet.
+    /// What stands behind the superblocks is refused, or a line found it unsound or busy; or the
+    /// pair has a cache, over which a write or a round isn't served yet.
     Image,
     /// A device failed, or couldn't be opened.
     Device,

@@ -1,5 +1,5 @@
-//! Traces that read, over pairs with a cache: data from both devices, and calls that fail on the
-//! way.
+//! Traces that read or flush, over pairs with a cache: data from both devices, and calls that fail
+//! on the way.
 ghost use Rattle.std.specs.Prelude.{◌≡◌, ◌+◌, ◌*◌, ◌<◌, ◌≤◌, length};
 
 use crate::calls::{source, test_end};
@@ -193,12 +193,12 @@ fn both_devices_are_read(rt: HostRuntime) -> Result<(), Fail> {
 }
 
 #[test]
-fn more_than_reads_is_unserved(rt: HostRuntime) -> Result<(), Fail> {
+fn writes_and_rounds_are_unserved(rt: HostRuntime) -> Result<(), Fail> {
     let alloc = rt.alloc();
-    for more in ["1 w 0 1 7", "1 W 0 1 7", "1 f", "1 b"] {
+    for more in ["1 w 0 1 7", "1 W 0 1 7", "1 b", "1 c", "1 m"] {
         let pair = fresh(&rt, alloc)?;
         let before = Vec::from_slice(alloc, pair.backing.bytes())?;
-        let trace = format!(in alloc; "1 r 0 1\n{more}\n")?;
+        let trace = format!(in alloc; "1 r 0 1\n1 f\n{more}\n")?;
         let ran = test_trace(&rt, alloc, pair, trace.as_str(), "unserved\n", 5)?;
         assert!(rt; ran.pass.is_none());
         assert!(rt; *ran.backing.bytes() == *before);
@@ -244,6 +244,36 @@ fn dirty_data_does_not(rt: HostRuntime) -> Result<(), Fail> {
         6,
     )?;
     assert!(rt; ran.pass.is_some());
+    test_crash(&rt, alloc, &ran, Pick::Newest, TRACE, TEXT)
+}
+
+#[test]
+fn flushes_are_done(rt: HostRuntime) -> Result<(), Fail> {
+    let alloc = rt.alloc();
+    let trace = "1 r 16 8\n1 f\n1 r 0 8\n1 f\n";
+    let text = "9x8\ndone\n7x8\ndone\n";
+    let pair = with_data(&rt, alloc)?;
+    let ran = test_trace(&rt, alloc, pair, trace, text, 0)?;
+    for pick in [Pick::Stable, Pick::Newest, Pick::Mixed(1)] {
+        test_crash(&rt, alloc, &ran, pick, TRACE, TEXT)?;
+    }
+    // A flush is one call of the backing device.
+    let (_, without) = calls(&rt, alloc, "1 r 16 8\n1 r 0 8\n", "9x8\n7x8\n")?;
+    assert_eq!(rt; ran.backing.calls(), without + 2);
+    Ok(())
+}
+
+#[test]
+fn the_barrier_of_a_flush_fails(rt: HostRuntime) -> Result<(), Fail> {
+    let alloc = rt.alloc();
+    // It comes where without it that of the closing does.
+    let (_, closing) = calls(&rt, alloc, "1 r 16 8\n", "9x8\n")?;
+    let mut pair = with_data(&rt, alloc)?;
+    pair.backing.fail(closing)?;
+    let trace = "1 r 16 8\n1 f\n1 r 16 8\n1 f\n";
+    let text = "9x8\nfault backing\nhalted backing\nhalted backing\n";
+    let ran = test_trace(&rt, alloc, pair, trace, text, 6)?;
+    assert_eq!(rt; ran.backing.faults(), 1);
     test_crash(&rt, alloc, &ran, Pick::Newest, TRACE, TEXT)
 }
 

@@ -9,8 +9,8 @@ use Rattle.bc_disk.specs.declared.disk.Device.TheVariants as device
 use Rattle.bc_events.specs.Columns.{Call, call_by}
 use Rattle.bc_events.specs.declared.event.Event.{Event}
 use Rattle.bc_session_laws.specs.bc_machine.World.{Side, World, after, called}
-use Rattle.bc_cached_serve.specs.bc_serve.Causes.{is_failed}
-use Rattle.bc_cached_serve.proofs.of_bc_serve.Failing.{failed_in, next_rises}
+use Rattle.bc_sound_reads.specs.bc_serve.Causes.{is_failed}
+use Rattle.bc_sound_reads.proofs.of_bc_serve.Failing.{failed_in, next_rises}
 
 -- no lower than before, and at its end still
 abbrev pub Holds : ℕ → ℕ → Type 0

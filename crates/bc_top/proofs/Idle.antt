@@ -3,7 +3,7 @@ use Rattle.std.specs.Prelude.{All, not, option_map}
 use Rattle.std.specs.Bool.{MatchBool}
 use Rattle.std.proofs.Common.{◌≡◌, ◌⊎◌, ◌*◌, ◌≤◌, inl, inr, Bool, true, false, List, Option, Some, None, refl, sym, ap, ◌∙◌, subst}
 use Rattle.bc_model.specs.Sector.{Image}
-use Rattle.bc_cached_serve.specs.Answered.{AsksToRead}
+use Rattle.bc_sound_reads.specs.bc_cached_serve.Answered.{KeepsValues}
 use Rattle.bc_disk.specs.Device.{HasRisen, quiet}
 use Rattle.bc_disk.specs.Disk.{Allows, BothTold, DiskFacts, IfTold, IsKept}
 use Rattle.bc_disk.specs.Stream.{StreamFacts}
@@ -36,7 +36,7 @@ use Rattle.bc_super.proofs.Told.{reads_after, reads_before}
 use Rattle.bc_top.specs.Idle.{EndsOpening, EndsUnopened, IsTested, left_with}
 use Rattle.bc_top.specs.Opened.{AreQuiet, AreStill, AsksForNone, IsOpened, IsReadAgain, IsSameDevice, SameImage, StandsStill}
 use Rattle.bc_top.specs.Stops.{IsRefusal, open_stop, status_of}
-use Rattle.bc_top.specs.Top.{AnswersPair, AreSame, AskMore, AskNothing, AskReads, AskSomething, EndsAnswering, NeedsFirst, OneHasRisen}
+use Rattle.bc_top.specs.Top.{AnswersPair, AreSame, AskMore, AskNothing, AskToKeep, AskSomething, EndsAnswering, NeedsFirst, OneHasRisen}
 use Rattle.bc_top.specs.Ready.{IsCached}
 use Rattle.bc_top.specs.declared.serve.Opening.{Opening}
 use Rattle.bc_top.specs.declared.serve.Opening.TheVariants.{Cached}
@@ -65,7 +65,8 @@ still_is d still = go d.holds still.content
 
 -- what holds of the pair of two devices holds of it once they were kept
 pub held_after : (P : Pair → Type 0) (cache cache' backing backing' : DiskFacts)
-    → IsKept cache cache' → IsKept backing backing' → OfHeld P cache backing → OfHeld P cache' backing'
+    → IsKept cache cache' → IsKept backing backing' → OfHeld P cache backing → OfHeld P cache'
+    backing'
 held_after P cache cache' backing backing' kept keeps = held_before P cache' cache backing' backing
     (sym kept.sectors) (both_back cache.holds cache'.holds kept.holds)
     (sym keeps.sectors) (both_back backing.holds backing'.holds keeps.holds)
@@ -81,7 +82,8 @@ module _ (b : BackingSuper) (s : Survey) (cache cache' backing opened backing' :
       → OfHeld (IsReadOf s) cache' backing' → IsTested b s cache cache' backing backing'
   tested is first never can quiet again still same then kept parts room read = record {
     asks = never;
-    can = opened_held cache cache' backing opened backing' is.sectors is.holds is.faults CanBeOpened can;
+    can = opened_held cache cache' backing opened backing' is.sectors is.holds is.faults CanBeOpened
+        can;
     quiet = (quiet.0, quiet.1 ∙ is.faults);
     again = subst (λ n. IsReadAgain cache cache' backing backing' n) is.calls again;
     still = still;
@@ -101,14 +103,14 @@ asks true lines is so = so
 asks false lines is so = absurd (cc)
 
 pub asks_more : (b : Bool) (lines : List Line) → not b ≡ true
-    → MatchBool b (All AsksToRead lines) (¬ (All AsksToRead lines)) → AskMore lines
+    → MatchBool b (All KeepsValues lines) (¬ (All KeepsValues lines)) → AskMore lines
 asks_more true lines is so = absurd (cc)
 asks_more false lines is so = so
 
-pub asks_to_read : (b : Bool) (lines : List Line) → not b ≡ false
-    → MatchBool b (All AsksToRead lines) (¬ (All AsksToRead lines)) → All AsksToRead lines
-asks_to_read true lines is so = so
-asks_to_read false lines is so = absurd (cc)
+pub keeps_values : (b : Bool) (lines : List Line) → not b ≡ false
+    → MatchBool b (All KeepsValues lines) (¬ (All KeepsValues lines)) → All KeepsValues lines
+keeps_values true lines is so = so
+keeps_values false lines is so = absurd (cc)
 
 pub asks_nothing : (b : Bool) (lines : List Line) → b ≡ false
     → MatchBool b (AskSomething lines) (AskNothing lines) → AskNothing lines
@@ -122,19 +124,22 @@ nothing_if_cached P o b s is so = subst (λ (x : Opening). IsCached x → P) is 
 -- ---- how it ends
 
 never_usage : (e : OpenError) → status_of (open_stop e) ≡ statuses.Usage → ⊥
-never_usage (errors.Super d why) is = absurd (let no : statuses.Superblock ≡ statuses.Usage = is in cc)
+never_usage (errors.Super d why) is = absurd (let no : statuses.Superblock ≡ statuses.Usage = is in
+    cc)
 never_usage (errors.Fault d) is = absurd (let no : statuses.Device ≡ statuses.Usage = is in cc)
 never_usage errors.Memory is = absurd (let no : statuses.Memory ≡ statuses.Usage = is in cc)
 never_usage e is = absurd (let no : statuses.Image ≡ statuses.Usage = is in cc)
 
 never_source : (e : OpenError) → status_of (open_stop e) ≡ statuses.Source → ⊥
-never_source (errors.Super d why) is = absurd (let no : statuses.Superblock ≡ statuses.Source = is in cc)
+never_source (errors.Super d why) is = absurd
+    (let no : statuses.Superblock ≡ statuses.Source = is in cc)
 never_source (errors.Fault d) is = absurd (let no : statuses.Device ≡ statuses.Source = is in cc)
 never_source errors.Memory is = absurd (let no : statuses.Memory ≡ statuses.Source = is in cc)
 never_source e is = absurd (let no : statuses.Image ≡ statuses.Source = is in cc)
 
 never_sink : (e : OpenError) → status_of (open_stop e) ≡ statuses.Sink → ⊥
-never_sink (errors.Super d why) is = absurd (let no : statuses.Superblock ≡ statuses.Sink = is in cc)
+never_sink (errors.Super d why) is = absurd (let no : statuses.Superblock ≡ statuses.Sink = is in
+    cc)
 never_sink (errors.Fault d) is = absurd (let no : statuses.Device ≡ statuses.Sink = is in cc)
 never_sink errors.Memory is = absurd (let no : statuses.Memory ≡ statuses.Sink = is in cc)
 never_sink e is = absurd (let no : statuses.Image ≡ statuses.Sink = is in cc)
@@ -142,19 +147,22 @@ never_sink e is = absurd (let no : statuses.Image ≡ statuses.Sink = is in cc)
 not_refusal : (x : Status) → x ≡ statuses.Done ⊎ x ≡ statuses.Device ⊎ x ≡ statuses.Memory
     → IsRefusal x → ⊥
 not_refusal x (inl is) (inl r) = absurd (let no : statuses.Done ≡ statuses.Usage = sym is ∙ r in cc)
-not_refusal x (inl is) (inr (inl r)) = absurd (let no : statuses.Done ≡ statuses.Trace = sym is ∙ r in cc)
+not_refusal x (inl is) (inr (inl r)) = absurd
+    (let no : statuses.Done ≡ statuses.Trace = sym is ∙ r in cc)
 not_refusal x (inl is) (inr (inr (inl r))) =
     absurd (let no : statuses.Done ≡ statuses.Superblock = sym is ∙ r in cc)
 not_refusal x (inl is) (inr (inr (inr r))) =
     absurd (let no : statuses.Done ≡ statuses.Image = sym is ∙ r in cc)
-not_refusal x (inr (inl is)) (inl r) = absurd (let no : statuses.Device ≡ statuses.Usage = sym is ∙ r in cc)
+not_refusal x (inr (inl is)) (inl r) = absurd
+    (let no : statuses.Device ≡ statuses.Usage = sym is ∙ r in cc)
 not_refusal x (inr (inl is)) (inr (inl r)) =
     absurd (let no : statuses.Device ≡ statuses.Trace = sym is ∙ r in cc)
 not_refusal x (inr (inl is)) (inr (inr (inl r))) =
     absurd (let no : statuses.Device ≡ statuses.Superblock = sym is ∙ r in cc)
 not_refusal x (inr (inl is)) (inr (inr (inr r))) =
     absurd (let no : statuses.Device ≡ statuses.Image = sym is ∙ r in cc)
-not_refusal x (inr (inr is)) (inl r) = absurd (let no : statuses.Memory ≡ statuses.Usage = sym is ∙ r in cc)
+not_refusal x (inr (inr is)) (inl r) = absurd
+    (let no : statuses.Memory ≡ statuses.Usage = sym is ∙ r in cc)
 not_refusal x (inr (inr is)) (inr (inl r)) =
     absurd (let no : statuses.Memory ≡ statuses.Trace = sym is ∙ r in cc)
 not_refusal x (inr (inr is)) (inr (inr (inl r))) =
@@ -222,7 +230,8 @@ module _ {C B : Type 0} (cache_facts : C → DiskFacts) (facts : B → DiskFacts
   stop_rose (errors.Fault device.Cache) stop six = inl (next_risen d.faults d'.faults stop.0)
   stop_rose (errors.Fault device.Backing) stop six =
       inr (next_risen (facts backing).faults (facts backing').faults stop.1.faults)
-  stop_rose (errors.Super d why) stop six = absurd (let no : statuses.Superblock ≡ statuses.Device = six in cc)
+  stop_rose (errors.Super d why) stop six = absurd
+      (let no : statuses.Superblock ≡ statuses.Device = six in cc)
   stop_rose errors.Memory stop six = absurd (let no : statuses.Memory ≡ statuses.Device = six in cc)
   stop_rose e stop six = absurd (let no : statuses.Image ≡ statuses.Device = six in cc)
 
@@ -252,16 +261,19 @@ module _ {C B : Type 0} (cache_facts : C → DiskFacts) (facts : B → DiskFacts
 
     pub all_unwritten : IsRefusal status → AreSame cache cache' (facts backing) (facts backing')
     all_unwritten refused =
-        let then = unwritten cache_facts facts b s tested left tested_backing backing' status old new ends refused in (
+        let then = unwritten cache_facts facts b s tested left tested_backing backing' status old
+        new ends refused in (
           same_again cache tested_cache cache' is.cache_same then.0,
           same_again (facts backing) (facts tested_backing) (facts backing') is.backing_same then.1,
         )
 
-    pub all_rose : status ≡ statuses.Device → OneHasRisen cache cache' (facts backing) (facts backing')
-    all_rose six = elim (rose cache_facts facts b s tested left tested_backing backing' status old new ends six) [
-      | inl risen ↦ inl (subst (λ n. HasRisen n cache'.faults) is.quiet.0 risen)
-      | inr risen ↦ inr (subst (λ n. HasRisen n (facts backing').faults) is.quiet.1 risen)
-    ]
+    pub all_rose : status ≡ statuses.Device → OneHasRisen cache cache' (facts backing)
+        (facts backing')
+    all_rose six = elim (rose cache_facts facts b s tested left tested_backing backing' status old
+        new ends six) [
+          | inl risen ↦ inl (subst (λ n. HasRisen n cache'.faults) is.quiet.0 risen)
+          | inr risen ↦ inr (subst (λ n. HasRisen n (facts backing').faults) is.quiet.1 risen)
+        ]
 
     pub shows : LeavesThePair tested_cache cache' (facts tested_backing) (facts backing')
         → OfHeld (ShowsOn cache' (facts backing')) cache (facts backing)
@@ -273,34 +285,41 @@ module _ {C B : Type 0} (cache_facts : C → DiskFacts) (facts : B → DiskFacts
     -- a device that asks for no cache has no such pair
     pub asks_none : AsksForNone (facts backing) → ⊥
     asks_none asks = asks_the_same cache tested_cache (facts backing) (facts tested_backing) asks
-        is.backing_same b (reads_before (facts backing) (facts tested_backing) is.backing_same.sectors
+        is.backing_same b (reads_before (facts backing) (facts tested_backing)
+        is.backing_same.sectors
         is.backing_same.holds b is.reads) is.asks
 
     -- what is answered
     module _ (never_rose : OneHasRisen cache cache' (facts backing) (facts backing') → ⊥) where
       read_held : OfHeld (IsReadOf s) cache (facts backing)
       read_held = held_before (IsReadOf s) cache tested_cache (facts backing) (facts tested_backing)
-          is.cache_same.sectors is.cache_same.holds is.backing_same.sectors is.backing_same.holds is.read
+          is.cache_same.sectors is.cache_same.holds is.backing_same.sectors is.backing_same.holds
+          is.read
 
-      told_of : (P : Image → Type 0) (o : Option Image) (image : Image) → o ≡ Some image → IfTold o P
+      told_of : (P : Image → Type 0) (o : Option Image) (image : Image) → o ≡ Some image → IfTold o
+          P
           → P image
       told_of P o image eq p = subst (λ (x : Option Image). IfTold x P) eq p
 
-      same_told : (x y : Option Image) (c : Image) → x ≡ Some c → BothTold SameImage x y → y ≡ Some c
+      same_told : (x y : Option Image) (c : Image) → x ≡ Some c → BothTold SameImage x y → y ≡ Some
+          c
       same_told None y c eq both = absurd (cc)
       same_told (Some x) None c eq both = absurd both
       same_told (Some x) (Some y) c eq both =
           let one : y ≡ x = (λ i. λ s. both s i) in let two : x ≡ c = cc in
           ap (λ (z : Image). Some z) (one ∙ two)
 
-      module _ (c0 b0 : Image) (tells : cache.holds ≡ Some c0) (told : (facts backing).holds ≡ Some b0)
+      module _ (c0 b0 : Image) (tells : cache.holds ≡ Some c0)
+          (told : (facts backing).holds ≡ Some b0)
         where
           abbrev pair : Pair
           pair = pair_of cache (facts backing) c0 b0
 
           of_pair : (P : Pair → Type 0) → OfHeld P cache (facts backing) → P pair
-          of_pair P so = told_of (λ x. P (pair_of cache (facts backing) c0 x)) (facts backing).holds b0 told
-              (told_of (λ x. IfTold (facts backing).holds (λ y. P (pair_of cache (facts backing) x y)))
+          of_pair P so = told_of (λ x. P (pair_of cache (facts backing) c0 x)) (facts backing).holds
+              b0 told
+              (told_of (λ x. IfTold (facts backing).holds
+              (λ y. P (pair_of cache (facts backing) x y)))
               cache.holds c0 tells so)
 
           h : IsReadOf s pair
@@ -312,7 +331,8 @@ module _ {C B : Type 0} (cache_facts : C → DiskFacts) (facts : B → DiskFacts
 
           not_another : OfRead s tested_cache (λ p h. ⊥) → ⊥
           not_another so = told_of (λ image. (p : Pair) → IsReadOf s p → p.cache ≡ image → ⊥)
-              tested_cache.holds c0 (same_told cache.holds tested_cache.holds c0 tells is.cache_same.holds)
+              tested_cache.holds c0 (same_told cache.holds tested_cache.holds c0 tells
+              is.cache_same.holds)
               so pair h refl
 
           odd : IsOdd s.journal → NeedsFirst pair
@@ -349,8 +369,9 @@ module _ {C B : Type 0} (cache_facts : C → DiskFacts) (facts : B → DiskFacts
           ]
 
           -- where something was to be read it wasn't opened
-          unopened : (begun : Type 0) (lines : List Line) → AskReads lines
-              → EndsUnopened cache_facts facts b s tested left tested_backing backing' status old new
+          unopened : (begun : Type 0) (lines : List Line) → AskToKeep lines
+              → EndsUnopened cache_facts facts b s tested left tested_backing backing' status old
+              new
               → EndsAnswering pair lines begun status old new
           unopened begun lines reads stopped = elim (failed stopped.0 stopped.1 stopped.2) [
             | inl memory ↦ inl memory
@@ -366,19 +387,19 @@ module _ {C B : Type 0} (cache_facts : C → DiskFacts) (facts : B → DiskFacts
         (subst AskNothing (same_lines source rest lines whole spelled) nothing))
 
     pub unopened_answers : (begun : Type 0) (source rest : StreamFacts) (lines : List Line)
-        → IsWhole source rest lines → AskReads lines
+        → IsWhole source rest lines → AskToKeep lines
         → EndsUnopened cache_facts facts b s tested left tested_backing backing' status old new
         → AnswersPair source rest cache cache' (facts backing) (facts backing') begun status old new
     unopened_answers begun source rest lines whole reads stopped = λ spelled quiet still.
         of_both (λ p. (ServesAlone p → ⊥) → EndsAnswering p spelled.2.0 begun status old new) cache
         (facts backing) (λ c0 b0 tells told never. unopened still c0 b0 tells told begun spelled.2.0
-        (subst AskReads (same_lines source rest lines whole spelled) reads) stopped)
+        (subst AskToKeep (same_lines source rest lines whole spelled) reads) stopped)
 
 -- where a run began the pair has no refusal
 pub begun_answers : (begun : Type 0) (b : BackingSuper) (s : Survey)
     (c0 c1 c2 b0 b1 b2 : DiskFacts)
     → IsTested b s c0 c1 b0 b1 → begun → (source rest : StreamFacts)
-    (lines : List Line) → IsWhole source rest lines → AskReads lines → (status : Status)
+    (lines : List Line) → IsWhole source rest lines → AskToKeep lines → (status : Status)
     (old new : StreamFacts)
     → AnswersPair source rest c0 c2 b0 b2 begun status old new
 begun_answers begun b s c0 c1 c2 b0 b1 b2 is has source rest lines
@@ -386,6 +407,6 @@ begun_answers begun b s c0 c1 c2 b0 b1 b2 is has source rest lines
     held_map CanBeOpened
     (λ p. (ServesAlone p → ⊥) → EndsAnswering p spelled.2.0 begun status old new) c0 b0
     (λ p can never. inr (inr (inr (
-      subst AskReads (same_lines source rest lines whole spelled) reads,
+      subst AskToKeep (same_lines source rest lines whole spelled) reads,
       ((λ e first. never_both p can.0 can.1 can.2 e first), inl has),
     )))) is.can

@@ -9,25 +9,28 @@ use Rattle.bc_script.specs.declared.answer.Answer.{Answer}
 use Rattle.bc_script.specs.declared.answer.Answer.TheVariants.{Silent, Done, Runs, Refused}
 use Rattle.bc_script.specs.declared.answer.Refusal.TheVariants as refusal
 use Rattle.bc_script.specs.declared.line.Line.{Line}
-use Rattle.bc_cached_serve.specs.bc_serve.Closed.{ClosedBy}
-use Rattle.bc_cached_serve.specs.bc_serve.Run.{AreServedBy, IsServedBy, events_by}
-use Rattle.bc_cached_serve.specs.bc_serve.declared.closing.Closing.{Closing}
-use Rattle.bc_cached_serve.specs.bc_serve.declared.closing.Closing.TheVariants as closing
-use Rattle.bc_cached_serve.proofs.of_bc_serve.Failing.{failed_in, failed_left, failed_map, failed_own, failed_right, halt_failed}
-use Rattle.bc_cached_serve.proofs.of_bc_serve.Lines.{extends}
+use Rattle.bc_sound_reads.specs.bc_serve.Closed.{ClosedBy}
+use Rattle.bc_sound_reads.specs.bc_serve.Run.{AreServedBy, IsServedBy, events_by}
+use Rattle.bc_sound_reads.specs.bc_serve.declared.closing.Closing.{Closing}
+use Rattle.bc_sound_reads.specs.bc_serve.declared.closing.Closing.TheVariants as closing
+use Rattle.bc_sound_reads.proofs.of_bc_serve.Failing.{failed_in, failed_left, failed_map, failed_own, failed_right, halt_failed}
+use Rattle.bc_sound_reads.proofs.of_bc_serve.Lines.{extends}
 use Rattle.bc_top.specs.Ended.{says_fault, has_failed}
 
 -- an answer that says so has seen it
-answer_failed : (size i number : ℕ) (l : Line) (a : Answer) (before seen : List Event) (ds : List Deed)
+answer_failed : (size i number : ℕ) (l : Line) (a : Answer) (before seen : List Event)
+    (ds : List Deed)
     → IsServedBy size i number l a before seen ds → says_fault a ≡ true → failed_in seen ≡ true
 answer_failed size i number l Silent before seen ds served is = absurd (cc)
 answer_failed size i number l Done before seen ds served is = absurd (cc)
 answer_failed size i number l (Runs at values) before seen ds served is = absurd (cc)
 answer_failed size i number l (Refused refusal.OutOfRange) before seen ds served is = absurd (cc)
-answer_failed size i number l (Refused (refusal.NoBucket purpose none_len own_len)) before seen ds served is =
+answer_failed size i number l (Refused (refusal.NoBucket purpose none_len own_len)) before seen ds
+    served is =
     absurd (cc)
 answer_failed size i number l (Refused refusal.JournalEnd) before seen ds served is = absurd (cc)
-answer_failed size i number l (Refused (refusal.Node bucket why)) before seen ds served is = absurd (cc)
+answer_failed size i number l (Refused (refusal.Node bucket why)) before seen ds served is = absurd
+    (cc)
 answer_failed size i number l (Refused (refusal.Fault d)) before seen ds served is =
     failed_own i seen (subst (λ (es : List Event). failed_in es ≡ true) (sym served.its)
     (failed_right (events_by i before) (map (by i) ds) (failed_map i ds ∙ served.caused.1)))
@@ -39,7 +42,8 @@ first_or : {P : Type 0} (a b : Bool) → (a || b) ≡ true → (a ≡ true → P
 first_or true b is here later = here Rattle.std.proofs.Common.refl
 first_or false b is here later = later is
 
-pub said_failed : (size i number : ℕ) (ls : List Line) (answers : List Answer) (before last : List Event)
+pub said_failed : (size i number : ℕ) (ls : List Line) (answers : List Answer)
+    (before last : List Event)
     → AreServedBy size i number ls answers before last → list_any says_fault answers ≡ true
     → failed_in last ≡ true
 said_failed size i number [] [] before last served is = absurd (cc)
@@ -61,6 +65,6 @@ closed_failed closing.Done ds before events is closed said = absurd (cc)
 closed_failed (closing.Failed d) ds before events is closed said =
     subst (λ (es : List Event). failed_in es ≡ true) (sym is)
     (failed_right before (map (by 0) ds) (failed_map 0 ds
-    ∙ ap Rattle.bc_cached_serve.specs.bc_serve.Causes.has_failed closed.1))
+    ∙ ap Rattle.bc_sound_reads.specs.bc_serve.Causes.has_failed closed.1))
 closed_failed (closing.Halted d) ds before events is closed said = halt_failed events d closed.1
 closed_failed closing.Memory ds before events is closed said = absurd (cc)

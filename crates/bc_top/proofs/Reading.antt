@@ -1,19 +1,23 @@
--- A trace that reads, over a pair with a cache.
+-- A trace that changes no value, over a pair with a cache.
 use Rattle.std.proofs.Common.{◌≡◌, inl, inr, ℕ, suc, List, [], ◌∷◌, Option, Some, None, Ok, Err, refl, sym, ◌∙◌, subst}
 use Rattle.std.specs.Prelude.{All, IfSome, IsNone, IsSome, Result}
 use Rattle.bc_book.specs.Pass.{events_in}
 use Rattle.bc_book.specs.declared.pass.Pass.{Pass}
-use Rattle.bc_cached_serve.specs.Deeds.{IsCaused}
-use Rattle.bc_cached_serve.specs.Served.{AreAnswered, HaveServed}
-use Rattle.bc_cached_serve.specs.declared.unsound.Unsound.{Unsound}
-use Rattle.bc_cached_serve.specs.declared.whole_run.Outcome.{Outcome}
+use Rattle.bc_sound_reads.specs.bc_cached_serve.Answered.{IsLineCaused}
+use Rattle.bc_sound_reads.specs.bc_cached_serve.Deeds.{IsCaused, IsFlushCaused, refusal_of_step}
+use Rattle.bc_sound_reads.specs.bc_cached_serve.Served.{AreAnswered, HaveServed}
+use Rattle.bc_sound_reads.specs.bc_cached_serve.declared.unsound.Unsound.{Unsound}
+use Rattle.bc_sound_reads.specs.bc_cached_serve.declared.whole_run.Outcome.{Outcome}
 use Rattle.bc_disk.specs.Device.{HasRisen}
 use Rattle.bc_disk.specs.Disk.{DiskFacts, IsHonest}
 use Rattle.bc_disk.specs.Stream.{StreamFacts}
 use Rattle.bc_events.specs.Columns.{entries_of}
 use Rattle.bc_events.specs.declared.event.Deed.{Deed}
 use Rattle.bc_events.specs.declared.event.Event.{Event}
+use Rattle.bc_events.specs.declared.event.LineNumber.{LineNumber}
 use Rattle.bc_session_laws.specs.bc_hand.Seats.{View}
+use Rattle.bc_session_laws.specs.bc_hand.declared.error.StepError.{StepError}
+use Rattle.bc_session_laws.specs.bc_hand.declared.error.StepError.TheVariants as step
 use Rattle.bc_session_laws.specs.bc_machine.declared.part.CorePart.{CorePart}
 use Rattle.bc_session_laws.specs.bc_open.Left.{LeavesThePair}
 use Rattle.bc_output.specs.declared.status.Status.{Status}
@@ -28,8 +32,10 @@ use Rattle.bc_script.specs.Trace.{IsTrace, IsWhole}
 use Rattle.bc_script.specs.declared.answer.Answer.{Answer}
 use Rattle.bc_script.specs.declared.answer.Answer.TheVariants.{Refused}
 use Rattle.bc_script.specs.declared.answer.Refusal.TheVariants as refusal
+use Rattle.bc_script.specs.declared.line.Action.TheVariants.{Flush}
 use Rattle.bc_script.specs.declared.line.Line.{Line}
-use Rattle.bc_cached_serve.specs.bc_serve.Causes.{entries_by}
+use Rattle.bc_script.specs.declared.line.Line.TheVariants as line
+use Rattle.bc_sound_reads.specs.bc_serve.Causes.{entries_by}
 use Rattle.bc_session_laws.proofs.of_bc_session.Stops.{held_on}
 use Rattle.bc_super.specs.Super.{data_sectors}
 use Rattle.bc_super.specs.declared.backing.BackingSuper.{BackingSuper}
@@ -39,7 +45,7 @@ use Rattle.bc_top.specs.Call.{HasCause, HasRun, ServesOver}
 use Rattle.bc_top.specs.Ended.{HasStopped, IsDone, IsEnd}
 use Rattle.bc_top.specs.Idle.{EndsOpening, EndsUnopened, IsTested}
 use Rattle.bc_top.specs.Opened.{AsksForNone}
-use Rattle.bc_top.specs.Top.{AskReads, OneHasRisen}
+use Rattle.bc_top.specs.Top.{AskToKeep, OneHasRisen}
 use Rattle.bc_top.specs.declared.exit.Exit.{Exit}
 use Rattle.bc_top.proofs.Completing.{asks_the_same}
 use Rattle.bc_top.proofs.Idle.{all_rose, all_unwritten, begun_answers, not_sink, not_source, not_used, shows, unopened_answers}
@@ -73,6 +79,31 @@ plain_one (Refused (refusal.NoBucket purpose none_len own_len)) seen ds h = h
 plain_one (Refused refusal.JournalEnd) seen ds h = h
 plain_one a seen ds h = tt
 
+no_bucket : (e : StepError) (purpose : _) (none_len own_len : ℕ)
+    → refusal.NoBucket purpose none_len own_len ≡ refusal_of_step e → ⊥
+no_bucket (step.Fault which) purpose none_len own_len is = cc
+no_bucket (step.Halted which) purpose none_len own_len is = cc
+no_bucket step.Memory purpose none_len own_len is = cc
+
+no_end : (e : StepError) → refusal.JournalEnd ≡ refusal_of_step e → ⊥
+no_end (step.Fault which) is = cc
+no_end (step.Halted which) is = cc
+no_end step.Memory is = cc
+
+plain_flush : (of : LineNumber) (a : Answer) (seen : List Event) (ds : List Deed)
+    → IsFlushCaused of a seen ds → IsPlain a
+plain_flush of (Refused (refusal.NoBucket purpose none_len own_len)) seen ds h =
+    no_bucket h.0 purpose none_len own_len h.1
+plain_flush of (Refused refusal.JournalEnd) seen ds h = no_end h.0 h.1
+plain_flush of a seen ds h = tt
+
+plain_line : (number : ℕ) (l : Line) (a : Answer) (seen : List Event) (ds : List Deed)
+    → IsLineCaused number l a seen ds → IsPlain a
+plain_line number line.Silent a seen ds h = plain_one a seen ds h
+plain_line number (line.Request worker phase Flush) a seen ds h =
+    plain_flush (record { worker = worker; line = number }) a seen ds h
+plain_line number (line.Request worker phase action) a seen ds h = plain_one a seen ds h
+
 module _ {C B : Type 0} (cache_facts : C → DiskFacts) (facts : B → DiskFacts) where
   all_plain : (p : PartsView (CorePart C B)) (size number : ℕ) (ls : List Line)
       (answers : List Answer) (v w : View cache_facts facts)
@@ -81,7 +112,7 @@ module _ {C B : Type 0} (cache_facts : C → DiskFacts) (facts : B → DiskFacts
   all_plain p size number [] (a ∷ others) v w served = absurd served
   all_plain p size number (l ∷ ls) [] v w served = absurd served
   all_plain p size number (l ∷ ls) (a ∷ others) v w (u, first, rest) = (
-    plain_one a u.seen first.deeds first.caused,
+    plain_line number l a first.last.seen first.answered.deeds first.answered.caused,
     all_plain p size (suc number) ls others u w rest,
   )
 
@@ -107,11 +138,12 @@ module _ {C B : Type 0} (cache_facts : C → DiskFacts) (facts : B → DiskFacts
         → IsDone (data_sectors (facts backing).sectors b) lines r.answers.items old new
     reported_done are status old new end is =
         run_done run.over.parts (data_sectors (facts backing).sectors b) r.served lines
-        r.answers.items _ run.over.on.lines_by.at are run.over.on.lines_by.served status
+        r.answers.items run.over.seat run.over.on.before are run.over.on.lines_by.served status
         (closing_of r.closed.result) old new end is
 
 module _ {C B : Type 0} (cache_facts : C → DiskFacts) (facts : B → DiskFacts)
-    (honest : (e : B) → IsHonest (facts e)) (b : BackingSuper) (s : Survey) (cache : C) (backing : B)
+    (honest : (e : B) → IsHonest (facts e)) (b : BackingSuper) (s : Survey) (cache : C)
+    (backing : B)
     (lines : List Line) (r : Outcome C B)
     (run : HasRunFrom cache_facts facts b s cache backing lines r) where
   pub reported_served : All IsLine lines → (status : Status) (old new : StreamFacts)
@@ -129,8 +161,9 @@ module _ {C B : Type 0} (cache_facts : C → DiskFacts) (facts : B → DiskFacts
 module _ {C B : Type 0} (cache_facts : C → DiskFacts) (facts : B → DiskFacts)
     (honest : (e : B) → IsHonest (facts e)) (b : BackingSuper) (s : Survey) (cache tested_cache : C)
     (backing tested : B) (it : Exit C B) (source left old new : StreamFacts) (lines : List Line)
-    (trace : IsTrace lines) (whole : IsWhole source left lines) (reads : AskReads lines)
-    (is : IsTested b s (cache_facts cache) (cache_facts tested_cache) (facts backing) (facts tested))
+    (trace : IsTrace lines) (whole : IsWhole source left lines) (reads : AskToKeep lines)
+    (is : IsTested b s (cache_facts cache) (cache_facts tested_cache) (facts backing)
+    (facts tested))
     (ran : IfSome it.pass
     (HasReported cache_facts facts b s tested_cache tested lines it old new))
     (unopened : IsNone it.pass → EndsUnopened cache_facts facts b s tested_cache it.cache tested
@@ -155,7 +188,8 @@ module _ {C B : Type 0} (cache_facts : C → DiskFacts) (facts : B → DiskFacts
       (h : HasReported cache_facts facts b s tested_cache tested lines it old new pass) where
     serves : OfHeld (ServesSound cache_facts facts b s tested_cache tested lines h.outcome h.run)
         (cache_facts cache) (facts backing)
-    serves = held_before (ServesSound cache_facts facts b s tested_cache tested lines h.outcome h.run)
+    serves = held_before (ServesSound cache_facts facts b s tested_cache tested lines h.outcome
+        h.run)
         (cache_facts cache) (cache_facts h.run.read) (facts backing) (facts tested)
         (h.run.kept.sectors ∙ is.cache_same.sectors)
         (both_same (cache_facts cache).holds (cache_facts tested_cache).holds
@@ -181,7 +215,8 @@ module _ {C B : Type 0} (cache_facts : C → DiskFacts) (facts : B → DiskFacts
     })
 
     run_raised : it.status ≡ statuses.Device → Rises
-    run_raised six = by_side (run_rose cache_facts facts b s tested_cache tested lines h.outcome h.run
+    run_raised six = by_side (run_rose cache_facts facts b s tested_cache tested lines h.outcome
+        h.run
         (failed_by it.status h.outcome.answers.items (stopped_at h.outcome.served)
         (closing_of h.outcome.closed.result) old new h.ends six))
       where
@@ -209,8 +244,8 @@ module _ {C B : Type 0} (cache_facts : C → DiskFacts) (facts : B → DiskFacts
   abbrev At : Pass → Type 0
   At = HasReported cache_facts facts b s tested_cache tested lines it old new
 
-  pub reads_served : ServesOver cache_facts facts cache backing it source left old new
-  reads_served = record {
+  pub kept_served : ServesOver cache_facts facts cache backing it source left old new
+  kept_served = record {
     stopped = λ none. inr (inr (record {
       trace = (lines, trace, whole, reads);
       superblock = b;
@@ -229,17 +264,19 @@ module _ {C B : Type 0} (cache_facts : C → DiskFacts) (facts : B → DiskFacts
         (λ none. unopened_answers cache_facts facts b s cache tested_cache it.cache backing tested
         it.backing it.status old new is (ended none) (IsSome it.pass) source left lines whole reads
         (unopened none))
-        (λ pass eq. begun_answers (IsSome it.pass) b s (cache_facts cache) (cache_facts tested_cache)
+        (λ pass eq. begun_answers (IsSome it.pass) b s (cache_facts cache)
+        (cache_facts tested_cache)
         (cache_facts it.cache) (facts backing) (facts tested) (facts it.backing) is
         (is_there it.pass pass eq) source left lines whole reads it.status old new);
   }
 
-  pub reads_caused : HasCause cache_facts facts cache backing it source left old new
-  reads_caused = record {
+  pub kept_caused : HasCause cache_facts facts cache backing it source left old new
+  kept_caused = record {
     unwritten = λ none refused. all_unwritten cache_facts facts b s cache tested_cache it.cache
         backing tested it.backing it.status old new is (ended none) refused;
     by_device = λ six. each it.pass
-        (λ none. all_rose cache_facts facts b s cache tested_cache it.cache backing tested it.backing
+        (λ none. all_rose cache_facts facts b s cache tested_cache it.cache backing tested
+        it.backing
         it.status old new is (ended none) six)
         (λ pass eq. run_raised pass (at_some it.pass At pass eq ran) six);
     by_source = λ seven. absurd (each it.pass
@@ -252,8 +289,9 @@ module _ {C B : Type 0} (cache_facts : C → DiskFacts) (facts : B → DiskFacts
         (λ pass eq. run_sink pass (at_some it.pass At pass eq ran) eight);
   }
 
-  pub reads_known : it.status ≡ statuses.Usage → ⊥
-  reads_known two = each it.pass
-      (λ none. not_used cache_facts facts b s tested_cache it.cache tested it.backing it.status old new
+  pub kept_known : it.status ≡ statuses.Usage → ⊥
+  kept_known two = each it.pass
+      (λ none. not_used cache_facts facts b s tested_cache it.cache tested it.backing it.status old
+      new
       (ended none) two)
       (λ pass eq. run_usage pass (at_some it.pass At pass eq ran) two)

@@ -5,11 +5,12 @@ use Rattle.std.specs.Prelude.{Result, fold, map}
 use Rattle.std.specs.List.{list_any}
 use Rattle.bc_session_laws.specs.bc_begun.Begin.{parts_of}
 use Rattle.bc_book.specs.Pass.{events_in}
-use Rattle.bc_cached_serve.specs.Deeds.{HasFailedAt, IsCaused}
-use Rattle.bc_cached_serve.specs.Served.{AreAnswered, HaveServed}
-use Rattle.bc_cached_serve.specs.declared.unsound.Unsound.{Unsound}
-use Rattle.bc_cached_serve.specs.declared.whole_run.Outcome.{Outcome}
-use Rattle.bc_cached_serve.specs.bc_deed.Flushed.{HasDone}
+use Rattle.bc_sound_reads.specs.bc_cached_serve.Answered.{HasServedLine, IsLineCaused}
+use Rattle.bc_sound_reads.specs.bc_cached_serve.Deeds.{HasFailedAt, IsCaused, IsCutAtEnd, IsCutBefore, IsFlushCaused, IsFlushCut, refusal_of_step}
+use Rattle.bc_sound_reads.specs.bc_cached_serve.Served.{AreAnswered, HaveServed}
+use Rattle.bc_sound_reads.specs.bc_cached_serve.declared.unsound.Unsound.{Unsound}
+use Rattle.bc_sound_reads.specs.bc_cached_serve.declared.whole_run.Outcome.{Outcome}
+use Rattle.bc_sound_reads.specs.bc_deed.Flushed.{HasDone}
 use Rattle.bc_disk.specs.Device.{HasRisen, next_count}
 use Rattle.bc_disk.specs.Disk.{DiskFacts}
 use Rattle.bc_disk.specs.declared.disk.Device.{Device}
@@ -19,18 +20,23 @@ use Rattle.bc_events.specs.declared.event.Deed.{Deed}
 use Rattle.bc_events.specs.declared.event.Deed.TheVariants as deed
 use Rattle.bc_events.specs.declared.event.Event.{Event}
 use Rattle.bc_events.specs.declared.event.Failure.TheVariants as failure
+use Rattle.bc_events.specs.declared.event.LineNumber.{LineNumber}
 use Rattle.bc_session_laws.specs.bc_hand.Seats.{View, by, world}
+use Rattle.bc_session_laws.specs.bc_hand.declared.error.StepError.{StepError}
+use Rattle.bc_session_laws.specs.bc_hand.declared.error.StepError.TheVariants as step
 use Rattle.bc_session_laws.specs.bc_machine.World.{World, after, opening}
 use Rattle.bc_session_laws.specs.bc_machine.declared.part.CorePart.{CorePart}
 use Rattle.bc_parts.specs.Seat.{PartsView}
 use Rattle.bc_replay.specs.declared.held.Survey.{Survey}
 use Rattle.bc_script.specs.declared.answer.Answer.{Answer}
 use Rattle.bc_script.specs.declared.answer.Answer.TheVariants.{Silent, Done, Runs, Refused}
+use Rattle.bc_script.specs.declared.answer.Refusal.{Refusal}
 use Rattle.bc_script.specs.declared.answer.Refusal.TheVariants as refusal
+use Rattle.bc_script.specs.declared.line.Action.TheVariants.{Flush}
 use Rattle.bc_script.specs.declared.line.Line.{Line}
-use Rattle.bc_cached_serve.specs.bc_serve.Causes.{has_failed as failed_deeds, is_failed}
-use Rattle.bc_cached_serve.specs.bc_serve.Run.{events_by}
-use Rattle.bc_cached_serve.proofs.of_bc_serve.Failing.{failed_in, failed_left, failed_map, failed_own, failed_right, halt_failed}
+use Rattle.bc_script.specs.declared.line.Line.TheVariants as line
+use Rattle.bc_sound_reads.specs.bc_serve.Causes.{has_failed as failed_deeds, is_failed}
+use Rattle.bc_sound_reads.proofs.of_bc_serve.Failing.{failed_in, failed_left, failed_map, failed_right, halt_failed}
 use Rattle.bc_session_laws.specs.bc_session.Close.{IsBarrierOf, IsLastState, Outcome as Barrier}
 use Rattle.bc_session_laws.specs.bc_session.Open.{IsRunOver}
 use Rattle.bc_session_laws.specs.bc_session.declared.closing.CloseError.{CloseError}
@@ -63,36 +69,91 @@ first_or : {P : Type 0} (a b : Bool) → (a || b) ≡ true → (a ≡ true → P
 first_or true b is here later = here refl
 first_or false b is here later = later is
 
-module _ {C B : Type 0} (cache_facts : C → DiskFacts) (facts : B → DiskFacts) where
-  -- what a seat has done it has seen, and what it saw it goes on to see
-  done_failed : (v w : View cache_facts facts) (ds : List Deed) → HasDone cache_facts facts ds v w
-      → failed_deeds ds ≡ true → failed_in w.seen ≡ true
-  done_failed v w ds done is = failed_own w.first w.seen
-      (subst (λ (es : List Event). failed_in es ≡ true) (sym done.own)
-      (failed_right (events_by v.first v.seen) (map (by v.first) ds) (failed_map v.first ds ∙ is)))
+-- of an answer that says so a call had failed by then
+caused_failed : (seen : List Event) (ds : List Deed) (a : Answer) → IsCaused a seen ds
+    → says_fault a ≡ true → (failed_deeds ds ≡ true) ⊎ (failed_in seen ≡ true)
+caused_failed seen ds Silent caused is = absurd (cc)
+caused_failed seen ds Done caused is = absurd (cc)
+caused_failed seen ds (Runs at values) caused is = absurd (cc)
+caused_failed seen ds (Refused refusal.OutOfRange) caused is = absurd (cc)
+caused_failed seen ds (Refused (refusal.NoBucket purpose none_len own_len)) caused is = absurd (cc)
+caused_failed seen ds (Refused refusal.JournalEnd) caused is = absurd (cc)
+caused_failed seen ds (Refused (refusal.Node bucket why)) caused is = absurd (cc)
+caused_failed seen ds (Refused (refusal.Fault d)) caused is = inl (fails_at d ds caused)
+caused_failed seen ds (Refused (refusal.Halted d)) caused is = inr (halt_failed seen d caused.0)
+caused_failed seen ds (Refused refusal.Memory) caused is = absurd (cc)
 
+-- a flush says so where its barrier failed, or a halt came before
+end_failed : (e : StepError) (seen : List Event) (more : List Deed) → IsCutAtEnd e seen more
+    → says_fault (Refused (refusal_of_step e)) ≡ true
+    → (failed_deeds more ≡ true) ⊎ (failed_in seen ≡ true)
+end_failed (step.Fault which) seen more cut is = inl (ap failed_deeds cut.1)
+end_failed (step.Halted which) seen more cut is = inr (halt_failed seen which cut.0)
+end_failed step.Memory seen more cut is = absurd (cc)
+
+before_failed : (e : StepError) (seen : List Event) (ds : List Deed) → IsCutBefore e seen ds
+    → says_fault (Refused (refusal_of_step e)) ≡ true
+    → (failed_deeds ds ≡ true) ⊎ (failed_in seen ≡ true)
+before_failed (step.Fault which) seen ds cut is = absurd cut
+before_failed (step.Halted which) seen ds cut is = inr (halt_failed seen which cut.0)
+before_failed step.Memory seen ds cut is = absurd (cc)
+
+cut_failed : (of : LineNumber) (e : StepError) (seen : List Event) (ds : List Deed)
+    → IsFlushCut of e seen ds → says_fault (Refused (refusal_of_step e)) ≡ true
+    → (failed_deeds ds ≡ true) ⊎ (failed_in seen ≡ true)
+cut_failed of e seen ds (inl before) is = before_failed e seen ds before is
+cut_failed of e seen ds (inr (more, cut, are)) is = elim (end_failed e seen more cut is) [
+  | inl failed ↦ inl (ap failed_deeds are ∙ failed)
+  | inr failed ↦ inr failed
+]
+
+flush_failed : (of : LineNumber) (seen : List Event) (ds : List Deed) (a : Answer)
+    → IsFlushCaused of a seen ds → says_fault a ≡ true
+    → (failed_deeds ds ≡ true) ⊎ (failed_in seen ≡ true)
+flush_failed of seen ds Silent caused is = absurd caused
+flush_failed of seen ds Done caused is = absurd (cc)
+flush_failed of seen ds (Runs at values) caused is = absurd caused
+flush_failed of seen ds (Refused why) caused is = cut_failed of caused.0 seen ds caused.2
+    (subst (λ (r : Refusal). says_fault (Refused r) ≡ true) caused.1 is)
+
+line_failed : (number : ℕ) (l : Line) (seen : List Event) (ds : List Deed) (a : Answer)
+    → IsLineCaused number l a seen ds → says_fault a ≡ true
+    → (failed_deeds ds ≡ true) ⊎ (failed_in seen ≡ true)
+line_failed number line.Silent seen ds a caused is = caused_failed seen ds a caused is
+line_failed number (line.Request worker phase Flush) seen ds a caused is =
+    flush_failed (record { worker = worker; line = number }) seen ds a caused is
+line_failed number (line.Request worker phase action) seen ds a caused is =
+    caused_failed seen ds a caused is
+
+-- what was seen goes on to be
+failed_behind : (xs ys : List Event) (ds : List Deed) → ys ≡ xs ++ map (by 16) ds
+    → failed_in xs ≡ true → failed_in ys ≡ true
+failed_behind xs ys ds is failed = subst (λ (es : List Event). failed_in es ≡ true) (sym is)
+    (failed_left xs (map (by 16) ds) failed)
+
+-- and what was done is seen
+failed_done : (xs ys : List Event) (ds : List Deed) → ys ≡ xs ++ map (by 16) ds
+    → failed_deeds ds ≡ true → failed_in ys ≡ true
+failed_done xs ys ds is failed = subst (λ (es : List Event). failed_in es ≡ true) (sym is)
+    (failed_right xs (map (by 16) ds) (failed_map 16 ds ∙ failed))
+
+module _ {C B : Type 0} (cache_facts : C → DiskFacts) (facts : B → DiskFacts) where
   done_keeps : (v w : View cache_facts facts) (ds : List Deed) → HasDone cache_facts facts ds v w
       → failed_in v.seen ≡ true → failed_in w.seen ≡ true
   done_keeps v w ds done is = subst (λ (es : List Event). failed_in es ≡ true) (sym done.grown.seen)
       (failed_left v.seen done.grown.more is)
 
-  -- an answer that says so has seen it
-  answer_failed : (v w : View cache_facts facts) (ds : List Deed) → HasDone cache_facts facts ds v w
-      → (a : Answer) → IsCaused a w.seen ds → says_fault a ≡ true → failed_in w.seen ≡ true
-  answer_failed v w ds done Silent caused is = absurd (cc)
-  answer_failed v w ds done Done caused is = absurd (cc)
-  answer_failed v w ds done (Runs at values) caused is = absurd (cc)
-  answer_failed v w ds done (Refused refusal.OutOfRange) caused is = absurd (cc)
-  answer_failed v w ds done (Refused (refusal.NoBucket purpose none_len own_len)) caused is =
-      absurd (cc)
-  answer_failed v w ds done (Refused refusal.JournalEnd) caused is = absurd (cc)
-  answer_failed v w ds done (Refused (refusal.Node bucket why)) caused is = absurd (cc)
-  answer_failed v w ds done (Refused (refusal.Fault d)) caused is =
-      done_failed v w ds done (fails_at d ds caused)
-  answer_failed v w ds done (Refused (refusal.Halted d)) caused is = halt_failed w.seen d caused.0
-  answer_failed v w ds done (Refused refusal.Memory) caused is = absurd (cc)
-
   module _ (p : PartsView (CorePart C B)) (size : ℕ) where
+    -- an answer that says so has seen it
+    answer_failed : (number : ℕ) (l : Line) (a : Answer) (v w : View cache_facts facts)
+        → HasServedLine cache_facts facts p size number l a v w → says_fault a ≡ true
+        → failed_in w.seen ≡ true
+    answer_failed number l a v w h is = elim (line_failed number l h.last.seen h.answered.deeds a
+        h.answered.caused is) [
+          | inl failed ↦ failed_done v.seen w.seen h.answered.deeds h.taken.seen failed
+          | inr failed ↦ subst (λ (es : List Event). failed_in es ≡ true) h.taken.last failed
+        ]
+
     answered_keeps : (number : ℕ) (ls : List Line) (answers : List Answer)
         (v w : View cache_facts facts) → AreAnswered cache_facts facts p size number ls answers v w
         → failed_in v.seen ≡ true → failed_in w.seen ≡ true
@@ -101,7 +162,8 @@ module _ {C B : Type 0} (cache_facts : C → DiskFacts) (facts : B → DiskFacts
     answered_keeps number [] (a ∷ others) v w is failed = absurd is
     answered_keeps number (l ∷ ls) [] v w is failed = absurd is
     answered_keeps number (l ∷ ls) (a ∷ others) v w (u, first, rest) failed =
-        answered_keeps (suc number) ls others u w rest (done_keeps v u first.deeds first.done failed)
+        answered_keeps (suc number) ls others u w rest
+        (failed_behind v.seen u.seen first.answered.deeds first.taken.seen failed)
 
     said_failed : (number : ℕ) (ls : List Line) (answers : List Answer)
         (v w : View cache_facts facts) → AreAnswered cache_facts facts p size number ls answers v w
@@ -112,7 +174,7 @@ module _ {C B : Type 0} (cache_facts : C → DiskFacts) (facts : B → DiskFacts
     said_failed number (l ∷ ls) (a ∷ others) v w (u, first, rest) is =
         first_or (says_fault a) (list_any says_fault others) is
         (λ here. answered_keeps (suc number) ls others u w rest
-        (answer_failed v u first.deeds first.done a first.caused here))
+        (answer_failed number l a v u first here))
         (said_failed (suc number) ls others u w rest)
 
     pub served_failed : (result : Result (Unit {0}) Unsound) (ls : List Line)
@@ -121,7 +183,7 @@ module _ {C B : Type 0} (cache_facts : C → DiskFacts) (facts : B → DiskFacts
         → list_any says_fault answers ≡ true → failed_in w.seen ≡ true
     served_failed (Ok u) ls answers v w served is = said_failed 1 ls answers v w served.by_line is
     served_failed (Err stop) ls answers v w served is =
-        done_keeps served.at w served.stopped.deeds served.stopped.done
+        failed_behind served.at.seen w.seen served.stopped.stopped.deeds served.stopped.taken.seen
         (said_failed 1 served.before answers v served.at served.answered.by_line is)
 
 -- ---- the whole run
@@ -252,11 +314,10 @@ module _ {C B : Type 0} (cache_facts : C → DiskFacts) (facts : B → DiskFacts
       let by = run.over.on.lines_by in
       let closed = run.over.on.closed in
       let seen = served_failed cache_facts facts run.over.parts
-      (data_sectors (facts backing).sectors b) r.served lines r.answers.items _ by.at by.served said in
-      let joined = subst (λ (es : List Event). failed_in es ≡ true) (sym by.joined.seen.1)
-      (failed_left by.at.seen by.joined.seen.0 seen) in
+      (data_sectors (facts backing).sectors b) r.served lines r.answers.items run.over.seat
+      run.over.on.before by.served said in
       let then = done_keeps cache_facts facts run.over.on.before closed.last closed.made.deeds
-      closed.made.done joined in
+      closed.made.done seen in
       events_rose (subst (λ (es : List Event). failed_in es ≡ true) (sym closed.events) then)
 
   pub run_rose : (list_any says_fault r.answers.items ≡ true)

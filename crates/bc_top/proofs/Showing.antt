@@ -1,14 +1,13 @@
--- What a run that reads shows of a sound pair, and what it leaves of it.
+-- What a run that changes no value shows of a sound pair, and what it leaves of it.
 use Rattle.std.proofs.Common.{◌≡◌, ◌⊎◌, inl, inr, ℕ, suc, Bool, true, false, List, [], ◌∷◌, ◌++◌, Option, Some, None, Ok, Err, append_assoc, refl, sym, ap, ◌∙◌, subst}
-use Rattle.std.specs.Prelude.{All, MatchBool, Result, length, map, nat_le, option_to_list, reverse}
+use Rattle.std.specs.Prelude.{All, MatchBool, OnOk, Result, length, map, nat_le, option_to_list, reverse}
 use Rattle.std.proofs.lemmas.List.{reverse-append}
 use Rattle.bc_book.specs.Pass.{events_in}
-use Rattle.bc_cached_serve.specs.Deeds.{AreReading, IsReading}
-use Rattle.bc_cached_serve.specs.Run.{HasServedBy}
-use Rattle.bc_cached_serve.specs.Served.{AreAnswered, HaveServed}
-use Rattle.bc_cached_serve.specs.declared.unsound.Unsound.{Unsound}
-use Rattle.bc_cached_serve.specs.declared.whole_run.Outcome.{Outcome}
-use Rattle.bc_cached_serve.specs.bc_deed.Flushed.{HasDone}
+use Rattle.bc_sound_reads.specs.bc_cached_serve.Deeds.{AreKeeping, IsKeeping}
+use Rattle.bc_sound_reads.specs.bc_cached_serve.Run.{HasServedBy}
+use Rattle.bc_sound_reads.specs.bc_cached_serve.Served.{AreAnswered, HaveServed}
+use Rattle.bc_sound_reads.specs.bc_cached_serve.declared.unsound.Unsound.{Unsound}
+use Rattle.bc_sound_reads.specs.bc_cached_serve.declared.whole_run.Outcome.{Outcome}
 use Rattle.bc_disk.specs.Disk.{DiskFacts, IfTold, IsHonest}
 use Rattle.bc_session_laws.specs.bc_entered.Laws.{ShowsTheSame}
 use Rattle.bc_events.specs.Columns.{entries_of, entry_by}
@@ -46,9 +45,7 @@ use Rattle.bc_script.specs.declared.answer.Answer.{Answer}
 use Rattle.bc_script.specs.declared.line.Line.{Line}
 use Rattle.bc_script.proofs.Marks.{of_first, one_by_one}
 use Rattle.bc_script.proofs.Outcomes.{outcome_from}
-use Rattle.bc_cached_serve.specs.bc_serve.Causes.{entries_by}
-use Rattle.bc_cached_serve.specs.bc_serve.Run.{events_by}
-use Rattle.bc_cached_serve.proofs.of_bc_serve.Lists.{entries_map}
+use Rattle.bc_sound_reads.specs.bc_serve.Causes.{entries_by}
 use Rattle.bc_session_laws.specs.bc_session.Close.{IsBarrierOf, Outcome as Barrier}
 use Rattle.bc_session_laws.specs.bc_session.Laws.{HoldSound}
 use Rattle.bc_session_laws.specs.bc_session.Open.{IsRunOver}
@@ -58,12 +55,13 @@ use Rattle.bc_session_laws.specs.Events.{BringNothing, OnlyReads}
 use Rattle.bc_session_laws.specs.Laws.{HasKept, IsOpenedOn, IsRecoverable}
 use Rattle.bc_session_laws.proofs.Closed.{law_closed}
 use Rattle.bc_session_laws.proofs.Made.{law_made}
+use Rattle.bc_sound_reads.proofs.Whole.{law_not_refused}
 use Rattle.bc_super.specs.Reading.{ReadsSuper}
 use Rattle.bc_super.specs.Super.{data_sectors}
 use Rattle.bc_super.specs.declared.backing.BackingSuper.{BackingSuper}
 use Rattle.bc_top.specs.Cached.{HasRunFrom, IsSeenFrom, KeepsThePair, ServesSound, TearsNone, stopped_at}
 
--- ---- histories of reads
+-- ---- histories that give no value
 
 silent_gives : (e : Entry) (s : ℕ) → may_give e s ≡ None → gives e s ≡ None
 silent_gives (entry.Write worker line first values) s is = is
@@ -71,7 +69,8 @@ silent_gives (entry.Tried first values) s is = refl
 silent_gives e s is = refl
 
 -- where none gives the sector anything it has what it had
-now_silent : (opening : Image) (es : List Entry) (s : ℕ) → Silent s es → now opening es s ≡ opening s
+now_silent : (opening : Image) (es : List Entry) (s : ℕ) → Silent s es → now opening es s ≡ opening
+    s
 now_silent opening [] s quiet = refl
 now_silent opening (e ∷ es) s quiet =
     ap (λ (o : Option Value). unless o (now opening es s)) (silent_gives e s quiet.0)
@@ -102,22 +101,26 @@ silent_back s [] quiet = tt
 silent_back s (e ∷ es) quiet = subst (Silent s) (sym (reverse-append (e ∷ []) es))
     (silent_both s (reverse es) (e ∷ []) (silent_back s es quiet.1) (quiet.0, tt))
 
--- ---- deeds that read
+-- ---- deeds that change no value
 
-fault_silent : (x : Failure) (s : ℕ) → IsReading (deed.DeviceFault x)
+fault_silent : (x : Failure) (s : ℕ) → IsKeeping (deed.DeviceFault x)
     → Silent s (entries_by (deed.DeviceFault x ∷ []))
 fault_silent (failure.Read which) s is = tt
+fault_silent (failure.Barrier which) s is = tt
 fault_silent x s is = absurd is
 
-read_silent : (d : Deed) (s : ℕ) → IsReading d → Silent s (entries_by (d ∷ []))
-read_silent (deed.Claim first count share) s is = tt
-read_silent (deed.Look leaf) s is = tt
-read_silent (deed.CacheRead at first values) s is = tt
-read_silent (deed.BackingRead first values) s is = tt
-read_silent (deed.DeviceFault x) s is = fault_silent x s is
-read_silent (deed.Answer of first values) s is = (refl, tt)
-read_silent deed.Release s is = tt
-read_silent d s is = absurd is
+deed_silent : (d : Deed) (s : ℕ) → IsKeeping d → Silent s (entries_by (d ∷ []))
+deed_silent (deed.Claim first count how) s is = tt
+deed_silent (deed.Look leaf) s is = tt
+deed_silent (deed.CacheRead at first values) s is = tt
+deed_silent (deed.BackingRead first values) s is = tt
+deed_silent (deed.DeviceFault x) s is = fault_silent x s is
+deed_silent (deed.Answer of first values) s is = (refl, tt)
+deed_silent deed.Release s is = tt
+deed_silent (deed.FlushFrom of) s is = (refl, tt)
+deed_silent deed.BackingBarrier s is = tt
+deed_silent (deed.FlushDone of) s is = (refl, tt)
+deed_silent d s is = absurd is
 
 entries_both : (xs ys : List Deed) → entries_by (xs ++ ys) ≡ entries_by xs ++ entries_by ys
 entries_both [] ys = refl
@@ -125,29 +128,33 @@ entries_both (x ∷ xs) ys =
     ap (λ (l : List Entry). option_to_list (entry_by x) ++ l) (entries_both xs ys)
     ∙ sym (append_assoc (option_to_list (entry_by x)) (entries_by xs) (entries_by ys))
 
-reads_silent : (ds : List Deed) (s : ℕ) → AreReading ds → Silent s (entries_by ds)
-reads_silent [] s are = tt
-reads_silent (d ∷ ds) s are = subst (Silent s) (sym (entries_both (d ∷ []) ds))
-    (silent_both s (entries_by (d ∷ [])) (entries_by ds) (read_silent d s are.0)
-    (reads_silent ds s are.1))
+all_silent : (ds : List Deed) (s : ℕ) → AreKeeping ds → Silent s (entries_by ds)
+all_silent [] s are = tt
+all_silent (d ∷ ds) s are = subst (Silent s) (sym (entries_both (d ∷ []) ds))
+    (silent_both s (entries_by (d ∷ [])) (entries_by ds) (deed_silent d s are.0)
+    (all_silent ds s are.1))
 
-fault_brings : (x : Failure) → IsReading (deed.DeviceFault x) → brings (deed.DeviceFault x) ≡ false
+fault_brings : (x : Failure) → IsKeeping (deed.DeviceFault x) → brings (deed.DeviceFault x) ≡ false
 fault_brings (failure.Read which) is = refl
+fault_brings (failure.Barrier which) is = refl
 fault_brings x is = absurd is
 
-read_brings : (d : Deed) → IsReading d → brings d ≡ false
-read_brings (deed.Claim first count share) is = refl
-read_brings (deed.Look leaf) is = refl
-read_brings (deed.CacheRead at first values) is = refl
-read_brings (deed.BackingRead first values) is = refl
-read_brings (deed.DeviceFault x) is = fault_brings x is
-read_brings (deed.Answer of first values) is = refl
-read_brings deed.Release is = refl
-read_brings d is = absurd is
+deed_brings : (d : Deed) → IsKeeping d → brings d ≡ false
+deed_brings (deed.Claim first count how) is = refl
+deed_brings (deed.Look leaf) is = refl
+deed_brings (deed.CacheRead at first values) is = refl
+deed_brings (deed.BackingRead first values) is = refl
+deed_brings (deed.DeviceFault x) is = fault_brings x is
+deed_brings (deed.Answer of first values) is = refl
+deed_brings deed.Release is = refl
+deed_brings (deed.FlushFrom of) is = refl
+deed_brings deed.BackingBarrier is = refl
+deed_brings (deed.FlushDone of) is = refl
+deed_brings d is = absurd is
 
-reads_bring : (i : ℕ) (ds : List Deed) → AreReading ds → BringNothing (map (by i) ds)
-reads_bring i [] are = tt
-reads_bring i (d ∷ ds) are = (read_brings d are.0, reads_bring i ds are.1)
+none_brings : (i : ℕ) (ds : List Deed) → AreKeeping ds → BringNothing (map (by i) ds)
+none_brings i [] are = tt
+none_brings i (d ∷ ds) are = (deed_brings d are.0, none_brings i ds are.1)
 
 bring_both : (xs ys : List Event) → BringNothing xs → BringNothing ys → BringNothing (xs ++ ys)
 bring_both [] ys one two = two
@@ -162,7 +169,8 @@ IsIdle ds = (entries_by ds ≡ []) × BringNothing (map (by 0) ds)
 idle_is : (ds es : List Deed) → ds ≡ es → IsIdle es → IsIdle ds
 idle_is ds es is idle = subst IsIdle (sym is) idle
 
-closing_idle : (o : Barrier) (ds : List Deed) (seen : List Event) → IsBarrierOf o ds seen → IsIdle ds
+closing_idle : (o : Barrier) (ds : List Deed) (seen : List Event) → IsBarrierOf o ds seen → IsIdle
+    ds
 closing_idle (Ok u) ds seen is = idle_is ds _ is.0 (refl, (refl, tt))
 closing_idle (Err closings.Fault) ds seen is = idle_is ds _ is (refl, (refl, tt))
 closing_idle (Err (closings.Halted d)) ds seen is = either is.0
@@ -172,37 +180,10 @@ closing_idle (Err (closings.Halted d)) ds seen is = either is.0
     either (inr made) = idle_is ds _ made (refl, (refl, tt))
 closing_idle (Err closings.Memory) ds seen is = idle_is ds [] is (refl, tt)
 
-events_both : (xs ys : List Event) → entries_of (xs ++ ys) ≡ entries_of xs ++ entries_of ys
-events_both [] ys = refl
-events_both (x ∷ xs) ys =
-    ap (λ (l : List Entry). option_to_list (entry_by x.deed) ++ l) (events_both xs ys)
-    ∙ sym (append_assoc (option_to_list (entry_by x.deed)) (entries_of xs) (entries_of ys))
-
-no_more : (es : List Entry) → es ++ [] ≡ es
-no_more [] = refl
-no_more (e ∷ es) = ap (λ (l : List Entry). e ∷ l) (no_more es)
-
--- what comes behind the same list is the same
-same_tail : (x y : Event) (xs ys : List Event) → x ∷ xs ≡ y ∷ ys → xs ≡ ys
-same_tail x y xs ys is = cc
-
-same_behind : (zs xs ys : List Event) → zs ++ xs ≡ zs ++ ys → xs ≡ ys
-same_behind [] xs ys is = is
-same_behind (z ∷ zs) xs ys is = same_behind zs xs ys (same_tail z z (zs ++ xs) (zs ++ ys) is)
-
--- ---- a run that reads
+-- ---- a run that changes no value
 
 module _ {C B : Type 0} (cache_facts : C → DiskFacts) (facts : B → DiskFacts)
     (honest : (e : B) → IsHonest (facts e)) where
-  -- what a seat did between two points is one list
-  one_list : (v w : View cache_facts facts) (ds es : List Deed) → HasDone cache_facts facts ds v w
-      → HasDone cache_facts facts es v w → entries_by ds ≡ entries_by es
-  one_list v w ds es one two = sym (entries_map v.first ds)
-      ∙ ap (λ (l : List Event). entries_of l)
-      (same_behind (events_by v.first v.seen) (map (by v.first) ds) (map (by v.first) es)
-      (sym one.own ∙ two.own))
-      ∙ entries_map v.first es
-
   -- answers to fewer lines aren't answers to all
   too_few : (p : PartsView (CorePart C B)) (size number : ℕ) (before others : List Line) (l : Line)
       (answers : List Answer) (v w : View cache_facts facts)
@@ -216,32 +197,25 @@ module _ {C B : Type 0} (cache_facts : C → DiskFacts) (facts : B → DiskFacts
 
   -- what lines are answered is what was shown
   answers_shown : (p : PartsView (CorePart C B)) (size : ℕ) (result : Result (Unit {0}) Unsound)
-      (lines : List Line) (answers : List Answer) (v w : View cache_facts facts) (ds : List Deed)
-      → All IsLine lines → HaveServed cache_facts facts p size lines answers result v w
-      → HasDone cache_facts facts ds v w → (image : Image)
-      → IsLegal image (reverse (entries_by ds)) → AllAnswered size lines answers
+      (lines : List Line) (answers : List Answer) (v w : View cache_facts facts)
+      (entries : List Entry) → All IsLine lines
+      → HaveServed cache_facts facts p size lines answers result v w
+      → OnOk result (Served size lines answers entries) → (image : Image)
+      → IsLegal image (reverse entries) → AllAnswered size lines answers
       → answers ≡ answers_of size lines image
-  answers_shown p size (Ok u) lines answers v w ds are served done image legal all =
-      outcome_from size 1 lines answers (entries_by served.deeds) image
-      (one_by_one size 1 lines answers (entries_by served.deeds) (of_first lines are) served.served)
-      ((legal_agrees image (entries_by served.deeds)).1
-      (subst (λ (l : List Entry). IsLegal image (reverse l))
-      (one_list v w ds served.deeds done served.done) legal)) all
-  answers_shown p size (Err stop) lines answers v w ds are served done image legal all =
+  answers_shown p size (Ok u) lines answers v w entries are served serves image legal all =
+      outcome_from size 1 lines answers entries image
+      (one_by_one size 1 lines answers entries (of_first lines are) serves)
+      ((legal_agrees image entries).1 legal) all
+  answers_shown p size (Err stop) lines answers v w entries are served serves image legal all =
       absurd (too_few p size 1 served.before served.others served.refused answers v served.at
       served.answered.by_line
       (subst (λ (ls : List Line). AllAnswered size ls answers) served.lines_are all))
 
-  -- where no line stopped the run its answers and its history serve the lines
-  served_by : (p : PartsView (CorePart C B)) (size : ℕ) (result : Result (Unit {0}) Unsound)
-      (lines : List Line) (answers : List Answer) (v w : View cache_facts facts) (ds : List Deed)
-      → HaveServed cache_facts facts p size lines answers result v w
-      → HasDone cache_facts facts ds v w → stopped_at result ≡ None
-      → Served size lines answers (entries_by ds)
-  served_by p size (Ok u) lines answers v w ds served done none =
-      subst (λ (es : List Entry). Served size lines answers es)
-      (one_list v w served.deeds ds served.done done) served.served
-  served_by p size (Err stop) lines answers v w ds served done none = absurd (cc)
+  on_served : (result : Result (Unit {0}) Unsound) {P : Type 0} → OnOk result P
+      → stopped_at result ≡ None → P
+  on_served (Ok u) h none = h
+  on_served (Err stop) h none = absurd (cc)
 
   module _ (b : BackingSuper) (s : Survey) (cache : C) (backing : B) (lines : List Line)
       (are_lines : All IsLine lines) (r : Outcome C B)
@@ -260,9 +234,6 @@ module _ {C B : Type 0} (cache_facts : C → DiskFacts) (facts : B → DiskFacts
         run.over.on.before
     lines_by = run.over.on.lines_by
 
-    abbrev opened_by : List Deed
-    opened_by = over.started.deeds
-
     abbrev closed_by : List Deed
     closed_by = run.over.on.closed.made.deeds
 
@@ -270,27 +241,9 @@ module _ {C B : Type 0} (cache_facts : C → DiskFacts) (facts : B → DiskFacts
     closing = closing_idle run.over.on.closed.barrier closed_by run.over.on.closed.last.seen
         run.over.on.closed.made.is
 
-    opening_none : entries_by opened_by ≡ []
-    opening_none = ap (λ (l : List Deed). entries_by l) over.started.put.is
-
-    -- the entries of the history are those of the lines
-    history_is : entries_of events ≡ entries_by lines_by.deeds
-    history_is = ap (λ (l : List Event). entries_of l) run.over.on.told
-        ∙ events_both (run.over.seat.seen ++ map (by 16) lines_by.deeds) (map (by 0) closed_by)
-        ∙ ap (λ (l : List Entry). l ++ entries_of (map (by 0) closed_by))
-        (events_both run.over.seat.seen (map (by 16) lines_by.deeds))
-        ∙ ap (λ (l : List Entry).
-        (entries_of run.over.seat.seen ++ entries_of (map (by 16) lines_by.deeds)) ++ l)
-        (entries_map 0 closed_by ∙ closing.0)
-        ∙ no_more (entries_of run.over.seat.seen ++ entries_of (map (by 16) lines_by.deeds))
-        ∙ ap (λ (l : List Entry). l ++ entries_of (map (by 16) lines_by.deeds))
-        (ap (λ (l : List Event). entries_of l) over.started.seen ∙ entries_map 0 opened_by
-        ∙ opening_none)
-        ∙ entries_map 16 lines_by.deeds
-
     silent : (t : ℕ) → Silent t (reverse (entries_of events))
-    silent t = silent_back t (entries_of events) (subst (Silent t) (sym history_is)
-        (reads_silent lines_by.deeds t lines_by.reading))
+    silent t = silent_back t (entries_of events) (subst (Silent t) (sym run.over.entries)
+        (all_silent lines_by.deeds t lines_by.keeping))
 
     only : OnlyReads cache_facts facts run.over.seat events
     only = record {
@@ -298,18 +251,15 @@ module _ {C B : Type 0} (cache_facts : C → DiskFacts) (facts : B → DiskFacts
       is = run.over.on.told ∙ append_assoc run.over.seat.seen (map (by 16) lines_by.deeds)
           (map (by 0) closed_by);
       nothing = bring_both (map (by 16) lines_by.deeds) (map (by 0) closed_by)
-          (reads_bring 16 lines_by.deeds lines_by.reading) closing.1;
+          (none_brings 16 lines_by.deeds lines_by.keeping) closing.1;
     }
 
     run_is : run.over.on.before.run ≡ run.over.parts.run
-    run_is = lines_by.joined.run ∙ over.started.works.run
+    run_is = lines_by.run ∙ over.started.works.run
 
     pub run_served : stopped_at r.served ≡ None
         → Served size lines r.answers.items (entries_of events)
-    run_served none = subst (λ (es : List Entry). Served size lines r.answers.items es)
-        (sym history_is)
-        (served_by run.over.parts size r.served lines r.answers.items _ lines_by.at lines_by.deeds
-        lines_by.served lines_by.done none)
+    run_served none = on_served r.served run.over.serves none
 
     -- ---- over a sound pair
 
@@ -351,9 +301,11 @@ module _ {C B : Type 0} (cache_facts : C → DiskFacts) (facts : B → DiskFacts
               },
             )
 
-        module _ (o : Origin) (seen : IsSeenFrom cache_facts facts b s cache backing lines r run p v o)
+        module _ (o : Origin) (seen : IsSeenFrom cache_facts facts b s cache backing lines r run p v
+            o)
             (untorn : TearsNone cache_facts facts b s cache backing lines r run o) where
-          abbrev opened : IsOpenedOn cache_facts facts s b run.read backing c d v seen.layout run.loaded
+          abbrev opened : IsOpenedOn cache_facts facts s b run.read backing c d v seen.layout
+              run.loaded
               run.over.parts run.over.seat
           opened = record { hold = hold; divided = seen.divided; over = over }
 
@@ -380,12 +332,15 @@ module _ {C B : Type 0} (cache_facts : C → DiskFacts) (facts : B → DiskFacts
           keeps = record {
             legal = kept.legal;
             allowed = kept.leaves;
-            same = λ image other may can. shows_the_same (record p { cache = image; backing = other })
+            same = λ image other may can. shows_the_same
+                (record p { cache = image; backing = other })
                 (kept.leaves image other may can);
-            answers = answers_shown run.over.parts size r.served lines r.answers.items _ lines_by.at
-                lines_by.deeds are_lines lines_by.served lines_by.done (shown_by p v)
-                (subst (λ (l : List Entry). IsLegal (shown_by p v) (reverse l)) history_is
-                kept.legal);
+            answers = answers_shown run.over.parts size r.served lines r.answers.items run.over.seat
+                run.over.on.before (entries_of events) are_lines lines_by.served run.over.serves
+                (shown_by p v) kept.legal;
+            found = law_not_refused cache_facts facts s b run.dirty run.read backing c d v
+                seen.layout run.loaded lines r are_lines hold seen.divided run.over seen.next_seq o
+                seen.started untorn;
           }
 
     -- so it does over the devices of which the parts were read

@@ -16,7 +16,7 @@ use Rattle.bc_script.specs.declared.line.Line.{Line}
 use Rattle.bc_script.specs.declared.line.Line.TheVariants as line
 use Rattle.bc_script.specs.Proper.{IsLine}
 use Rattle.bc_script.proofs.Marks.{of_first, one_by_one}
-use Rattle.bc_cached_serve.specs.bc_serve.Run.{AreServedBy, HasRun}
+use Rattle.bc_sound_reads.specs.bc_serve.Run.{AreServedBy, HasRun}
 use Rattle.bc_script.specs.declared.answer.Answer.{Answer}
 use Rattle.bc_script.specs.declared.answer.Answer.TheVariants.{Silent, Done, Runs, Refused}
 use Rattle.bc_script.specs.declared.answer.Refusal.TheVariants as refusal
@@ -33,10 +33,10 @@ use Rattle.bc_output.specs.Put.{Takes, IsWriteFault}
 use Rattle.bc_output.proofs.Taken.{took_nothing}
 use Rattle.bc_output.proofs.Standing.{all_whole}
 use Rattle.bc_top.specs.Ended.{says_fault, says_memory, says_node, has_failed, status_of_end, message_of_closing, message_of_end, ArePut, IsPutBehind, IsEnd, IsDone, HasStopped}
-use Rattle.bc_cached_serve.specs.bc_serve.declared.closing.Closing.{Closing}
-use Rattle.bc_cached_serve.specs.bc_serve.declared.closing.Closing.TheVariants as closing
-use Rattle.bc_cached_serve.proofs.of_bc_serve.Counted.{run_rises}
-use Rattle.bc_cached_serve.proofs.of_bc_serve.Failing.{failed_in, failed_left, next_rises}
+use Rattle.bc_sound_reads.specs.bc_serve.declared.closing.Closing.{Closing}
+use Rattle.bc_sound_reads.specs.bc_serve.declared.closing.Closing.TheVariants as closing
+use Rattle.bc_sound_reads.proofs.of_bc_serve.Counted.{run_rises}
+use Rattle.bc_sound_reads.proofs.of_bc_serve.Failing.{failed_in, failed_left, next_rises}
 use Rattle.bc_top.proofs.Raising.{said_failed, closed_failed}
 
 -- no run ends with another status than these
@@ -121,13 +121,15 @@ abbrev pub ArePlain : List Answer → Type 0
 ArePlain [] = Unit {0}
 ArePlain (a ∷ others) = IsPlain a × ArePlain others
 
-plain_one : (a : Answer) (seen : List Event) (ds : _) → Rattle.bc_cached_serve.specs.bc_serve.Causes.IsCaused a seen ds → IsPlain a
+plain_one : (a : Answer) (seen : List Event) (ds : _) →
+    Rattle.bc_sound_reads.specs.bc_serve.Causes.IsCaused a seen ds → IsPlain a
 plain_one (Refused (refusal.NoBucket purpose none_len own_len)) seen ds h = h
 plain_one (Refused refusal.JournalEnd) seen ds h = h
 plain_one a seen ds h = tt
 
 -- one over the backing device alone says nothing of nodes
-no_node : (a : Answer) (seen : List Event) (ds : _) → Rattle.bc_cached_serve.specs.bc_serve.Causes.IsCaused a seen ds
+no_node : (a : Answer) (seen : List Event) (ds : _) →
+    Rattle.bc_sound_reads.specs.bc_serve.Causes.IsCaused a seen ds
     → says_node a ≡ false
 no_node (Refused (refusal.Node bucket why)) seen ds h = absurd h
 no_node (Refused (refusal.NoBucket purpose none_len own_len)) seen ds h = absurd h
@@ -140,7 +142,8 @@ no_node Silent seen ds h = refl
 no_node Done seen ds h = refl
 no_node (Runs at values) seen ds h = refl
 
-pub no_nodes : (size i number : ℕ) (ls : List Line) (answers : List Answer) (before last : List Event)
+pub no_nodes : (size i number : ℕ) (ls : List Line) (answers : List Answer)
+    (before last : List Event)
     → AreServedBy size i number ls answers before last → list_any says_node answers ≡ false
 no_nodes size i number [] [] before last served = refl
 no_nodes size i number [] (a ∷ others) before last served = absurd served
@@ -154,7 +157,8 @@ no_nodes size i number (l ∷ ls) (a ∷ others) before last served =
     both_false true b one two = absurd (cc)
     both_false false b one two = two
 
-pub all_plain : (size i number : ℕ) (ls : List Line) (answers : List Answer) (before last : List Event)
+pub all_plain : (size i number : ℕ) (ls : List Line) (answers : List Answer)
+    (before last : List Event)
     → AreServedBy size i number ls answers before last → ArePlain answers
 all_plain size i number [] [] before last served = tt
 all_plain size i number [] (a ∷ others) before last served = absurd served
@@ -166,20 +170,28 @@ all_plain size i number (l ∷ ls) (a ∷ others) before last served = (
 
 -- a request that says neither fault nor memory nor node was answered as it should be
 asked : (size worker number : ℕ) (action : Action) (answer : Answer) (own : List Entry)
-    → ServesAction size worker number action answer own → IsPlain answer → says_fault answer ≡ false → says_memory answer ≡ false → says_node answer ≡ false → IsAsked size action answer
+    → ServesAction size worker number action answer own → IsPlain answer → says_fault answer ≡ false
+    → says_memory answer ≡ false → says_node answer ≡ false → IsAsked size action answer
 asked size worker number (ForcedWrite first count stamp) Silent own serves why f m n = absurd serves
-asked size worker number (ForcedWrite first count stamp) Done own serves why f m n = inl (serves.0, refl)
-asked size worker number (ForcedWrite first count stamp) (Runs at values) own serves why f m n = absurd serves
-asked size worker number (ForcedWrite first count stamp) (Refused refusal.OutOfRange) own serves why f m n =
+asked size worker number (ForcedWrite first count stamp) Done own serves why f m n = inl
+    (serves.0, refl)
+asked size worker number (ForcedWrite first count stamp) (Runs at values) own serves why f m n =
+    absurd serves
+asked size worker number (ForcedWrite first count stamp) (Refused refusal.OutOfRange) own serves why
+    f m n =
     inr (serves.0, refl)
 asked size worker number (Write first count stamp) Silent own serves why f m n = absurd serves
 asked size worker number (Write first count stamp) Done own serves why f m n = inl (serves.0, refl)
-asked size worker number (Write first count stamp) (Runs at values) own serves why f m n = absurd serves
-asked size worker number (Write first count stamp) (Refused refusal.OutOfRange) own serves why f m n = inr (serves.0, refl)
+asked size worker number (Write first count stamp) (Runs at values) own serves why f m n = absurd
+    serves
+asked size worker number (Write first count stamp) (Refused refusal.OutOfRange) own serves why f m n
+    = inr (serves.0, refl)
 asked size worker number (Read first count) Silent own serves why f m n = absurd serves
 asked size worker number (Read first count) Done own serves why f m n = absurd serves
-asked size worker number (Read first count) (Runs at values) own serves why f m n = inl (serves.0, (values, ap (λ k. Runs k values) serves.1))
-asked size worker number (Read first count) (Refused refusal.OutOfRange) own serves why f m n = inr (serves.0, refl)
+asked size worker number (Read first count) (Runs at values) own serves why f m n = inl
+    (serves.0, (values, ap (λ k. Runs k values) serves.1))
+asked size worker number (Read first count) (Refused refusal.OutOfRange) own serves why f m n = inr
+    (serves.0, refl)
 asked size worker number Flush Silent own serves why f m n = absurd serves
 asked size worker number Flush Done own serves why f m n = refl
 asked size worker number Flush (Runs at values) own serves why f m n = absurd serves
@@ -187,17 +199,21 @@ asked size worker number Flush (Refused refusal.OutOfRange) own serves why f m n
 asked size worker number (Round round) Silent own serves why f m n = absurd serves
 asked size worker number (Round round) Done own serves why f m n = refl
 asked size worker number (Round round) (Runs at values) own serves why f m n = absurd serves
-asked size worker number (Round round) (Refused refusal.OutOfRange) own serves why f m n = absurd (serves.1 tt)
-asked size worker number action (Refused (refusal.NoBucket purpose none_len own_len)) own serves why f m n = absurd why
+asked size worker number (Round round) (Refused refusal.OutOfRange) own serves why f m n = absurd
+    (serves.1 tt)
+asked size worker number action (Refused (refusal.NoBucket purpose none_len own_len)) own serves why
+    f m n = absurd why
 asked size worker number action (Refused refusal.JournalEnd) own serves why f m n = absurd why
-asked size worker number action (Refused (refusal.Node bucket number')) own serves why f m n = absurd (cc)
+asked size worker number action (Refused (refusal.Node bucket number')) own serves why f m n =
+    absurd (cc)
 asked size worker number action (Refused (refusal.Fault d)) own serves why f m n = absurd (cc)
 asked size worker number action (Refused (refusal.Halted d)) own serves why f m n = absurd (cc)
 asked size worker number action (Refused refusal.Memory) own serves why f m n = absurd (cc)
 
 -- so was a line
 answered : (size number : ℕ) (l : Line) (answer : Answer) (own : List Entry)
-    → ServesLine size number l answer own → IsPlain answer → says_fault answer ≡ false → says_memory answer ≡ false → says_node answer ≡ false → IsAnswered size l answer
+    → ServesLine size number l answer own → IsPlain answer → says_fault answer ≡ false → says_memory
+    answer ≡ false → says_node answer ≡ false → IsAnswered size l answer
 answered size number line.Silent answer own serves why f m n = serves.0
 answered size number (line.Request worker phase action) answer own serves why f m n =
     asked size worker number action answer own serves why f m n
@@ -222,56 +238,84 @@ all_answered size number (l ∷ ls) (a ∷ others) history served why f m n =
     )
 
 pub of_lines : {C B : Type 0} (cache_facts : C → DiskFacts) (backing_facts : B → DiskFacts)
-    (backing left : BackingPart B) (lines others : List Line) (answers : List Answer) (how : Closing)
+    (backing left : BackingPart B) (lines others : List Line) (answers : List Answer)
+    (how : Closing)
     (events : List Event) (pass : Pass) → lines ≡ others
     → HasRun cache_facts backing_facts backing left lines answers how events pass
     → HasRun cache_facts backing_facts backing left others answers how events pass
 of_lines cache_facts backing_facts backing left lines others answers how events pass is run =
-    subst (λ (ls : List Line). HasRun cache_facts backing_facts backing left ls answers how events pass) is run
+    subst (λ (ls : List Line). HasRun cache_facts backing_facts backing left ls answers how events
+    pass) is run
 
 -- the sink behind whole lines, where no message follows
-none_behind : (put : Result (Unit {0}) WriteFault) (old new : StreamFacts) → IsPutBehind put None old new → new ≡ old
+none_behind : (put : Result (Unit {0}) WriteFault) (old new : StreamFacts) → IsPutBehind put None
+    old new → new ≡ old
 none_behind (Ok u) old new h = h
 none_behind (Err cause) old new h = h
 
 -- a sink that failed to take a text
-pub fault_stops : (cause : WriteFault) (text : List ℕ) (old new : StreamFacts) → IsWriteFault cause text old new → HasStopped old new
+pub fault_stops : (cause : WriteFault) (text : List ℕ) (old new : StreamFacts) → IsWriteFault cause
+    text old new → HasStopped old new
 fault_stops Failed text old new fault =
     let last = fault.last in
-    inl (subst (HasRisen old.faults) (ap (λ n. next_count n) (sym last.1.faults) ∙ sym last.2.1.1) (next_rises old.faults))
+    inl (subst (HasRisen old.faults) (ap (λ n. next_count n) (sym last.1.faults) ∙ sym last.2.1.1)
+    (next_rises old.faults))
 fault_stops TookNothing text old new fault =
     let last = fault.last in
-    inr (subst (HasRisen old.stops) (ap (λ n. next_count n) (sym last.1.stops) ∙ sym (took_nothing fault.rest last.0.stops fault.unfinished) ∙ sym last.2.3) (next_rises old.stops))
+    inr (subst (HasRisen old.stops) (ap (λ n. next_count n) (sym last.1.stops) ∙ sym
+    (took_nothing fault.rest last.0.stops fault.unfinished) ∙ sym last.2.3)
+    (next_rises old.stops))
 
 -- and so one that took some text before
-later_stops : (text : List ℕ) (old between new : StreamFacts) → Takes text old between → HasStopped between new → HasStopped old new
-later_stops text old between new taken (inl rose) = inl (subst (λ n. HasRisen n new.faults) taken.faults rose)
-later_stops text old between new taken (inr rose) = inr (subst (λ n. HasRisen n new.stops) taken.stops rose)
+later_stops : (text : List ℕ) (old between new : StreamFacts) → Takes text old between → HasStopped
+    between new → HasStopped old new
+later_stops text old between new taken (inl rose) = inl
+    (subst (λ n. HasRisen n new.faults) taken.faults rose)
+later_stops text old between new taken (inr rose) = inr
+    (subst (λ n. HasRisen n new.stops) taken.stops rose)
 
 -- what a sink that cut the lines short did
-cut_stops : (missed : Bool) (cause : WriteFault) (answers : List Answer) (old new : StreamFacts) → IsCut missed cause answers old new → HasStopped old new
-cut_stops missed cause answers old new cut = later_stops cut.text old cut.between new cut.taken (fault_stops cause cut.line cut.between new cut.fault)
+cut_stops : (missed : Bool) (cause : WriteFault) (answers : List Answer) (old new : StreamFacts) →
+    IsCut missed cause answers old new → HasStopped old new
+cut_stops missed cause answers old new cut = later_stops cut.text old cut.between new cut.taken
+    (fault_stops cause cut.line cut.between new cut.fault)
 
-stops : (printed : Printed) (put : Result (Unit {0}) WriteFault) (answers : List Answer) (old between new : StreamFacts) (m : Option Message)
-    → MatchResult put (λ _. (text : List ℕ) × StandForAll printed.memory_missed answers text × Takes text old between) (λ cause. IsCut printed.memory_missed cause answers old between)
+stops : (printed : Printed) (put : Result (Unit {0}) WriteFault) (answers : List Answer)
+    (old between new : StreamFacts) (m : Option Message)
+    → MatchResult put (λ _. (text : List ℕ) × StandForAll printed.memory_missed answers text × Takes
+    text old between) (λ cause. IsCut printed.memory_missed cause answers old between)
     → IsPutBehind put m between new → is_err put ≡ true → HasStopped old new
 stops printed (Ok u) answers old between new m cut behind is = absurd (cc)
-stops printed (Err cause) answers old between new m cut behind is = subst (HasStopped old) (sym behind) (cut_stops printed.memory_missed cause answers old between cut)
+stops printed (Err cause) answers old between new m cut behind is = subst (HasStopped old)
+    (sym behind) (cut_stops printed.memory_missed cause answers old between cut)
 
 -- where they were put whole, with memory for each and no message
-whole : (printed : Printed) (put : Result (Unit {0}) WriteFault) (answers : List Answer) (old between new : StreamFacts) → printed.memory_missed ≡ false
-    → MatchResult put (λ _. (text : List ℕ) × StandForAll printed.memory_missed answers text × Takes text old between) (λ cause. IsCut printed.memory_missed cause answers old between)
-    → IsPutBehind put None between new → is_err put ≡ false → (text : List ℕ) × AreLines answers text × Takes text old new
-whole printed (Ok u) answers old between new found put behind is = (put.0, all_whole answers put.0 (subst (λ b. StandForAll b answers put.0) found put.1), subst (Takes put.0 old) (sym behind) put.2)
+whole : (printed : Printed) (put : Result (Unit {0}) WriteFault) (answers : List Answer)
+    (old between new : StreamFacts) → printed.memory_missed ≡ false
+    → MatchResult put (λ _. (text : List ℕ) × StandForAll printed.memory_missed answers text × Takes
+    text old between) (λ cause. IsCut printed.memory_missed cause answers old between)
+    → IsPutBehind put None between new → is_err put ≡ false → (text : List ℕ) × AreLines answers
+    text × Takes text old new
+whole printed (Ok u) answers old between new found put behind is = (
+  put.0,
+  all_whole answers put.0 (subst (λ b. StandForAll b answers put.0) found put.1),
+  subst
+      (Takes put.0 old) (sym behind) put.2,
+)
 whole printed (Err cause) answers old between new found put behind is = absurd (cc)
 
 -- how the lines were put
-pub are_put : (printed : Printed) (answers : List Answer) (old new : StreamFacts) → OnOk printed.put ((text : List ℕ) × StandForAll printed.memory_missed answers text × Takes text old new)
-    → IfErr printed.put (λ cause. IsCut printed.memory_missed cause answers old new) → ArePut printed answers old new
+pub are_put : (printed : Printed) (answers : List Answer) (old new : StreamFacts) → OnOk printed.put
+    ((text : List ℕ) × StandForAll printed.memory_missed answers text × Takes text old new)
+    → IfErr printed.put (λ cause. IsCut printed.memory_missed cause answers old new) → ArePut
+    printed answers old new
 are_put printed answers old new = by printed.put
   where
-    by : (put : Result (Unit {0}) WriteFault) → OnOk put ((text : List ℕ) × StandForAll printed.memory_missed answers text × Takes text old new) → IfErr put (λ cause. IsCut printed.memory_missed cause answers old new)
-        → MatchResult put (λ _. (text : List ℕ) × StandForAll printed.memory_missed answers text × Takes text old new) (λ cause. IsCut printed.memory_missed cause answers old new)
+    by : (put : Result (Unit {0}) WriteFault) → OnOk put
+        ((text : List ℕ) × StandForAll printed.memory_missed answers text × Takes text old new) →
+        IfErr put (λ cause. IsCut printed.memory_missed cause answers old new)
+        → MatchResult put (λ _. (text : List ℕ) × StandForAll printed.memory_missed answers text ×
+        Takes text old new) (λ cause. IsCut printed.memory_missed cause answers old new)
     by (Ok u) ok err = ok
     by (Err cause) ok err = err
 
@@ -320,7 +364,8 @@ module _ (status : Status) (answers : List Answer) (stopped : Option ℕ) (how :
       (λ e. let no : statuses.Image ≡ statuses.Source = sym e ∙ is in cc) known
 
   pub sink_stopped : status ≡ statuses.Sink → HasStopped old new
-  sink_stopped is = stops end.printed end.printed.put answers old end.between new _ end.lines end.message
+  sink_stopped is = stops end.printed end.printed.put answers old end.between new _ end.lines
+      end.message
       (eight fault how unsound memory cut (sym end.ends ∙ is))
 
   -- with neither a failed device nor a sink that stopped, and of a sound index, all was done or
@@ -341,7 +386,8 @@ module _ (status : Status) (answers : List Answer) (stopped : Option ℕ) (how :
 
   -- at status `Done` nothing of that was said
   pub all_told : status ≡ statuses.Done
-      → (fault ≡ false) × (how ≡ closing.Done) × (memory ≡ false) × (cut ≡ false) × (unsound ≡ false)
+      → (fault ≡ false) × (how ≡ closing.Done) × (memory ≡ false) × (cut ≡ false) ×
+      (unsound ≡ false)
   all_told is = none fault how unsound memory cut (sym end.ends ∙ is)
 
   pub not_stopped : status ≡ statuses.Done → stopped ≡ None
@@ -388,7 +434,9 @@ module _ (status : Status) (answers : List Answer) (stopped : Option ℕ) (how :
       run_rises cache_facts backing_facts backing left lines answers how events pass run
       (failed (failed_by is))
     where
-      failed : (list_any says_fault answers ≡ true) ⊎ (has_failed how ≡ true) → failed_in events ≡ true
+      failed : (list_any says_fault answers ≡ true) ⊎ (has_failed how ≡ true) → failed_in events ≡
+          true
       failed (inl said) = subst (λ (es : List Event). failed_in es ≡ true) (sym run.closing)
-          (failed_left run.seen _ (said_failed backing.size 16 1 lines answers [] run.seen run.by_line said))
+          (failed_left run.seen _ (said_failed backing.size 16 1 lines answers [] run.seen
+          run.by_line said))
       failed (inr closed) = closed_failed how run.last run.seen events run.closing run.closed closed

@@ -1,11 +1,11 @@
--- A trace that reads, over a pair with a cache.
+-- A trace that changes no value, over a pair with a cache.
 use Rattle.std.specs.Prelude.{◌≡◌, ℕ, Bool, List, reverse, Option, Some, None, Result, Ok, Err}
 use Rattle.bc_book.specs.Pass.{events_in}
 use Rattle.bc_book.specs.declared.pass.Pass.{Pass}
 use Rattle.bc_session_laws.specs.bc_cached.Laws.{parts_in}
-use Rattle.bc_cached_serve.specs.Run.{HasRunOver}
-use Rattle.bc_cached_serve.specs.declared.unsound.Unsound.{Unsound}
-use Rattle.bc_cached_serve.specs.declared.whole_run.Outcome.{Outcome}
+use Rattle.bc_sound_reads.specs.bc_cached_serve.Run.{HasRunOver}
+use Rattle.bc_sound_reads.specs.bc_cached_serve.declared.unsound.Unsound.{Unsound}
+use Rattle.bc_sound_reads.specs.bc_cached_serve.declared.whole_run.Outcome.{Outcome}
 use Rattle.bc_disk.specs.Disk.{DiskFacts, IsKept}
 use Rattle.bc_disk.specs.Stream.{StreamFacts}
 use Rattle.bc_disk.specs.declared.disk.Device.TheVariants.{Backing}
@@ -33,8 +33,8 @@ use Rattle.bc_script.specs.Expected.{AllAnswered, answers_of}
 use Rattle.bc_script.specs.Served.{Served}
 use Rattle.bc_script.specs.Trace.{IsTrace, IsWhole}
 use Rattle.bc_script.specs.declared.line.Line.{Line}
-use Rattle.bc_cached_serve.specs.bc_serve.declared.closing.Closing.{Closing}
-use Rattle.bc_cached_serve.specs.bc_serve.declared.closing.Closing.TheVariants as closing
+use Rattle.bc_sound_reads.specs.bc_serve.declared.closing.Closing.{Closing}
+use Rattle.bc_sound_reads.specs.bc_serve.declared.closing.Closing.TheVariants as closing
 use Rattle.bc_session_laws.specs.bc_session.Idle.{Tells}
 use Rattle.bc_session_laws.specs.bc_session.Open.{ready_of}
 use Rattle.bc_session_laws.specs.bc_session.declared.closing.CloseError.{CloseError}
@@ -42,11 +42,12 @@ use Rattle.bc_session_laws.specs.bc_session.declared.closing.CloseError.TheVaria
 use Rattle.bc_session_laws.specs.Events.{left_by}
 use Rattle.bc_session_laws.specs.Laws.{IsRecoverable}
 use Rattle.bc_session_laws.specs.bc_started.Laws.{AreUntorn, IsStartedFrom}
+use Rattle.bc_sound_reads.specs.Laws.{FindsItSound}
 use Rattle.bc_super.specs.Super.{data_sectors}
 use Rattle.bc_super.specs.declared.backing.BackingSuper.{BackingSuper}
 use Rattle.bc_top.specs.Ended.{IsDone, IsEnd}
 use Rattle.bc_top.specs.Idle.{EndsUnopened, IsTested}
-use Rattle.bc_top.specs.Top.{AskReads, WasReadAs}
+use Rattle.bc_top.specs.Top.{AskToKeep, WasReadAs}
 use Rattle.bc_top.specs.declared.exit.Exit.{Exit}
 
 -- ---- what is reported of a run
@@ -117,6 +118,8 @@ module _ {C B : Type 0} (cache_facts : C → DiskFacts) (facts : B → DiskFacts
           → ShowsTheSame p v (record p { cache = image; backing = other })
       pub answers : AllAnswered size lines r.answers.items
           → r.answers.items ≡ answers_of size lines (shown_by p v)
+      -- no line says that a node is damaged, and the run stops at none but for a busy part
+      pub found : FindsItSound r
 
     -- Over a pair that is sound there is an opening from which the run is seen, and from each one
     -- it does so.
@@ -142,8 +145,8 @@ module _ {C B : Type 0} (cache_facts : C → DiskFacts) (facts : B → DiskFacts
     pub served : it.status ≡ statuses.Done
         → Served size lines outcome.answers.items (entries_of (events_in pass))
 
--- The trace was read and asks to read, and the pair was tested. Then it was opened, each line was
--- served in order, up to one that found it unsound, and it was closed.
+-- The trace was read and asks to read or to flush, and the pair was tested. Then it was opened,
+-- each line was served in order, up to one that found it unsound or busy, and it was closed.
 --
 -- Over a pair that was sound each answer is of what it showed, and whatever a crash leaves of both
 -- devices is a sound pair that shows the same.
@@ -153,7 +156,7 @@ pub record HasServedCached {C B : Type 0} (cache_facts : C → DiskFacts) (facts
   pub lines : List Line
   pub trace : IsTrace lines
   pub whole : IsWhole source left lines
-  pub asked : AskReads lines
+  pub asked : AskToKeep lines
   pub superblock : BackingSuper
   pub survey : Survey
   -- both devices once the pair was tested
@@ -166,12 +169,13 @@ pub record HasServedCached {C B : Type 0} (cache_facts : C → DiskFacts) (facts
   pub serves : OfHeld (ServesSound cache_facts facts superblock survey tested_cache tested lines
       reported.outcome reported.run) (cache_facts cache) (facts backing)
 
--- The trace was read and asks to read, the pair was tested, and then it couldn't be opened.
--- Whatever a crash leaves is a sound pair that shows what the pair showed, where that was sound.
+-- The trace was read and asks to read or to flush, the pair was tested, and then it couldn't be
+-- opened. Whatever a crash leaves is a sound pair that shows what the pair showed, where that was
+-- sound.
 pub record HasNotOpened {C B : Type 0} (cache_facts : C → DiskFacts) (facts : B → DiskFacts)
     (status : Status) (source left : StreamFacts) (cache cache' : C) (backing backing' : B)
     (old new : StreamFacts) : Type 0 where
-  pub trace : WasReadAs AskReads source left
+  pub trace : WasReadAs AskToKeep source left
   pub superblock : BackingSuper
   pub survey : Survey
   -- both devices once the pair was tested

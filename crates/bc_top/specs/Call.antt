@@ -56,7 +56,7 @@ module _ {C B : Type 0} (cache_facts : C → DiskFacts) (backing_facts : B → D
       × IsPutOf (message_text (message_of stop)) old new × IsUnwritten
 
   -- Where no run began it is so; or the trace asks for nothing, and the pair was opened and closed;
-  -- or it asks to read, and the pair couldn't be opened.
+  -- or it asks to read or to flush, and the pair couldn't be opened.
   abbrev pub HasNotBegun : StreamFacts → StreamFacts → StreamFacts → StreamFacts → Type 0
   HasNotBegun source left old new = IsNone it.pass → IsStopped source left old new
       ⊎ HasOpened cache_facts backing_facts it.status source left cache it.cache backing it.backing
@@ -126,6 +126,6 @@ module _ {C B : Type 0} (cache_facts : C → DiskFacts) (backing_facts : B → D
     pub run : IfSome it.pass (HasRun source left old new)
     pub complete : Completes source left old new
     -- A pair with a cache is answered by its first refusal. Where it has none and nothing is asked
-    -- of it, it is opened and closed; where it is to be read, a run begins; and more isn't served
-    -- yet.
+    -- of it, it is opened and closed; where it is to be read or flushed, a run begins; and more
+    -- isn't served yet.
     pub judged : IsJudged source left old new

@@ -20,8 +20,8 @@ use Rattle.bc_output.specs.Message.{message_text}
 use Rattle.bc_output.specs.declared.status.Status.{Status}
 use Rattle.bc_output.specs.declared.status.Status.TheVariants as statuses
 use Rattle.bc_output.specs.Put.{Takes, IsWriteFault}
-use Rattle.bc_cached_serve.specs.bc_serve.declared.closing.Closing.{Closing}
-use Rattle.bc_cached_serve.specs.bc_serve.declared.closing.Closing.TheVariants as closing
+use Rattle.bc_sound_reads.specs.bc_serve.declared.closing.Closing.{Closing}
+use Rattle.bc_sound_reads.specs.bc_serve.declared.closing.Closing.TheVariants as closing
 
 -- an answer says that a device failed, or had failed before
 abbrev pub says_fault : Answer → Bool

@@ -12,8 +12,8 @@ use Rattle.bc_session_laws.specs.bc_plain_laws.Promises.{LeavesLastWrites, IsUnt
 use Rattle.bc_script.specs.Trace.{IsTrace, IsWhole}
 use Rattle.bc_script.specs.declared.answer.Answer.{Answer}
 use Rattle.bc_script.specs.declared.line.Line.{Line}
-use Rattle.bc_cached_serve.specs.bc_serve.Run.{HasRun}
-use Rattle.bc_cached_serve.specs.bc_serve.declared.closing.Closing.{Closing}
+use Rattle.bc_sound_reads.specs.bc_serve.Run.{HasRun}
+use Rattle.bc_sound_reads.specs.bc_serve.declared.closing.Closing.{Closing}
 use Rattle.bc_super.specs.Division.{IsPassThrough}
 use Rattle.bc_super.specs.Reading.{ReadsSuper}
 use Rattle.bc_super.specs.Super.{data_sectors}

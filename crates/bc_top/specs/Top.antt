@@ -1,7 +1,7 @@
 -- The words of a command, and why a trace isn't served.
 use Rattle.std.specs.Prelude.{◌≡◌, ◌≢◌, ◌⊎◌, ℕ, All, Any, Bool, List, Some, map, string_bytes, String}
 use Rattle.std.specs.declared.alloc.Global.{Global}
-use Rattle.bc_cached_serve.specs.Answered.{AsksToRead}
+use Rattle.bc_sound_reads.specs.bc_cached_serve.Answered.{KeepsValues}
 use Rattle.bc_disk.specs.Device.{HasRisen}
 use Rattle.bc_disk.specs.Disk.{DiskFacts}
 use Rattle.bc_disk.specs.Stream.{StreamFacts}
@@ -96,13 +96,13 @@ AskSomething lines = Any (λ l. l ≢ line.Silent) lines
 abbrev pub AskNothing : List Line → Type 0
 AskNothing lines = All (λ l. l ≡ line.Silent) lines
 
--- lines of which some asks for something, and none for anything but to read; and lines of which
--- some asks for more
-abbrev pub AskReads : List Line → Type 0
-AskReads lines = AskSomething lines × All AsksToRead lines
+-- lines of which some asks for something, and none for anything but to read or to flush; and lines
+-- of which some asks for more
+abbrev pub AskToKeep : List Line → Type 0
+AskToKeep lines = AskSomething lines × All KeepsValues lines
 
 abbrev pub AskMore : List Line → Type 0
-AskMore lines = All AsksToRead lines → ⊥
+AskMore lines = All KeepsValues lines → ⊥
 
 -- the whole trace was read before; its lines are such
 abbrev pub WasReadAs : (List Line → Type 0) → StreamFacts → StreamFacts → Type 0
@@ -152,9 +152,9 @@ abbrev pub EndsIdle : Pair → Status → StreamFacts → StreamFacts → Type 0
 EndsIdle p status old new = HasNoRefusal p
     × (((status ≡ statuses.Done) × (new ≡ old)) ⊎ ((status ≡ statuses.Image) × NeedsFirst p))
 
--- One of which something is to be read: a run began, or its newest entry is such.
-abbrev pub EndsReading : Pair → (begun : Type 0) → Status → Type 0
-EndsReading p begun status =
+-- One of which something is to be read or flushed: a run began, or its newest entry is such.
+abbrev pub EndsServing : Pair → (begun : Type 0) → Status → Type 0
+EndsServing p begun status =
     HasNoRefusal p × (begun ⊎ ((status ≡ statuses.Image) × NeedsFirst p))
 
 -- So it ended, or there was no memory.
@@ -164,7 +164,7 @@ EndsAnswering p lines begun status old new = (status ≡ statuses.Memory)
     ⊎ ((why : Stop) × IsAnswerTo p why × (why ≡ stop.Unserved → AskMore lines)
     × (status ≡ status_of why) × IsPutOf (message_text (message_of why)) old new)
     ⊎ (AskNothing lines × EndsIdle p status old new)
-    ⊎ (AskReads lines × EndsReading p begun status)
+    ⊎ (AskToKeep lines × EndsServing p begun status)
 
 -- Where the source tells a trace and no call of the source or of a device fails, the pair that both
 -- devices hold is so answered, if it isn't served by the backing device alone.

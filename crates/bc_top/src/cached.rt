@@ -1,12 +1,10 @@
-//! A trace that reads, served over a pair with a cache.
+//! A trace that changes no value, served over a pair with a cache.
 //!
 //! The pair was tested before. What is left is to read its parts into memory, to open it for a run,
 //! which makes its backing device say that its cache may have what it lacks, to serve the lines,
 //! and to close it again.
-ghost use Rattle.std.specs.Prelude.{◌≡◌, ◌*◌, ◌<◌, ◌≤◌, ◌^◌, All, Any, IfErr, IfOk, IfSome, IsNone, length};
-ghost use Rattle.std.specs.Bool.{MatchBool};
-ghost use Rattle.bc_bucket.specs.declared.bucket.Mark.TheVariants as marks;
-ghost use Rattle.bc_cached_serve.specs.Answered.{AsksToRead};
+ghost use Rattle.std.specs.Prelude.{◌≡◌, ◌*◌, ◌<◌, ◌≤◌, ◌^◌, All, IfErr, IfOk, IfSome, IsNone, length};
+ghost use Rattle.bc_sound_reads.specs.bc_cached_serve.Answered.{KeepsValues};
 ghost use Rattle.bc_session_laws.specs.bc_open.Left.{LeavesThePair};
 ghost use Rattle.bc_recover.specs.Read.{HasParts, IsReadOf};
 ghost use Rattle.bc_replay.specs.Causes.{OfHeld};
@@ -21,16 +19,15 @@ ghost use Rattle.bc_top.specs.Opened.{AreStill};
 use crate::ending::report;
 use crate::exit::Exit;
 use crate::stop::{Stop, tell};
-use bc_bucket::{Bucket, Mark};
-use bc_cached_serve::bc_serve::closing::Closing;
-use bc_cached_serve::unsound::Unsound;
-use bc_cached_serve::whole_run::{Outcome, run_lines};
 use bc_disk::disk::{Device, Disk};
 use bc_disk::stream::Sink;
 use bc_replay::Survey;
 use bc_script::line::Line;
 use bc_session_laws::bc_loaded::load;
-use bc_session_laws::bc_session::{CloseError, NotOpened};
+use bc_session_laws::bc_session::{CloseError, NotOpened, has_dirty};
+use bc_sound_reads::bc_cached_serve::unsound::Unsound;
+use bc_sound_reads::bc_cached_serve::whole_run::{Outcome, run_lines};
+use bc_sound_reads::bc_serve::closing::Closing;
 use bc_super::backing::BackingSuper;
 use bc_worker::gate::NoGate;
 use std::alloc::Global;
@@ -38,19 +35,6 @@ use std::sync::Wait;
 
 // How many parts the leaves of a pair are kept in: there is one worker.
 pub(crate) const PARTS: u32 = 1;
-
-// Whether one of the buckets has data that is in the cache alone.
-fn has_dirty(buckets: &[Bucket]) -> bool
-    ensures { MatchBool result (Any (λ b. b.mark ≡ marks.Dirty) buckets.now)
-        (¬ (Any (λ b. b.mark ≡ marks.Dirty) buckets.now)) }
-{
-    for bucket in buckets {
-        if bucket.mark == Mark::Dirty {
-            return true;
-        }
-    }
-    false
-}
 
 // The number of the line at which a run stopped.
 fn stopped_at(served: Result<(), Unsound>) -> Option<u32>
@@ -76,7 +60,7 @@ fn closing_of(closed: Result<(), CloseError>) -> Closing
 
 // Reads the parts of a pair that was tested, opens it, serves the lines, and closes it. The error
 // is why it wasn't opened, and hands both devices back.
-fn run_reads<R: Wait, C: Disk + Drop, B: Disk + Drop>(
+fn run_cached<R: Wait, C: Disk + Drop, B: Disk + Drop>(
     rt: &R,
     alloc: Global,
     cache: C,
@@ -92,7 +76,7 @@ fn run_reads<R: Wait, C: Disk + Drop, B: Disk + Drop>(
     requires read { OfHeld (IsReadOf survey.now) (C.facts cache) (B.facts backing) }
     requires still { AreStill (C.facts cache) (B.facts backing) }
     requires lines { All IsLine lines.now }
-    requires asked { All AsksToRead lines.now }
+    requires keep { All KeepsValues lines.now }
     requires few { length lines.now < 2 ^ 32 }
     ensures printable { IfOk result (λ o. All IsPrintable o.answers.items) }
     ensures run { IfOk result
@@ -119,13 +103,13 @@ fn run_reads<R: Wait, C: Disk + Drop, B: Disk + Drop>(
     )
 }
 
-/// Serves the lines of a trace, each of which reads or asks for nothing, over a pair that was
-/// tested, and puts the answers in order and behind them the message. The backing device has this
-/// superblock.
+/// Serves the lines of a trace, each of which reads, flushes or asks for nothing, over a pair that
+/// was tested, and puts the answers in order and behind them the message. The backing device has
+/// this superblock.
 ///
 /// There is a pass where the pair was opened. Else a message says why it wasn't, and a crash leaves
 /// a sound pair that shows what the pair showed.
-pub(crate) fn serve_reads<R: Wait, C: Disk + Drop, B: Disk + Drop, K: Sink>(
+pub(crate) fn serve_cached<R: Wait, C: Disk + Drop, B: Disk + Drop, K: Sink>(
     rt: &R,
     alloc: Global,
     cache: C,
@@ -142,7 +126,7 @@ pub(crate) fn serve_reads<R: Wait, C: Disk + Drop, B: Disk + Drop, K: Sink>(
     requires read { OfHeld (IsReadOf survey.now) (C.facts cache) (B.facts backing) }
     requires still { AreStill (C.facts cache) (B.facts backing) }
     requires lines { All IsLine lines.now }
-    requires asked { All AsksToRead lines.now }
+    requires keep { All KeepsValues lines.now }
     requires few { length lines.now < 2 ^ 32 }
     ensures ran { IfSome result.pass (HasReported C.facts B.facts superblock.now survey.now cache
         backing lines.now result (K.facts out.old) (K.facts out.new)) }
@@ -152,7 +136,7 @@ pub(crate) fn serve_reads<R: Wait, C: Disk + Drop, B: Disk + Drop, K: Sink>(
     ensures left { IsNone result.pass → LeavesThePair (C.facts cache) (C.facts result.cache)
         (B.facts backing) (B.facts result.backing) }
 {
-    match run_reads(rt, alloc, cache, backing, superblock, survey, lines) {
+    match run_cached(rt, alloc, cache, backing, superblock, survey, lines) {
         Ok(outcome) => {
             let stopped = stopped_at(outcome.served);
             let closing = closing_of(outcome.closed.result);

@@ -4,13 +4,13 @@ ghost use Rattle.std.specs.List.{list_any};
 ghost use Rattle.bc_script.specs.Answer.{IsPrintable};
 ghost use Rattle.bc_top.specs.Ended.{IsEnd, IsPutBehind, status_of_end, message_of_closing, message_of_end, says_fault, says_memory, says_node};
 
-use bc_cached_serve::bc_serve::closing::Closing;
 use bc_disk::stream::Sink;
 use bc_output::answers::put_answers;
 use bc_output::message::{Message, Origin, print_message};
 use bc_output::put::{WriteFault, put_all};
 use bc_output::status::Status;
 use bc_script::answer::{Answer, Refusal};
+use bc_sound_reads::bc_serve::closing::Closing;
 use std::alloc::Global;
 
 // Whether an answer says that a device failed, or had failed before.

@@ -7,8 +7,8 @@ ghost use Rattle.bc_top.specs.Opened.{IsAnswerTo};
 ghost use Rattle.bc_top.specs.declared.stop.Stop.{Stop};
 ghost use Rattle.bc_top.specs.declared.stop.Stop.TheVariants as stops;
 
-/// A pair with a cache has one answer at most, and it is answered that its cache isn't served yet
-/// exactly where it has no refusal.
+/// A pair with a cache has one answer at most, and it is answered that what is asked of it isn't
+/// served yet exactly where it has no refusal.
 pub fn one_answer()
     ensures one { (p : Pair) (a b : Stop) → IsAnswerTo p a → IsAnswerTo p b → a ≡ b }
     ensures unserved { (p : Pair)

@@ -1,7 +1,7 @@
 //! The command that serves a trace.
 ghost use Rattle.std.specs.Prelude.{◌≡◌, ◌*◌, ◌≤◌, false, true, All, IfOk, IfErr};
 ghost use Rattle.std.specs.Bool.{MatchBool};
-ghost use Rattle.bc_cached_serve.specs.Answered.{AsksToRead};
+ghost use Rattle.bc_sound_reads.specs.bc_cached_serve.Answered.{KeepsValues};
 ghost use Rattle.bc_script.specs.Trace.{IsTrace, IsWhole};
 ghost use Rattle.bc_session_laws.specs.bc_open.Left.{LeavesThePair};
 ghost use Rattle.bc_recover.specs.Read.{HasParts, IsReadOf};
@@ -13,13 +13,11 @@ ghost use Rattle.bc_top.specs.Ready.{IsCached, IsReady};
 ghost use Rattle.bc_top.specs.Call.{HasCause, ServesOver};
 ghost use Rattle.bc_top.specs.Top.{AreSame, AskNothing, AskSomething, IsServeCause};
 
-use crate::cached::{PARTS, serve_reads};
+use crate::cached::{PARTS, serve_cached};
 use crate::ending::report;
 use crate::exit::Exit;
 use crate::opening::{open_backing, test_pair};
 use crate::stop::{Stop, tell};
-use bc_cached_serve::asked::ask_to_read;
-use bc_cached_serve::bc_serve::whole_run::run_trace;
 use bc_disk::disk::Disk;
 use bc_disk::stream::{Sink, Source};
 use bc_output::status::Status;
@@ -28,6 +26,8 @@ use bc_script::line::Line;
 use bc_script::trace::read_trace;
 use bc_session_laws::bc_machine::part::BackingPart;
 use bc_session_laws::bc_session::{Idled, open_and_close};
+use bc_sound_reads::bc_cached_serve::asked::keep_values;
+use bc_sound_reads::bc_serve::whole_run::run_trace;
 use bc_super::backing::BackingSuper;
 use bc_worker::gate::NoGate;
 use std::alloc::Global;
@@ -62,8 +62,8 @@ fn ask_something(lines: &[Line]) -> bool
     false
 }
 
-// Opens the pair for a run over the backing device alone, or tests it for an opening. A pair with a
-// cache of which more is asked than to read isn't served yet.
+// Opens the pair for a run over the backing device alone, or tests it for an opening. Of a pair
+// with a cache a write or a round isn't served yet.
 fn open<C: Disk, B: Disk>(
     alloc: Global,
     cache: &mut C,
@@ -101,7 +101,7 @@ fn prepare<C: Disk, B: Disk, S: Source>(
         × IsWhole (S.facts trace.old) (S.facts trace.new) p.lines.items) }
     ensures ready { IfOk result (λ p. IsReady C.facts B.facts cache.old cache.new
         backing.old backing.new p.opening) }
-    ensures reads { IfOk result (λ p. IsCached p.opening → All AsksToRead p.lines.items) }
+    ensures keep { IfOk result (λ p. IsCached p.opening → All KeepsValues p.lines.items) }
     ensures cause { IfErr result (λ stop. IsServeCause stop (S.facts trace.old) (S.facts trace.new)
         (C.facts cache.old) (C.facts cache.new) (B.facts backing.old) (B.facts backing.new)) }
     ensures same { AreSame (C.facts cache.old) (C.facts cache.new) (B.facts backing.old)
@@ -109,8 +109,8 @@ fn prepare<C: Disk, B: Disk, S: Source>(
 {
     let script = read_trace(alloc, trace)?;
     let lines = script.into_lines();
-    let reads = ask_to_read(&lines);
-    let opening = open(alloc, cache, backing, !reads)?;
+    let keep = keep_values(&lines);
+    let opening = open(alloc, cache, backing, !keep)?;
     Ok(Prepared { lines, opening })
 }
 
@@ -152,11 +152,11 @@ fn open_idle<R: Wait, C: Disk + Drop, B: Disk + Drop, K: Sink>(
 ///
 /// The whole trace is read first, then the superblock of the backing device and, where it asks for
 /// a cache, all of the pair but its data; the first of these that is refused ends the call with a
-/// message, as does a cache of which a line asks for more than to read, which isn't served yet, and
-/// no sector is written. Then each line is served in order, a last barrier is made, and the answers
-/// are put in order. A pair with a cache is opened for that and closed behind it, also where no
-/// line asks anything. A line that finds its index unsound ends the run: the lines before it are
-/// answered, and a message names it.
+/// message, as does a cache over which a line asks for a write or a round, which isn't served yet,
+/// and no sector is written. Then each line is served in order, a last barrier is made, and the
+/// answers are put in order. A pair with a cache is opened for that and closed behind it, also
+/// where no line asks anything. A line that finds its index unsound, or a part of it busy, ends the
+/// run: the lines before it are answered, and a message names it.
 pub fn serve<R: Wait, C: Disk + Drop, B: Disk + Drop, S: Source, K: Sink>(
     rt: &R,
     alloc: Global,
@@ -189,7 +189,7 @@ pub fn serve<R: Wait, C: Disk + Drop, B: Disk + Drop, S: Source, K: Sink>(
         Opening::Alone(superblock) => superblock,
         Opening::Cached(superblock, survey) => {
             if ask_something(&lines) {
-                return serve_reads(rt, alloc, cache, backing, &superblock, &survey, &lines, out);
+                return serve_cached(rt, alloc, cache, backing, &superblock, &survey, &lines, out);
             }
             let (status, cache, backing) = open_idle(
                 rt,

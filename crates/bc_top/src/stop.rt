@@ -30,7 +30,7 @@ pub enum Stop {
     Superblock { device: Device, number: u8 },
     /// What the pair holds behind its superblocks was refused for the reason of this number.
     Image(u8),
-    /// The pair has a cache, which isn't served yet.
+    /// The pair has a cache, over which a write or a round isn't served yet.
     Unserved,
     /// There was no memory.
     Memory,

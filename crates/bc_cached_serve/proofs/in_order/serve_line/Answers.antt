@@ -1,19 +1,34 @@
-use Rattle.std.proofs.Common.{[], refl, sym, subst}
-use Rattle.bc_serve.proofs.of_bc_job.Looping.{done_none}
-use Rattle.bc_script.specs.Served.{ServesLine}
-use Rattle.bc_script.specs.declared.answer.Answer.TheVariants.{Silent}
+use Rattle.std.proofs.Common.{ap, sym, subst, ◌∙◌}
+use Rattle.std.specs.Prelude.{IfErr, IfOk}
+use Rattle.bc_script.specs.declared.line.Action.{Action}
 use Rattle.bc_script.specs.declared.line.Line.{Line}
-use Rattle.bc_cached_serve.specs.Answered.{DidLine}
+use Rattle.bc_script.specs.declared.line.Line.TheVariants as line
+use Rattle.bc_cached_serve.proofs.Order.{silent_served}
 use Rattle.bc_cached_serve.proofs.in_order.serve_line.Goals as goal
+use Rattle.bc_cached_serve.specs.Answered.{HasHalfServedLine, HasServedLine}
 
 pub returns-in_default-clause-ok : goal.returns-in_default-clause-ok
-returns-in_default-clause-ok g c = record {
-  deeds = [];
-  done = done_none g.C.Disk.facts g.B.Disk.facts c.args.seat.now c.requires.idle.works.seat;
-  reading = tt;
-  serves = subst (λ (l : Line). ServesLine c.args.size c.args.number l Silent [])
-      (sym c.in_default.is) (refl, refl);
-  caused = refl;
-  did = subst (λ (l : Line). DidLine g.C.Disk.facts g.B.Disk.facts c.args.parts.now c.args.size
-      c.args.number l c.args.seat.now c.args.seat.now Silent) (sym c.in_default.is) refl;
-}
+returns-in_default-clause-ok g c = silent_served g.C.Disk.facts g.B.Disk.facts c.args.parts.now
+    c.args.size c.args.number c.args.line c.args.seat.now c.requires.ready c.in_default.is
+
+pub returns-in-Read-clause-ok : goal.returns-in-Read-clause-ok
+returns-in-Read-clause-ok g c = subst (λ (l : Line). IfOk c.serve_read.result
+    (λ a. HasServedLine g.C.Disk.facts g.B.Disk.facts c.args.parts.now c.args.size c.args.number l
+    a c.args.seat.now c.serve_read.new.seat))
+    (sym (c.in-Request.is ∙ ap (λ (x : Action).
+    line.Request c.in-Request.worker c.in-Request.phase x) c.in-Read.is)) c.serve_read.ensures.ok
+
+pub returns-in-Read-clause-err : goal.returns-in-Read-clause-err
+returns-in-Read-clause-err g c = subst (λ (l : Line). IfErr c.serve_read.result
+    (λ why. HasHalfServedLine g.C.Disk.facts g.B.Disk.facts c.args.parts.now c.args.size
+    c.args.number l why c.args.seat.now c.serve_read.new.seat))
+    (sym (c.in-Request.is ∙ ap (λ (x : Action).
+    line.Request c.in-Request.worker c.in-Request.phase x) c.in-Read.is)) c.serve_read.ensures.err
+
+pub returns-in-Flush-clause-ok : goal.returns-in-Flush-clause-ok
+returns-in-Flush-clause-ok g c = subst (λ (l : Line).
+    HasServedLine g.C.Disk.facts g.B.Disk.facts c.args.parts.now c.args.size c.args.number l
+    c.serve_flush.result c.args.seat.now c.serve_flush.new.seat)
+    (sym (c.in-Request.is ∙ ap (λ (x : Action).
+    line.Request c.in-Request.worker c.in-Request.phase x) c.in-Flush.is))
+    c.serve_flush.ensures.served

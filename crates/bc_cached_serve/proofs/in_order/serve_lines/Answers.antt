@@ -13,14 +13,13 @@ use Rattle.bc_cached_serve.proofs.in_order.serve_lines.Goals as goal
 
 pub loop-index-init : goal.loop-index-init
 loop-index-init g c = (
-  c.requires.idle,
+  c.requires.ready,
   c.requires.room,
   ap (λ (answers : List Answer). length answers) c.requires.none,
   subst (All IsPrintable) (sym c.requires.none) (All-nil IsPrintable),
   subst (λ (answers : List Answer). HaveAnswered g.C.Disk.facts g.B.Disk.facts c.args.parts.now
       c.args.size [] answers c.args.seat.now c.args.seat.now) (sym c.requires.none)
-      (none_answered g.C.Disk.facts g.B.Disk.facts c.args.parts.now c.args.size c.args.seat.now
-      c.requires.idle.works.seat),
+      (none_answered g.C.Disk.facts g.B.Disk.facts c.args.parts.now c.args.size c.args.seat.now),
 )
 
 pub loop-index-preserved : goal.loop-index-preserved
@@ -38,18 +37,18 @@ loop-index-preserved g c =
     let served = more_answered g.C.Disk.facts g.B.Disk.facts c.args.parts.now c.args.size (i + 1)
     (take i lines) c.loop-index.answers.items line answer c.args.seat.now c.loop-index.seat
     c.serve_line.new.seat number h.4 c.in-Ok.ensures.ok in (
-      c.serve_line.ensures.idle,
+      c.serve_line.ensures.ready,
       omega (arith, c.push_reserved.ensures.capacity, h.1),
       ap (λ (xs : List Answer). length xs) c.push_reserved.ensures.items
           ∙ length-append c.loop-index.answers.items (answer ∷ []) ∙ ap (λ n. n + 1) h.2,
-      subst (All IsPrintable) (sym c.push_reserved.ensures.items)
+      subst (All IsPrintable) (sym {A = List Answer} c.push_reserved.ensures.items)
           (All-push IsPrintable c.loop-index.answers.items answer h.3 c.in-Ok.ensures.printable),
       subst (λ (ls : List Line). HaveAnswered g.C.Disk.facts g.B.Disk.facts c.args.parts.now
           c.args.size ls c.push_reserved.new.self.items c.args.seat.now c.serve_line.new.seat)
           (sym (ap (λ k. take k lines) one ∙ take-suc lines i zero inside))
           (subst (λ (answers : List Answer). HaveAnswered g.C.Disk.facts g.B.Disk.facts
           c.args.parts.now c.args.size (take i lines ++ line ∷ []) answers c.args.seat.now
-          c.serve_line.new.seat) (sym c.push_reserved.ensures.items) served),
+          c.serve_line.new.seat) (sym {A = List Answer} c.push_reserved.ensures.items) served),
     )
 
 pub returns-in-Err-clause-served : goal.returns-in-Err-clause-served

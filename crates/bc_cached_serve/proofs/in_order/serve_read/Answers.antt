@@ -1,22 +1,43 @@
-use Rattle.bc_cached_serve.proofs.Lines.{answered_result, line_read, stopped_result}
-use Rattle.bc_cached_serve.proofs.Nodes.{names_no_node}
+use Rattle.std.proofs.Common.{sym, subst}
+use Rattle.bc_serve.specs.bc_hand.Seats.{View}
+use Rattle.bc_serve.specs.bc_job.Asked.{IsFor}
+use Rattle.bc_cached_serve.proofs.Taken.{gone_read, half_read, next_of, ready_by, served_read}
 use Rattle.bc_cached_serve.proofs.in_order.serve_read.Goals as goal
 
-pub refused-requires : goal.refused-requires
-refused-requires g c = names_no_node g.C.Disk.facts g.B.Disk.facts c.args.parts.now c.args.job.now
-    c.in-Err.error c.args.seat.now c.read.new.seat c.in-Err.ensures.err
+pub read_sectors-result-requires-clause-its : goal.read_sectors-result-requires-clause-its
+read_sectors-result-requires-clause-its g c = subst (λ (y : View g.C.Disk.facts g.B.Disk.facts).
+    IsFor g.C.Disk.facts g.B.Disk.facts c.args.job.now y) (sym c.cut_off-worker.ensures.new)
+    (record { worker = sym c.requires.worker; size = c.requires.size })
 
-pub returns-in-Ok-clause-ok : goal.returns-in-Ok-clause-ok
-returns-in-Ok-clause-ok g c = line_read g.C.Disk.facts g.B.Disk.facts c.args.parts.now
-    c.args.job.now c.in-Ok.values c.args.seat.now c.read.new.seat c.requires.idle.works.seat
-    c.in-Ok.ensures.ok
+pub take_in-requires-clause-next : goal.take_in-requires-clause-next
+take_in-requires-clause-next g c =
+    let gone = gone_read g.C.Disk.facts g.B.Disk.facts c.args.parts.now c.args.job.now
+    c.read_sectors-result.result c.cut_off-worker.result c.read_sectors-result.new.seat
+    c.read_sectors-result.ensures.ok c.read_sectors-result.ensures.err in
+    next_of g.C.Disk.facts g.B.Disk.facts c.args.seat.now c.cut_off-worker.new.seat
+    c.cut_off-worker.result c.read_sectors-result.new.seat c.cut_off-worker.ensures.kept
+    c.cut_off-worker.ensures.new gone.done.same.first
 
-pub returns-in-Err-clause-ok : goal.returns-in-Err-clause-ok
-returns-in-Err-clause-ok g c = answered_result g.C.Disk.facts g.B.Disk.facts c.args.parts.now
-    c.refused.result c.args.job.now c.in-Err.error c.args.seat.now c.read.new.seat
-    c.requires.idle.works.seat c.refused.ensures.ok c.in-Err.ensures.err
+pub returns-clause-ready : goal.returns-clause-ready
+returns-clause-ready g c = ready_by g.C.Disk.facts g.B.Disk.facts c.args.parts.now c.args.seat.now
+    c.cut_off-worker.new.seat c.cut_off-worker.result c.read_sectors-result.new.seat
+    c.take_in.new.seat c.requires.ready c.cut_off-worker.ensures.kept c.cut_off-worker.ensures.new
+    c.take_in.ensures.joined c.take_in.ensures.works
+    (gone_read g.C.Disk.facts g.B.Disk.facts c.args.parts.now c.args.job.now
+    c.read_sectors-result.result c.cut_off-worker.result c.read_sectors-result.new.seat
+    c.read_sectors-result.ensures.ok c.read_sectors-result.ensures.err)
+    c.read_sectors-result.ensures.idle c.take_in.ensures.heard
 
-pub returns-in-Err-clause-err : goal.returns-in-Err-clause-err
-returns-in-Err-clause-err g c = stopped_result g.C.Disk.facts g.B.Disk.facts c.args.parts.now
-    c.refused.result c.args.job.now c.in-Err.error c.args.seat.now c.read.new.seat
-    c.requires.idle.works.seat c.refused.ensures.err c.in-Err.ensures.err
+pub returns-clause-ok : goal.returns-clause-ok
+returns-clause-ok g c = served_read g.C.Disk.facts g.B.Disk.facts c.args.parts.now c.args.seat.now
+    c.cut_off-worker.new.seat c.cut_off-worker.result c.read_sectors-result.new.seat
+    c.take_in.new.seat c.requires.ready c.cut_off-worker.ensures.kept c.cut_off-worker.ensures.new
+    c.take_in.ensures.joined c.take_in.ensures.works c.args.job.now c.read_sectors-result.result
+    c.read_sectors-result.ensures.ok
+
+pub returns-clause-err : goal.returns-clause-err
+returns-clause-err g c = half_read g.C.Disk.facts g.B.Disk.facts c.args.parts.now c.args.seat.now
+    c.cut_off-worker.new.seat c.cut_off-worker.result c.read_sectors-result.new.seat
+    c.take_in.new.seat c.requires.ready c.cut_off-worker.ensures.kept c.cut_off-worker.ensures.new
+    c.take_in.ensures.joined c.take_in.ensures.works c.args.job.now c.read_sectors-result.result
+    c.read_sectors-result.ensures.err

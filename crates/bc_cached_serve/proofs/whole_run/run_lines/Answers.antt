@@ -1,4 +1,4 @@
-use Rattle.std.proofs.Common.{◌≡◌, ◌∙◌, ap, refl, subst}
+use Rattle.std.proofs.Common.{◌≡◌, ◌∙◌, ap, refl}
 use Rattle.bc_session.proofs.of_bc_open.Exits.{kept_self}
 use Rattle.bc_session.proofs.of_bc_open.Left.{kept_leaves}
 use Rattle.bc_session.proofs.of_bc_open.States.{same_leaves}
@@ -7,8 +7,7 @@ use Rattle.bc_session.proofs.Seen.{usable_over}
 use Rattle.bc_super.specs.Super.{data_sectors}
 use Rattle.bc_super.specs.declared.state.BackingState.{BackingState}
 use Rattle.bc_super.specs.declared.state.BackingState.TheVariants as states
-use Rattle.bc_cached_serve.proofs.Opened.{has_leaves, has_stayed, is_alone, is_cached}
-use Rattle.bc_cached_serve.specs.Run.{HasRunOn}
+use Rattle.bc_cached_serve.proofs.Opened.{has_leaves, has_run_over, has_stayed, is_alone, is_cached, is_durable}
 use Rattle.bc_cached_serve.proofs.whole_run.run_lines.Goals as goal
 
 -- ---- there was no memory for the answers
@@ -45,18 +44,20 @@ serve_run-requires-clause-leaves g c = has_leaves g.C.Disk.facts g.B.Disk.facts 
     c.args.superblock.now c.args.cache c.args.backing c.args.loaded c.in-Ok-open.parts
     c.in-Ok-open.seat c.in-Ok-open.ensures.opened
 
+pub serve_run-requires-clause-durable : goal.serve_run-requires-clause-durable
+serve_run-requires-clause-durable g c = is_durable g.C.Disk.facts g.B.Disk.facts c.args.s.now
+    c.args.superblock.now c.args.cache c.args.backing c.args.loaded c.in-Ok-open.parts
+    c.in-Ok-open.seat c.in-Ok-open.ensures.opened
+
 pub serve_run-requires-clause-usable : goal.serve_run-requires-clause-usable
 serve_run-requires-clause-usable g c = usable_over g.C.Disk.facts g.B.Disk.facts c.args.s.now
     c.args.superblock.now c.args.cache c.args.backing c.args.loaded c.in-Ok-open.parts
     c.in-Ok-open.seat c.in-Ok-open.ensures.opened c.requires.holds
 
 pub returns-in-Ok-open-clause-run : goal.returns-in-Ok-open-clause-run
-returns-in-Ok-open-clause-run g c = record {
-  parts = c.in-Ok-open.parts;
-  seat = c.in-Ok-open.seat;
-  over = c.in-Ok-open.ensures.opened;
-  on = subst (λ n. HasRunOn g.C.Disk.facts g.B.Disk.facts c.in-Ok-open.parts c.args.superblock.now
-      c.args.dirty n c.args.lines.now c.in-Ok-open.seat c.serve_run.result)
-      (c.data_sectors-size.ensures
-      ∙ ap (λ n. data_sectors n c.args.superblock.now) c.sectors.ensures) c.serve_run.ensures.run;
-}
+returns-in-Ok-open-clause-run g c = has_run_over g.C.Disk.facts g.B.Disk.facts c.args.s.now
+    c.args.superblock.now c.args.cache c.args.backing c.args.loaded c.in-Ok-open.parts
+    c.in-Ok-open.seat c.in-Ok-open.ensures.opened c.args.dirty c.data_sectors-size.result
+    c.args.lines.now c.serve_run.result
+    (c.data_sectors-size.ensures
+    ∙ ap (λ n. data_sectors n c.args.superblock.now) c.sectors.ensures) c.serve_run.ensures.run

@@ -3,7 +3,7 @@ use Rattle.std.specs.Bool.{MatchBool}
 use Rattle.std.specs.Prelude.{Any, IfErr, IfOk, Result}
 use Rattle.bc_bucket.specs.declared.bucket.Bucket.{Bucket}
 use Rattle.bc_bucket.specs.declared.bucket.Mark.TheVariants as marks
-use Rattle.bc_cached_serve.specs.Run.{HasRunOver}
+use Rattle.bc_sound_reads.specs.bc_cached_serve.Run.{HasRunOver}
 use Rattle.bc_session_laws.specs.bc_loaded.declared.loading.Loaded.{Loaded}
 use Rattle.bc_session_laws.specs.bc_open.Left.{LeavesThePair}
 use Rattle.bc_session_laws.proofs.of_bc_open.Exits.{kept_self}
@@ -12,7 +12,7 @@ use Rattle.bc_recover.specs.Read.{IsReadOf}
 use Rattle.bc_session_laws.proofs.of_bc_session.Stops.{held_on, left_back, load_stop, stands_kept}
 use Rattle.bc_top.specs.Cached.{HasRunFrom}
 use Rattle.bc_top.specs.Idle.{left_with}
-use Rattle.bc_top.proofs.cached.run_reads.Goals as goal
+use Rattle.bc_top.proofs.cached.run_cached.Goals as goal
 
 -- ---- the parts weren't read
 

@@ -1,10 +1,10 @@
 use Rattle.std.proofs.Common.{List, Option, ℕ, refl, subst}
 use Rattle.bc_script.specs.declared.answer.Answer.{Answer}
-use Rattle.bc_cached_serve.specs.bc_serve.declared.closing.Closing.{Closing}
+use Rattle.bc_sound_reads.specs.bc_serve.declared.closing.Closing.{Closing}
 use Rattle.bc_top.specs.Cached.{closing_of, stopped_at}
 use Rattle.bc_top.specs.Ended.{IsEnd}
 use Rattle.bc_top.proofs.Reading.{reported_done, reported_served}
-use Rattle.bc_top.proofs.cached.serve_reads.Goals as goal
+use Rattle.bc_top.proofs.cached.serve_cached.Goals as goal
 
 pub returns-in-Ok-clause-ran : goal.returns-in-Ok-clause-ran
 returns-in-Ok-clause-ran g c =
@@ -13,7 +13,8 @@ returns-in-Ok-clause-ran g c =
     let new = g.K.Sink.facts c.report.new.out in
     let ends = subst (λ (l : List Answer). IsEnd c.report.result l (stopped_at o.served)
     (closing_of o.closed.result) old new) c.deref.ensures.value
-    (subst (λ (h : Closing). IsEnd c.report.result c.deref.result.now (stopped_at o.served) h old new)
+    (subst (λ (h : Closing). IsEnd c.report.result c.deref.result.now (stopped_at o.served) h old
+    new)
     c.closing_of-closing.ensures
     (subst (λ (x : Option ℕ). IsEnd c.report.result c.deref.result.now x c.closing_of-closing.result
     old new) c.stopped_at-stopped.ensures c.report.ensures)) in
