@@ -1,5 +1,5 @@
--- Whatever came of a piece, the seat's run went on by deeds of its own behind which it is known still
--- what the newest entry of the journal names.
+-- Whatever came of a piece, the seat's run went on by deeds of its own behind which it is known
+-- still what the newest entry of the journal names.
 use Rattle.std.proofs.Common.{◌≡◌, inl, inr, ℕ, ◌≤◌, Bool, true, false, List, [], ◌∷◌, ◌++◌, length, Some, refl, sym, ◌∙◌, subst}
 use Rattle.std.specs.Prelude.{All}
 use Rattle.std.proofs.lemmas.List.Elements.{All-append, All-cons, All-nil}
@@ -173,7 +173,8 @@ module _ {C B : Type 0} (cache_facts : C → DiskFacts) (backing_facts : B → D
       (values : Values) where
     pub gone_come : (o : Past) (v w : View cache_facts backing_facts)
         → HasComeTo cache_facts backing_facts o p force of first values v w → Gone v w
-    gone_come past.Written v w h = gone_both v h.looked w (gone_looked p first (length values) v h.looked h.look)
+    gone_come past.Written v w h = gone_both v h.looked w
+        (gone_looked p first (length values) v h.looked h.look)
         (written force of first values, keep_written force of first values, h.wrote)
     gone_come past.Cached v w h = gone_found p first (length values) v w h
     gone_come past.Waiting v w h = gone_both v h.looked w
@@ -189,7 +190,8 @@ module _ {C B : Type 0} (cache_facts : C → DiskFacts) (backing_facts : B → D
         (gone_not_written e force of first values h.looked w h.stop)
 
     between : (v u x w : View cache_facts backing_facts)
-        → HasDone cache_facts backing_facts (deed.Claim first (length values) Exclusive ∷ []) v u → Gone u x
+        → HasDone cache_facts backing_facts (deed.Claim first (length values) Exclusive ∷ []) v u
+        → Gone u x
         → HasDone cache_facts backing_facts (deed.Release ∷ []) x w → Gone v w
     between v u x w claim under release = gone_both v u w
         (gone_one (deed.Claim first (length values) Exclusive) v u tt claim)

@@ -86,7 +86,8 @@ last_barrier x i d is = subst (λ (b : Deed). FromEach x (IsLastDurable i)
     (λ o is course on h.
     let st = replay o x.log in
     let same = barrier_keys o.opening st i in
-    let later = (onward_event o.opening st (by i deed.BackingBarrier) (turn_replay o x.log)).durable in
+    let later = (onward_event o.opening st (by i deed.BackingBarrier)
+    (turn_replay o x.log)).durable in
     omega (arith, h, same, later)))
 
 write_keys : (w : core.Opening) (st : core.State) (i first : ℕ) (of : LineNumber)
@@ -98,7 +99,8 @@ write_keys w st i first of values =
 
 write_same : (w : core.Opening) (st : core.State) (i first : ℕ) (of : LineNumber)
     (values : Values)
-    → (books_of (core.after w st (by i (deed.BackingWrite first (Some of) values))).machine).journal.durable
+    → (books_of (core.after w st
+    (by i (deed.BackingWrite first (Some of) values))).machine).journal.durable
     ≡ (books_of st.machine).journal.durable
 write_same w st i first of values = refl
 

@@ -9,3 +9,4 @@ pub mod Owing
 pub mod Steps
 pub mod Going
 pub mod Pieces
+pub mod Lines

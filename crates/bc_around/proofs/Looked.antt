@@ -196,7 +196,8 @@ module _ {C B : Type 0} (cache_facts : C → DiskFacts) (backing_facts : B → D
       → IsCoreSeat cache_facts backing_facts u → Waited (m cache_facts backing_facts) t u
       → IsOver first count (note cache_facts backing_facts t).range
       → IsOver first count (note cache_facts backing_facts u).range
-  over_waited first count t u seat waited over = over_still cache_facts backing_facts first count t u
+  over_waited first count t u seat waited over =
+      over_still cache_facts backing_facts first count t u
       (waited_done cache_facts backing_facts t u seat waited) over
 
   pub sees_in : {A E : Type 0} (r : Result A E) (number first count : ℕ)
@@ -314,7 +315,8 @@ module _ {C B : Type 0} (cache_facts : C → DiskFacts) (backing_facts : B → D
       → ((plain : Bool) (o : Note) → (note_after plain o d).range ≡ o.range)
       → HasDone cache_facts backing_facts (d ∷ []) v w
       → (note cache_facts backing_facts w).range ≡ (note cache_facts backing_facts v).range
-  range_done d v w same h = ap (λ (n : Note). n.range) (note_done cache_facts backing_facts (d ∷ []) v w h)
+  range_done d v w same h =
+      ap (λ (n : Note). n.range) (note_done cache_facts backing_facts (d ∷ []) v w h)
       ∙ same (are_plain cache_facts backing_facts v.run.start) (note cache_facts backing_facts v)
 
   range_two : (u v w : View cache_facts backing_facts)

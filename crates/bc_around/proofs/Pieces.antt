@@ -172,7 +172,8 @@ module _ {C B : Type 0} (cache_facts : C → DiskFacts) (backing_facts : B → D
       → IfOk r (λ o. HasComeTo cache_facts backing_facts o p force of first values v x)
       → IfErr r (λ e. HasStopped cache_facts backing_facts e p force of first values v x)
       → x.first ≡ v.first
-  first_tried (Ok o) p force of first values v x come stop = gone_first cache_facts backing_facts v x
+  first_tried (Ok o) p force of first values v x come stop =
+      gone_first cache_facts backing_facts v x
       (gone_come cache_facts backing_facts p force of first values o v x come)
   first_tried (Err e) p force of first values v x come stop = gone_first cache_facts backing_facts
       v x (gone_under cache_facts backing_facts p force of first values e v x stop)
@@ -322,7 +323,8 @@ module _ {C B : Type 0} (cache_facts : C → DiskFacts) (backing_facts : B → D
 
       pub stopped_then : (r : Result Past PastError)
           → IfErr r (λ e. HasNotTried cache_facts backing_facts e p force of first values x w)
-          → IfErr r (λ e. HasNotPassed cache_facts backing_facts e p force of first values heads v w)
+          → IfErr r (λ e. HasNotPassed cache_facts backing_facts e p force of first values heads
+          v w)
       stopped_then (Ok o) stop = tt
       stopped_then (Err e) stop = inr (inr (x, made, stop))
 

@@ -169,8 +169,10 @@ module _ {C B : Type 0} (cache_facts : C → DiskFacts) (backing_facts : B → D
     is_last =
         let a = (note_committed cache_facts backing_facts t u (write of first values) one
         wrote.is).last in
-        let b = (note_committed cache_facts backing_facts u v deed.BackingBarrier two firm.is).last in
-        let long : (note cache_facts backing_facts v).last.count ≡ length values = b.2 ∙ a.2 in record {
+        let b = (note_committed cache_facts backing_facts u v deed.BackingBarrier two firm.is).last
+        in
+        let long : (note cache_facts backing_facts v).last.count ≡ length values = b.2 ∙ a.2 in
+        record {
           its_line = b.0 ∙ a.0;
           its_first = b.1 ∙ a.1;
           its_count = omega arith;
@@ -178,9 +180,12 @@ module _ {C B : Type 0} (cache_facts : C → DiskFacts) (backing_facts : B → D
         }
 
     pub was_written : (note cache_facts backing_facts v).wrote ≡ true
-    was_written = (note_committed cache_facts backing_facts u v deed.BackingBarrier two firm.is).wrote
+    was_written = (note_committed cache_facts backing_facts u v deed.BackingBarrier two
+        firm.is).wrote
         ∙ (note_committed cache_facts backing_facts t u (write of first values) one wrote.is).wrote
 
-    pub range_firm : (note cache_facts backing_facts v).range ≡ (note cache_facts backing_facts t).range
-    range_firm = (note_committed cache_facts backing_facts u v deed.BackingBarrier two firm.is).range
+    pub range_firm : (note cache_facts backing_facts v).range
+        ≡ (note cache_facts backing_facts t).range
+    range_firm = (note_committed cache_facts backing_facts u v deed.BackingBarrier two
+        firm.is).range
         ∙ (note_committed cache_facts backing_facts t u (write of first values) one wrote.is).range

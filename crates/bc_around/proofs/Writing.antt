@@ -72,7 +72,8 @@ module _ {C B : Type 0} (cache_facts : C → DiskFacts) (backing_facts : B → D
         → Since (m cache_facts backing_facts) v x
         → (note_of (seen_from o x) v.first).range ≡ (note cache_facts backing_facts v).range
         → (note_of (seen_from o x) v.first).wrote ≡ (note cache_facts backing_facts v).wrote
-        → flow_ask.CanBypass o.opening.machine.flow.plain (claim_of (data_of (seen_from o x)) v.first)
+        → flow_ask.CanBypass o.opening.machine.flow.plain (claim_of (data_of (seen_from o x))
+        v.first)
         (data_of (seen_from o x)).books.journal.durable first values
     bypass x o is course since range wrote = record {
       some = λ none. let zero = ap (λ (l : List Value). length l) none in absurd (omega arith);

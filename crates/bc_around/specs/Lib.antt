@@ -3,3 +3,4 @@ pub mod Look
 pub mod Owed
 pub mod Past
 pub mod Alone
+pub mod Line

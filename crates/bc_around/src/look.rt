@@ -49,7 +49,8 @@ fn are_free(leaf: &Leaf, first: u64, count: u32) -> bool
 
 // The same, by the leaf of this number in hand.
 fn are_free_in<C, B>(hand: &Hand<C, B>, number: u32, first: u64, count: u32) -> bool
-    requires leaf { (slot : ℕ) × (cached : Cached) × HasLeaf hand.now number first count slot cached }
+    requires leaf { (slot : ℕ) × (cached : Cached)
+        × HasLeaf hand.now number first count slot cached }
     requires few { first + count < 2 ^ 64 }
     ensures { MatchBool result (HasFreeLeaf hand.now number first count)
         (HasKeyedLeaf hand.now number first count) }
@@ -101,8 +102,8 @@ fn give_buckets<C: Disk + Drop, B: Disk + Drop, R: Wait>(
     return_buckets(parts, seat, hand, buckets, true);
 }
 
-// Looks the claim up in the leaf in hand, by which none of its sectors has a key. The buckets are in
-// hand meanwhile, as a look asks.
+// Looks the claim up in the leaf in hand, by which none of its sectors has a key. The buckets are
+// in hand meanwhile, as a look asks.
 fn look_in<C: Disk + Drop, B: Disk + Drop, R: Wait>(
     rt: &R,
     parts: &CoreParts<C, B>,

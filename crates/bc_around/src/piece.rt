@@ -37,9 +37,9 @@ const TRY: u32 = 7;
 const ENTRY: u32 = 5;
 
 /// Writes the values of a piece for a line past the cache, under an exclusive claim of its sectors,
-/// for which the seat waits, and where that is forced makes them durable before the claim is let go.
-/// Nothing is written where a key stands over one of the sectors, or where keys wait for an entry of
-/// the journal: a crash may leave an index without them, and what that shows isn't known here.
+/// for which the seat waits, and where that is forced makes them durable before the claim goes.
+/// Nothing is written where a key stands over one of the sectors, or where keys wait for an entry
+/// of the journal: a crash may leave an index without them, and what that shows isn't known here.
 ///
 /// All memory is taken before the claim but for what a leaf takes that no slot has.
 pub fn try_piece<C: Disk + Drop, B: Disk + Drop, R: Wait, G: Gate>(

@@ -15,8 +15,9 @@ use bc_flush::bc_hand::seat::commit;
 use bc_flush::bc_machine::machine::{CoreParts, CoreSeat};
 use std::sync::Wait;
 
-/// Acknowledges a forced write in a run with a cache: the sectors from `first` on of the seat's last
-/// write, since which a barrier of the backing device was made. What that write rests on is durable.
+/// Acknowledges a forced write in a run with a cache: the sectors from `first` on of the seat's
+/// last write, since which a barrier of the backing device was made. What that write rests on is
+/// durable.
 ///
 /// `Err` names the device that halted the run; then nothing is done.
 pub fn durable<C: Disk, B: Disk, R: Wait>(

@@ -47,12 +47,12 @@ fn called<C: Disk, B: Disk, R: Wait>(
 }
 
 /// Writes these values to the sectors from `first` on of the backing device, for a line, in a run
-/// with a cache: under the seat's exclusive claim, over which no key stands in any index that a crash
-/// may still leave. Under one claim a seat writes once.
+/// with a cache: under the seat's exclusive claim, over which no key stands in any index that a
+/// crash may still leave. Under one claim a seat writes once.
 ///
 /// `Fault` says that the write itself failed, which is committed then: each sector reads as before
-/// or as the new value. `Halted` names the device that had halted the run, and `Memory` comes before
-/// the call; then nothing was done.
+/// or as the new value. `Halted` names the device that had halted the run, and `Memory` comes
+/// before the call; then nothing was done.
 pub fn write_around<C: Disk + Drop, B: Disk + Drop, R: Wait>(
     rt: &R,
     alloc: Global,
@@ -106,8 +106,8 @@ pub(crate) fn bytes_of(alloc: Global, values: &Values) -> Option<Vec<u8>>
     Some(bytes)
 }
 
-/// The same, of values that have these bytes, for which no memory is asked. The seat wasn't told of a
-/// halt.
+/// The same, of values that have these bytes, for which no memory is asked. The seat wasn't told of
+/// a halt.
 pub(crate) fn write_bytes<C: Disk + Drop, B: Disk + Drop, R: Wait>(
     rt: &R,
     parts: &CoreParts<C, B>,

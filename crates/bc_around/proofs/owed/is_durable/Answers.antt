@@ -24,7 +24,8 @@ returns-clause-durable g c = λ none.
     took.ensures.waited c.return_journal.ensures.waited
     (journal_stands cf bf c.args.parts.now took.new.seat _ took.result.0 took.ensures.lent refl)
     c.requires.known.0 took.ensures.lent.seat c.requires.known.1
-    (subst OwesNone c.get.ensures (if_true _ _ c.owes_none-none.result c.owes_none-none.ensures none))
+    (subst OwesNone c.get.ensures (if_true _ _ c.owes_none-none.result c.owes_none-none.ensures
+    none))
 
 pub returns-clause-owed : goal.returns-clause-owed
 returns-clause-owed g c = λ off.

@@ -2,9 +2,11 @@ use Rattle.bc_flush.proofs.of_bc_deed.May.{holds_only, kept_as}
 use Rattle.bc_around.proofs.write.called.Goals as goal
 
 pub commit-requires-clause-holds : goal.commit-requires-clause-holds
-commit-requires-clause-holds g c = holds_only g.C.Disk.facts g.B.Disk.facts c.args.seat.now.parts 5 _
+commit-requires-clause-holds g c = holds_only g.C.Disk.facts g.B.Disk.facts c.args.seat.now.parts 5
+    _
     c.requires.alone c.requires.holds
 
 pub returns-clause-kept : goal.returns-clause-kept
-returns-clause-kept g c = kept_as g.C.Disk.facts g.B.Disk.facts c.args.seat.now c.commit.new.seat _ _
+returns-clause-kept g c = kept_as g.C.Disk.facts g.B.Disk.facts c.args.seat.now c.commit.new.seat _
+    _
     c.requires.alone c.commit.ensures.kept

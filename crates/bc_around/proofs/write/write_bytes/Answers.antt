@@ -11,7 +11,8 @@ use Rattle.bc_around.proofs.write.write_bytes.Goals as goal
 pub write_in-done-requires-clause-inside : goal.write_in-done-requires-clause-inside
 write_in-done-requires-clause-inside g c =
     subst (λ n. c.args.first + length c.args.values ≤ n)
-    (sym (size_waited g.C.Disk.facts g.B.Disk.facts c.args.seat.now c.borrow_backing-backing.new.seat _
+    (sym (size_waited g.C.Disk.facts g.B.Disk.facts c.args.seat.now
+    c.borrow_backing-backing.new.seat _
     c.borrow_backing-backing.ensures.waited c.borrow_backing-backing.ensures.lent.stand.backing))
     c.requires.inside
 
@@ -24,8 +25,10 @@ write_in-done-requires-clause-may g c =
 pub return_backing-requires : goal.return_backing-requires
 return_backing-requires g c = works_backing g.C.Disk.facts g.B.Disk.facts c.args.parts.now
     c.borrow_backing-backing.new.seat c.write_in-done.new.seat c.borrow_backing-backing.new.hand
-    c.borrow_backing-backing.result.0 c.write_in-done.new.backing _ c.borrow_backing-backing.ensures.lent
-    c.write_in-done.ensures.seat c.write_in-done.ensures.kept (other_number 5) c.write_in-done.ensures.backing
+    c.borrow_backing-backing.result.0 c.write_in-done.new.backing _
+    c.borrow_backing-backing.ensures.lent
+    c.write_in-done.ensures.seat c.write_in-done.ensures.kept (other_number 5)
+    c.write_in-done.ensures.backing
 
 pub returns-clause-ok : goal.returns-clause-ok
 returns-clause-ok g c = map_ok c.write_in-done.result (λ did.
@@ -41,7 +44,8 @@ pub returns-clause-err : goal.returns-clause-err
 returns-clause-err g c = map_if_err c.write_in-done.result (λ e h.
     failed_between g.C.Disk.facts g.B.Disk.facts e
     (deed.DeviceFault (failure.BackingWrite c.args.first (Some c.args.of) c.args.values))
-    c.args.seat.now c.borrow_backing-backing.new.seat c.write_in-done.new.seat c.return_backing.new.seat
+    c.args.seat.now c.borrow_backing-backing.new.seat c.write_in-done.new.seat
+    c.return_backing.new.seat
     c.borrow_backing-backing.ensures.still c.borrow_backing-backing.ensures.waited h
     c.return_backing.ensures.waited c.return_backing.ensures.seen c.return_backing.ensures.heard
     c.return_backing.ensures.works.seat)

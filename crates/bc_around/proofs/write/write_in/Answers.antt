@@ -32,12 +32,14 @@ returns-in-Ok-clause-backing g c = let v = c.args.seat.now in
     let values : values_of c.args.bytes.now ≡ c.args.values =
     c.requires.bytes.0 in
     committed_backing g.C.Disk.facts g.B.Disk.facts v c.called.new.seat c.args.backing.now _
-    (deed.BackingWrite c.args.first (Some c.args.of) c.args.values) c.requires.seat c.requires.holds c.requires.backing
+    (deed.BackingWrite c.args.first (Some c.args.of) c.args.values) c.requires.seat
+    c.requires.holds c.requires.backing
     c.called.ensures.did
     (λ x on. behind_write g.C.Disk.facts g.B.Disk.facts c.args.backing.now _ x v.first on refl refl
     c.args.first (Some c.args.of) c.args.values
     (subst (λ (vs : List Value). IsWritten (c.args.backing.now.offset + c.args.first) vs
-    (g.B.Disk.facts c.args.backing.now.disk) (g.B.Disk.facts c.write.new.self)) values c.in-Ok.ensures.ok)
+    (g.B.Disk.facts c.args.backing.now.disk) (g.B.Disk.facts c.write.new.self)) values
+    c.in-Ok.ensures.ok)
     c.in-Ok.ensures.counted)
 
 pub returns-in-Err-clause-backing : goal.returns-in-Err-clause-backing
@@ -45,12 +47,15 @@ returns-in-Err-clause-backing g c = let v = c.args.seat.now in
     let values : values_of c.args.bytes.now ≡ c.args.values =
     c.requires.bytes.0 in
     committed_backing g.C.Disk.facts g.B.Disk.facts v c.called-in-Err.new.seat c.args.backing.now _
-    (deed.DeviceFault (failure.BackingWrite c.args.first (Some c.args.of) c.args.values)) c.requires.seat c.requires.holds
+    (deed.DeviceFault (failure.BackingWrite c.args.first (Some c.args.of) c.args.values))
+    c.requires.seat c.requires.holds
     c.requires.backing c.called-in-Err.ensures.did
-    (λ x on. behind_failed_write g.C.Disk.facts g.B.Disk.facts c.args.backing.now _ x v.first on refl refl
+    (λ x on. behind_failed_write g.C.Disk.facts g.B.Disk.facts c.args.backing.now _ x v.first on
+    refl refl
     c.args.first (Some c.args.of) c.args.values
     (subst (λ (vs : List Value). IsFailedWrite (c.args.backing.now.offset + c.args.first) vs
-    (g.B.Disk.facts c.args.backing.now.disk) (g.B.Disk.facts c.write.new.self)) values c.in-Err.ensures.failed)
+    (g.B.Disk.facts c.args.backing.now.disk) (g.B.Disk.facts c.write.new.self)) values
+    c.in-Err.ensures.failed)
     c.in-Err.ensures.counted)
 
 pub called-requires-clause-alone : goal.called-requires-clause-alone
@@ -61,7 +66,8 @@ called-requires-in-Err-clause-alone g c = backing_changed
 
 pub write-requires : goal.write-requires
 write-requires g c = let inside = c.requires.inside in
-    let all = on_disk g.C.Disk.facts g.B.Disk.facts c.args.seat.now c.args.backing.now c.requires.backing in
+    let all = on_disk g.C.Disk.facts g.B.Disk.facts c.args.seat.now c.args.backing.now
+    c.requires.backing in
     record {
       on_disk = (
         length c.args.values,
