@@ -259,7 +259,7 @@ fn flushes_are_done(rt: HostRuntime) -> Result<(), Fail> {
     }
     // A flush is one call of the backing device.
     let (_, without) = calls(&rt, alloc, "1 r 16 8\n1 r 0 8\n", "9x8\n7x8\n")?;
-    assert_eq!(rt; ran.backing.calls(), without + 2);
+    assert_eq!(rt; ran.backing.calls(), without.saturating_add(2));
     Ok(())
 }
 
