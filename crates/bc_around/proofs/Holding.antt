@@ -8,7 +8,7 @@ use Rattle.bc_flush.specs.bc_hand.declared.hand.LeafHand.{LeafHand}
 use Rattle.bc_journal.specs.Journal.{Journal}
 use Rattle.bc_flush.specs.bc_machine.declared.part.BackingPart.{BackingPart}
 use Rattle.bc_flush.specs.bc_machine.declared.part.BucketsPart.{BucketsPart}
-use Rattle.bc_tree.specs.Spine.{Spine}
+use Rattle.bc_flush.specs.bc_machine.declared.part.SpinePart.{SpinePart}
 
 is_none : {A : Type 0} (o : Option A) → is_some o ≡ false → o ≡ None
 is_none None is = refl
@@ -29,7 +29,7 @@ still_empty {C} {B} h k is same =
     let j : k.journal ≡ None = is_none k.journal (ap (λ (x : Kinds). x.journal) all) in
     let c : k.cache ≡ None = is_none k.cache (ap (λ (x : Kinds). x.cache) all) in
     let b : k.backing ≡ None = is_none k.backing (ap (λ (x : Kinds). x.backing) all) in
-    ap (λ (o : Option Spine). record k { spine = o }) s
+    ap (λ (o : Option SpinePart). record k { spine = o }) s
     ∙ ap (λ (o : Option LeafHand). record k { spine = None; leaves = o }) l
     ∙ ap (λ (o : Option InFlight). record k { spine = None; leaves = None; flight = o }) f
     ∙ ap (λ (o : Option BucketsPart). record (empty {C = C} {B = B}) {

@@ -6,11 +6,11 @@ use Rattle.bc_cache.specs.Slots.{Misses, NodeCache}
 use Rattle.bc_chosen.specs.Parts.{Parts, choices_of}
 use Rattle.bc_chosen.specs.Slots.{node_at, slot_at}
 use Rattle.bc_chosen.specs.Waiting.{all_waiting, waiting, waiting_at}
-use Rattle.bc_chosen.proofs.Parts.{law_chosen, law_stands}
+use Rattle.bc_chosen.proofs.Parts.{law_chosen}
 use Rattle.bc_disk.specs.Disk.{DiskFacts, IfTold}
 use Rattle.bc_disk.specs.declared.geometry.Geometry.{Geometry}
 use Rattle.bc_facts.specs.Layout.{IsLayoutOf}
-use Rattle.bc_facts.specs.Seen.{bucket_of, seen_sets}
+use Rattle.bc_facts.specs.Seen.{seen_sets}
 use Rattle.bc_facts.proofs.Place.{by_lt}
 use Rattle.bc_image.specs.Pair.{Pair}
 use Rattle.bc_image.specs.Reading.{Reading, View}
@@ -34,9 +34,7 @@ use Rattle.bc_node.specs.Leaf.{AreLastOfAll, Leaf}
 use Rattle.bc_node.specs.declared.pending.Entries.{Entries}
 use Rattle.bc_opening.specs.Choices.{IsLeaf, MayBeChosen}
 use Rattle.bc_opening.specs.Nodes.{opened_node}
-use Rattle.bc_opening.specs.Opening.{IsOpenedAs}
 use Rattle.bc_opening.specs.Read.{is_leaf, leaf_of}
-use Rattle.bc_opening.proofs.One.{law_one}
 use Rattle.bc_opening.proofs.Opened as openings
 use Rattle.bc_pending.specs.Entries.{keys_in}
 use Rattle.bc_pending.specs.declared.numbered.Numbered.{Numbered}
@@ -54,6 +52,7 @@ use Rattle.bc_spine.specs.declared.leaf.LeafRange.{LeafRange}
 use Rattle.bc_whole.specs.State.{Opening}
 use Rattle.bc_begun.specs.Laws.{LawLeaves}
 use Rattle.bc_begun.specs.Opened.{IsOpenedWith}
+use Rattle.bc_begun.proofs.Opened.{known, node_is}
 use Rattle.bc_begun.proofs.Order.{Rising, entries_of, keys_rise, pieces_rise}
 use Rattle.bc_begun.proofs.Said.{keys_say, pending_say}
 use Rattle.bc_begun.proofs.Spine.{tree_leaf}
@@ -141,34 +140,6 @@ module _ (p : Pair) (v : View) (layout : Layout) (x : Parts) (w : Opening) (st :
       → In n r.nodes × IsLeaf n.level
   leaf_node k n here = chosen.leaves.is_node k n here
 
-  -- An opening by the same choices that is known to be sound.
-  pub record Known : Type 0 where
-    pub opening : Opening
-    pub state : parts.State
-    pub opened : IsOpenedAs p v layout (choices_of v.geometry v.reading x) opening state
-
-  known : Known
-  known =
-      let k = law_stands p v layout x h.view h.sound h.divided h.read in record {
-        opening = k.0;
-        state = k.1;
-        opened = record {
-          view = h.view;
-          parts = h.sound;
-          is_layout = h.divided;
-          opening = k.2;
-          sound = k.3;
-        };
-      }
-
-  node_is : (n : Node) → In n r.nodes → st.records.nodes (bucket_of g n.key) ≡ opened_node g n
-  node_is n i =
-      let k = known in
-      let same = law_one p v layout (choices_of g r x) k.opening w k.state st k.opened.opening
-      h.opening in
-      sym (same.parts.nodes n i)
-      ∙ openings.law_nodes p v layout (choices_of g r x) k.opening k.state k.opened n i
-
   leaf_is : (k : ℕ) (n : Node) → node_at (leaf_nodes r.nodes) k ≡ Some n
       → st.leaves k ≡ leaf_of g (Some n) (waiting_at x.pending k)
   leaf_is k n here = h.opening.parts.leaves k ∙ ap (λ o. leaf_of g o (waiting_at x.pending k)) here
@@ -177,7 +148,7 @@ module _ (p : Pair) (v : View) (layout : Layout) (x : Parts) (w : Opening) (st :
       → leaf_share st k ≡ shared (leaf_of g (Some n) (waiting_at x.pending k)) (opened_node g n)
   share_is k n here =
       ap (λ (l : parts.Leaf). shared l (st.records.nodes l.bucket)) (leaf_is k n here)
-      ∙ ap (shared (leaf_of g (Some n) (waiting_at x.pending k))) (node_is n (leaf_node k n here).0)
+      ∙ ap (shared (leaf_of g (Some n) (waiting_at x.pending k))) (node_is p v layout x w st h n (leaf_node k n here).0)
 
   -- the sets of a leaf, as the device has them by a key with the same pointer
   sets_at : (k : ℕ) (n : Node) (key : Key) (range : LeafRange)
@@ -185,8 +156,9 @@ module _ (p : Pair) (v : View) (layout : Layout) (x : Parts) (w : Opening) (st :
       → pointer_of key ≡ Some range.ptr → AreSetsAt g p.cache 0 key n.sets
   sets_at k n key range here of points =
       let there = leaf_node k n here in
-      let o = known.opened in
-      let sit = openings.sits p v layout (choices_of g r x) known.opening known.state o n there.0 in
+      let k = known p v layout x w st h in
+      let o = k.opened in
+      let sit = openings.sits p v layout (choices_of g r x) k.opening k.state o n there.0 in
       let at : AreSetsAt g p.cache 0 n.key n.sets =
       subst (λ l. AreSetsAt g p.cache l n.key n.sets) there.1
       (subst (λ (i : Image). AreSetsAt g i n.level n.key n.sets) o.opening.store.image sit.at) in
@@ -261,6 +233,8 @@ module _ (p : Pair) (v : View) (layout : Layout) (x : Parts) (w : Opening) (st :
               (sym (is.added.node.ptr ∙ of.ptr ∙ ptr_is is.key range.ptr is.names.points))
               (tree_leaf p v layout x w st h range k n f.1 f.2))));
           loaded = λ on. is.added.node.loaded ∙ of.loaded;
+          own = λ off. absurd (let read = is.added.node.loaded ∙ of.loaded in cc);
+          whole = λ off. absurd (let read = is.added.node.loaded ∙ of.loaded in cc);
           keys = λ s low high. keys_say (set_keys sets ++ added.keys_of more) leaf.keys s last.order
               last.shown
               ∙ ap (λ (l : List Key). ref_said (last_said l s)) (keys_are sets more n same level);

@@ -1,3 +1,4 @@
+pub mod Opened
 pub mod Spine
 pub mod Buckets
 pub mod Ring

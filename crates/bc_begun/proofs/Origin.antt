@@ -1,10 +1,12 @@
 -- An opening from which a run that begins is seen.
-use Rattle.std.proofs.Common.{◌≡◌, inr, ℕ, zero, suc, ◌+◌, ◌-◌, ◌<◌, ◌&&◌, Bool, true, List, [], ◌∷◌, length, Option, refl, sym, ap, ◌∙◌, subst, arith}
-use Rattle.std.specs.Prelude.{◌≤◌, ◌/◌, map, slice_index_or}
+use Rattle.std.proofs.Common.{◌≡◌, ℕ, zero, suc, ◌+◌, ◌-◌, ◌<◌, ◌&&◌, Bool, true, false, List, [], ◌∷◌, length, Option, refl, sym, ap, ◌∙◌, subst, arith, ◌≢◌, inl, inr, Some, None, if◌then◌else◌}
+use Rattle.std.specs.Prelude.{◌^◌, ◌≤◌, ◌/◌, map, nat_le, nat_lt, slice_index_or}
 use Rattle.std.proofs.Math.Nat.{div-mul-le_self}
+use Rattle.std.proofs.lemmas.Bool.{le-ltb}
 use Rattle.std.proofs.lemmas.Nat.{le-div}
 use Rattle.bc_cache.specs.Slots.{NodeCache}
-use Rattle.bc_chosen.specs.Parts.{ArePartsOf, Parts}
+use Rattle.bc_chosen.specs.Parts.{ArePartsOf, Parts, choices_of}
+use Rattle.bc_chosen.specs.Slots.{slot_at}
 use Rattle.bc_chosen.proofs.Parts.{law_stands}
 use Rattle.bc_disk.specs.Disk.{DiskFacts}
 use Rattle.bc_entries.specs.Journal.{Journal as Read}
@@ -12,21 +14,26 @@ use Rattle.bc_events.specs.Run.{Opening}
 use Rattle.bc_disk.specs.declared.geometry.Geometry.{Geometry}
 use Rattle.bc_facts.specs.Layout.{IsLayoutOf}
 use Rattle.bc_facts.specs.Seen.{counted}
+use Rattle.bc_facts.proofs.Stood.{in_contains}
 use Rattle.bc_image.specs.Pair.{Pair}
 use Rattle.bc_image.specs.Reading.{IsView, View}
 use Rattle.bc_image.specs.Sound.{HasSoundParts}
+use Rattle.bc_image.specs.Tree.{Node}
 use Rattle.bc_known.specs.Laws.{IsSound}
 use Rattle.bc_leaves.specs.Parts as parts
-use Rattle.bc_machine.specs.Containers.{AreLeavesOf}
+use Rattle.bc_machine.specs.Containers.{AreLeavesOf, IsInTree}
 use Rattle.bc_machine.specs.Plain.{worker_of}
-use Rattle.bc_machine.specs.World.{AreLeafParts, HasBegun, IsOrigin, Origin, World, begun_with, image_of, is_some_image, leaves_among, opening}
+use Rattle.bc_machine.specs.World.{AreLeafParts, HasBegun, IsOrigin, IsReadTree, Origin, World, begun_with, image_of, is_some_image, leaves_among, opening}
 use Rattle.bc_machine.specs.declared.part.CorePart.{CorePart}
 use Rattle.bc_machine.specs.declared.part.CorePart.TheVariants as part
+use Rattle.bc_meta.specs.Facts.{In}
 use Rattle.bc_meta.specs.Layout.{Layout}
 use Rattle.bc_model.specs.Sector.{Image}
+use Rattle.bc_opening.specs.Read.{inner_of, leaf_of}
 use Rattle.bc_record.specs.Places.{bucket_at}
+use Rattle.bc_spine.specs.declared.leaf.LeafRange.{LeafRange}
 use Rattle.bc_whole.specs.State as whole
-use Rattle.bc_begun.specs.Begin.{Beginning, BeginsOn, IsSeenAs, parts_of}
+use Rattle.bc_begun.specs.Begin.{Beginning, BeginsOn, IsSeenAs, first_seq, parts_of}
 use Rattle.bc_begun.specs.Laws.{LawOrigin}
 use Rattle.bc_begun.specs.Opened.{IsOpenedWith}
 use Rattle.bc_begun.proofs.Buckets.{law_buckets}
@@ -73,13 +80,70 @@ module _ {C B : Type 0} (cache_facts : C → DiskFacts) (backing_facts : B → D
   many [] = refl
   many (c ∷ cs) = let rest = many cs in omega (arith, rest)
 
+-- ---- nodes
+
+leaf_read : (g : Geometry) (n : Option Node) (pending : List parts.Pending)
+    → (leaf_of g n pending).role ≢ parts.NoNode → (leaf_of g n pending).loaded ≡ true
+leaf_read g None pending some = absurd (some refl)
+leaf_read g (Some n) pending some = refl
+
+inner_read : (g : Geometry) (n : Option Node) → (inner_of g n).role ≢ parts.NoNode
+    → (inner_of g n).loaded ≡ true
+inner_read g None some = absurd (some refl)
+inner_read g (Some n) some = refl
+
+-- a sector behind all leaves is in none
+slot_beyond : (leaves : List LeafRange) (s : ℕ) → ((l : LeafRange) → In l leaves → l.end ≤ s)
+    → slot_at leaves s ≡ 2 ^ 32
+slot_beyond [] s low = refl
+slot_beyond (l ∷ ls) s low = go (nat_le l.from s) (slot_beyond ls s (λ m i. low m (inr i)))
+  where
+    go : (b : Bool) → slot_at ls s ≡ 2 ^ 32
+        → (if b && nat_lt s l.end then l.number else slot_at ls s) ≡ 2 ^ 32
+    go false rest = rest
+    go true rest =
+        ap (λ t. if t then l.number else slot_at ls s) (le-ltb s l.end (low l (inl refl))) ∙ rest
+
+module _ (p : Pair) (v : View) (layout : Layout) (x : Parts) (w : Opening) (st : parts.State)
+    (h : IsOpenedWith p v layout x w.machine st) (is : IsSound w.machine st) (next_seq : ℕ) where
+  live : (r : parts.Role) → IsInTree r → parts.IsLive r
+  live parts.NoNode tree = tree
+  live parts.Draft tree = tree
+  live parts.Free tree = tt
+  live parts.Leaving tree = tt
+  live parts.Coming tree = absurd tree
+
+  ends : (l : LeafRange) → In l x.tree.leaves → l.end ≤ st.end
+  ends l i =
+      let at = (law_spine p v layout x w.machine st next_seq h).spine.leaves l
+      (in_contains x.tree.leaves l i) in
+      let below = is.whole.fits.leaves.below l.number (live (st.leaves l.number).role at.role) in
+      let end = at.end_is in omega (arith, below, end)
+
+  pub read_tree : IsReadTree (record { opening = w; parts = st; next_seq = next_seq })
+  read_tree = record {
+    leaves = λ k. subst (λ (l : parts.Leaf). l.role ≢ parts.NoNode → l.loaded ≡ true)
+        (sym (h.opening.parts.leaves k)) (leaf_read v.geometry
+        ((choices_of v.geometry v.reading x).leaf k) ((choices_of v.geometry v.reading x).pending k));
+    inner_nodes = λ k. subst (λ (n : parts.InnerNode). n.role ≢ parts.NoNode → n.loaded ≡ true)
+        (sym (h.opening.parts.inner_nodes k)) (inner_read v.geometry
+        ((choices_of v.geometry v.reading x).inner k));
+    beyond = λ s far.
+        let none = slot_beyond x.tree.leaves s (λ l i.
+        (let end = ends l i in omega (arith, end, far))) in
+        let slot = h.opening.books.leaf s in omega (arith, none, slot);
+  }
+
 -- ---- the opening
 
 module _ {C B : Type 0} (cache_facts : C → DiskFacts) (backing_facts : B → DiskFacts)
     (p : Pair) (v : View) (layout : Layout) (x : Parts) (read : Read) (count : ℕ) (was : C)
-    (k : Beginning C B) (next_seq : ℕ) (view : IsView p v) (sound : HasSoundParts p v)
+    (k : Beginning C B) (view : IsView p v) (sound : HasSoundParts p v)
     (divided : IsLayoutOf v.geometry layout) (are : ArePartsOf v.geometry v.reading x)
     (on : BeginsOn cache_facts backing_facts p v x read count was k) where
+  abbrev next_seq : ℕ
+  next_seq = first_seq k.journal
+
   abbrev run : World
   run = opening cache_facts backing_facts (parts_of x.tree k)
 
@@ -113,7 +177,8 @@ module _ {C B : Type 0} (cache_facts : C → DiskFacts) (backing_facts : B → D
 
     begun : HasBegun (begun_with cache_facts backing_facts (parts_of x.tree k)) o
     begun = record {
-      spine = law_spine p v layout x w st h;
+      read = read_tree p v layout x o.opening st h is next_seq;
+      spine = law_spine p v layout x w st next_seq h;
       buckets = law_buckets p v layout x w st k.buckets h on.bytes on.buckets on.reserves on.fill;
       journal = law_journal p v layout x o.opening st next_seq read k.journal h is
           on.found on.entries on.resumed;
@@ -169,6 +234,5 @@ module _ {C B : Type 0} (cache_facts : C → DiskFacts) (backing_facts : B → D
 
 pub law_origin : {C B : Type 0} (cache_facts : C → DiskFacts) (backing_facts : B → DiskFacts)
     → LawOrigin cache_facts backing_facts
-law_origin cache_facts backing_facts p v layout x read count was k next_seq view sound divided are
-    on = found cache_facts backing_facts p v layout x read count was k next_seq view sound divided
-    are on
+law_origin cache_facts backing_facts p v layout x read count was k view sound divided are on =
+    found cache_facts backing_facts p v layout x read count was k view sound divided are on

@@ -1,36 +1,44 @@
 -- The nodes of a tree in memory, in the machine's slots.
-use Rattle.std.proofs.Common.{◌≡◌, inl, inr, ℕ, zero, suc, ◌+◌, List, [], ◌∷◌, Option, Some, None, refl, sym, ap, ◌∙◌, subst, arith}
-use Rattle.std.specs.Prelude.{Contains}
+use Rattle.std.proofs.Common.{◌≡◌, inl, inr, ℕ, zero, suc, ◌+◌, ◌<◌, Bool, List, [], ◌∷◌, Option, Some, None, refl, sym, ap, ◌∙◌, subst, arith}
+use Rattle.std.specs.Prelude.{Contains, map}
 use Rattle.bc_chosen.specs.Parts.{Parts}
-use Rattle.bc_chosen.specs.Slots.{node_at}
+use Rattle.bc_chosen.specs.Slots.{node_at, node_by}
 use Rattle.bc_chosen.specs.Waiting.{waiting_at}
+use Rattle.bc_chosen.proofs.Parts.{law_chosen}
+use Rattle.bc_chosen.proofs.Slots.{by_in, inner_back}
 use Rattle.bc_disk.specs.declared.geometry.Geometry.{Geometry}
-use Rattle.bc_facts.specs.Seen.{counted}
+use Rattle.bc_facts.specs.Seen.{bucket_of, counted, is_gone, seen_child, seen_sets, word_of}
 use Rattle.bc_facts.proofs.Stood.{contains_in, in_contains}
 use Rattle.bc_image.specs.Pair.{Pair}
 use Rattle.bc_image.specs.Reading.{Reading, View}
 use Rattle.bc_image.specs.Tree.{IsWalk, Node}
-use Rattle.bc_image.proofs.Unique.{some_same}
 use Rattle.bc_inner.specs.Inner.{Inner}
 use Rattle.bc_key.specs.Key.{ptr_at}
 use Rattle.bc_key.specs.Words.{ptr_word}
 use Rattle.bc_key.specs.declared.key.Key.{Key}
 use Rattle.bc_key.specs.declared.ptr.Ptr.{Ptr}
 use Rattle.bc_leaves.specs.Parts as parts
-use Rattle.bc_machine.specs.Containers.{IsInTree, IsSpineOf, IsTreeInner, IsTreeLeaf}
+use Rattle.bc_machine.specs.Containers.{IsAtRest, IsInTree, IsSpineOf, IsTreeInner, IsTreeLeaf, Rests, child_of, inner_slot}
+use Rattle.bc_meta.specs.Entries.{Entry}
 use Rattle.bc_meta.specs.Facts.{In}
 use Rattle.bc_meta.specs.Layout.{Layout}
+use Rattle.bc_meta.specs.Records as records
+use Rattle.bc_meta.specs.Tree as tree
+use Rattle.bc_meta.specs.Tree.{Child}
 use Rattle.bc_model.specs.Sector.{Image}
-use Rattle.bc_opening.specs.Read.{height_of, inner_of, leaf_of}
+use Rattle.bc_opening.specs.Nodes.{opened_node}
+use Rattle.bc_opening.specs.Read.{height_of, inner_of, is_leaf, leaf_of}
 use Rattle.bc_record.specs.Places.{bucket_at}
-use Rattle.bc_slots.specs.bc_regrow.Parts.{AreOfNodes, AreRangesOf, IsOfNode, IsRangeOf, if_inner, inner_nodes, leaf_nodes}
-use Rattle.bc_shares.specs.Shares.{shape_of}
+use Rattle.bc_remains.proofs.Children.{children_are}
+use Rattle.bc_slots.specs.bc_regrow.Parts.{AreOfNodes, AreRangesOf, IsOfNode, IsRangeOf, inner_nodes, leaf_nodes}
+use Rattle.bc_shares.specs.Shares.{InnerShare, inner_share, node_share, shape_of}
 use Rattle.bc_spine.specs.Leaves.{AreCounted}
 use Rattle.bc_spine.specs.Numbers.{HasNumber}
 use Rattle.bc_spine.specs.declared.leaf.LeafRange.{LeafRange}
 use Rattle.bc_whole.specs.State.{Opening}
 use Rattle.bc_begun.specs.Laws.{LawSpine}
 use Rattle.bc_begun.specs.Opened.{IsOpenedWith}
+use Rattle.bc_begun.proofs.Opened.{node_is}
 
 -- ---- lists by places
 
@@ -77,47 +85,57 @@ numbered (k ∷ ns) (m ∷ leaves) first (suc i) n ranges counted e =
     let l = numbered ns leaves (suc first) i n ranges.1 counted.1 e in
     let number = l.2 in (l.0, inr l.1, omega (arith, number))
 
--- an inner node stands at its place
-inner_placed : (g : Geometry) (ns : List Node) (inners : List Inner) (y : Inner) → AreOfNodes g ns inners
-    → In y inners → (i : ℕ) × (n : Node) × (node_at ns i ≡ Some n) × IsOfNode g n y
-inner_placed g [] [] y are i = absurd i
-inner_placed g [] (m ∷ inners) y are i = absurd are
-inner_placed g (n ∷ ns) [] y are i = absurd i
-inner_placed g (n ∷ ns) (m ∷ inners) y are (inl e) =
-    (0, n, refl, subst (λ (x : Inner). IsOfNode g n x) (sym e) are.0)
-inner_placed g (n ∷ ns) (m ∷ inners) y are (inr i) =
-    let k = inner_placed g ns inners y are.1 i in (suc k.0, k.1, k.2, k.3)
+-- an inner node is one of these
+inner_among : (g : Geometry) (ns : List Node) (inners : List Inner) (y : Inner) → AreOfNodes g ns inners
+    → In y inners → (n : Node) × In n ns × IsOfNode g n y
+inner_among g [] [] y are i = absurd i
+inner_among g [] (m ∷ inners) y are i = absurd are
+inner_among g (n ∷ ns) [] y are i = absurd i
+inner_among g (n ∷ ns) (m ∷ inners) y are (inl e) =
+    (n, inl refl, subst (λ (x : Inner). IsOfNode g n x) (sym e) are.0)
+inner_among g (n ∷ ns) (m ∷ inners) y are (inr i) =
+    let k = inner_among g ns inners y are.1 i in (k.0, inr k.1, k.2)
 
-inner_at : (g : Geometry) (ns : List Node) (inners : List Inner) (i : ℕ) (n : Node) → AreOfNodes g ns inners
-    → node_at ns i ≡ Some n → (y : Inner) × In y inners × IsOfNode g n y
-inner_at g [] [] i n are e = absurd (cc)
-inner_at g [] (m ∷ inners) i n are e = absurd are
-inner_at g (k ∷ ns) [] i n are e = absurd are
-inner_at g (k ∷ ns) (m ∷ inners) zero n are e =
-    (m, inl refl, subst (λ (x : Node). IsOfNode g x m) (some_same k n e) are.0)
-inner_at g (k ∷ ns) (m ∷ inners) (suc i) n are e =
-    let y = inner_at g ns inners i n are.1 e in (y.0, inr y.1, y.2)
+among_inner : (g : Geometry) (ns : List Node) (inners : List Inner) (n : Node) → AreOfNodes g ns inners
+    → In n ns → (y : Inner) × In y inners × IsOfNode g n y
+among_inner g [] [] n are i = absurd i
+among_inner g [] (m ∷ inners) n are i = absurd are
+among_inner g (k ∷ ns) [] n are i = absurd are
+among_inner g (k ∷ ns) (m ∷ inners) n are (inl e) =
+    (m, inl refl, subst (λ (x : Node). IsOfNode g x m) (sym e) are.0)
+among_inner g (k ∷ ns) (m ∷ inners) n are (inr i) =
+    let y = among_inner g ns inners n are.1 i in (y.0, inr y.1, y.2)
 
-inner_level : (ns : List Node) (i : ℕ) (n : Node) → node_at (inner_nodes ns) i ≡ Some n
-    → (l : ℕ) × (n.level ≡ suc l)
-inner_level [] i n e = absurd (cc)
-inner_level (k ∷ ns) i n e = go k.level refl i e (λ j f. inner_level ns j n f)
-  where
-    go : (l : ℕ) → k.level ≡ l → (i : ℕ) → node_at (if_inner l k (inner_nodes ns)) i ≡ Some n
-        → ((j : ℕ) → node_at (inner_nodes ns) j ≡ Some n → (l : ℕ) × (n.level ≡ suc l))
-        → (l : ℕ) × (n.level ≡ suc l)
-    go zero is i e later = later i e
-    go (suc l) is zero e later = (l, ap (λ (x : Node). x.level) (sym (some_same k n e)) ∙ is)
-    go (suc l) is (suc i) e later = later i e
+above_zero : (l : ℕ) → 0 < l → (k : ℕ) × (l ≡ suc k)
+above_zero zero low = absurd (omega (arith, low))
+above_zero (suc k) low = (k, refl)
 
 -- the first inner node that a walk meets is the one from which it begins
 first_inner : (g : Geometry) (image : Image) (level from : ℕ) (key : Key)
     (ns : List Node) (y : Inner) (below : List Inner) → IsWalk g image level from key ns
-    → AreOfNodes g (inner_nodes ns) (y ∷ below) → y.end ≡ key.end
+    → AreOfNodes g (inner_nodes ns) (y ∷ below) → (y.end ≡ key.end) × (y.ptr ≡ ptr_at key 0)
 first_inner g image zero from key ns y below walk are =
     absurd (subst (λ (l : List Node). AreOfNodes g (inner_nodes l) (y ∷ below)) walk.2 are)
 first_inner g image (suc level) from key ns y below walk are =
-    (subst (λ (l : List Node). AreOfNodes g (inner_nodes l) (y ∷ below)) walk.4 are).0.ends
+    let one = (subst (λ (l : List Node). AreOfNodes g (inner_nodes l) (y ∷ below)) walk.4 are).0 in
+    (one.ends, one.ptr)
+
+-- ---- slots
+
+leaf_rests : (g : Geometry) (o : Option Node) (pending : List parts.Pending)
+    → Rests (leaf_of g o pending).role
+leaf_rests g None pending = inl refl
+leaf_rests g (Some n) pending = inr refl
+
+inner_rests : (g : Geometry) (o : Option Node) → Rests (inner_of g o).role
+inner_rests g None = inl refl
+inner_rests g (Some n) = inr refl
+
+abbrev child : ℕ → ℕ → ℕ → Bool → Child
+child end bucket word gone = record { end = end; bucket = bucket; word = word; gone = gone }
+
+abbrev inner_shared : parts.InnerNode → records.Node → InnerShare
+inner_shared y node = record { inner = y; node = node_share node }
 
 -- ---- a machine that is opened
 
@@ -154,33 +172,90 @@ module _ (p : Pair) (v : View) (layout : Layout) (x : Parts) (w : Opening) (st :
           let l = numbered (leaf_nodes r.nodes) x.tree.leaves 0 k n h.read.tree.leaves h.read.tree.counted e in
           let number = l.2 in (l.0, in_contains x.tree.leaves l.0 l.1, omega (arith, number))
 
-  tree_inner : (y : Inner) (i : ℕ) (n : Node) → node_at (inner_nodes r.nodes) i ≡ Some n → IsOfNode g n y
-      → IsTreeInner w y (st.inner_nodes i)
-  tree_inner y i n here of = let level = inner_level r.nodes i n here in
-      subst (λ (z : parts.InnerNode). IsTreeInner w y z)
-      (sym (h.opening.parts.inner_nodes i ∙ ap (λ o. inner_of g o) here)) (record {
+  -- an inner node is in the slot of its bucket
+  pub record InSlot (i : ℕ) (n : Node) : Type 0 where
+    pub held : In n r.nodes
+    pub level : (l : ℕ) × (n.level ≡ suc l)
+    pub there : node_by g (inner_nodes r.nodes) i ≡ Some n
+
+  in_slot : (n : Node) → In n (inner_nodes r.nodes)
+      → (i : ℕ) × InSlot i n × (bucket_of g n.key ≡ i)
+  in_slot n i =
+      let chosen = law_chosen p v x h.view h.sound h.read in
+      let back = inner_back r.nodes n i in
+      let at = chosen.inner_nodes.all n back.0 back.1 in (
+        at.0,
+        record { held = back.0; level = above_zero n.level back.1; there = at.1 },
+        (by_in g (inner_nodes r.nodes) at.0 n at.1).1,
+      )
+
+  share_is : (i : ℕ) (n : Node) → InSlot i n
+      → inner_share st i ≡ inner_shared (inner_of g (Some n)) (opened_node g n)
+  share_is i n here = ap (λ (y : parts.InnerNode). inner_shared y (st.records.nodes y.bucket))
+      (h.opening.parts.inner_nodes i ∙ ap (λ o. inner_of g o) here.there)
+      ∙ ap (inner_shared (inner_of g (Some n))) (node_is p v layout x w st h n here.held)
+
+  child_is : (key : Key) → seen_child g key ≡ child_of w key
+  child_is key = ap (λ b. child key.end b (word_of key) (is_gone key))
+      (sym (h.opening.books.bucket (ptr_at key 0).offset))
+
+  children_as : (keys : List Key) → map (seen_child g) keys ≡ map (child_of w) keys
+  children_as [] = refl
+  children_as (key ∷ keys) = ap (λ c. c ∷ map (seen_child g) keys) (child_is key)
+      ∙ ap (λ cs. child_of w key ∷ cs) (children_as keys)
+
+  -- the children that a node's sets name are those that it has in memory
+  named : (y : Inner) (i : ℕ) (n : Node) → InSlot i n → IsOfNode g n y
+      → tree.children_of (seen_sets g (is_leaf n.level) n.sets) ≡ map (child_of w) y.children
+  named y i n here of =
+      ap (λ b. tree.children_of (seen_sets g b n.sets)) (ap is_leaf here.level.1)
+      ∙ children_are g n.sets ∙ ap (map (seen_child g)) (sym of.children) ∙ children_as y.children
+
+  tree_inner : (y : Inner) (i : ℕ) (n : Node) → InSlot i n → IsOfNode g n y
+      → IsTreeInner w st.change i y (inner_share st i)
+  tree_inner y i n here of = let level = here.level in
+      subst (λ (z : InnerShare). IsTreeInner w st.change i y z) (sym (share_is i n here)) (record {
         role = tt;
         first = sym of.begins;
         end = sym of.ends;
         bucket = in_bucket (ptr_at n.key 0) y.ptr of.ptr;
         word = ap ptr_word (sym of.ptr);
         level = ap (λ l. suc (height_of l)) level.1 ∙ sym level.1 ∙ sym of.level_is;
+        loaded = λ on. of.loaded;
+        own = λ off. absurd (let read = of.loaded in cc);
+        children = λ calm. named y i n here of;
       })
 
+  nodes : (y : Inner) → Contains (x.tree.root ∷ x.tree.below) y
+      → IsTreeInner w st.change (inner_slot w y) y (inner_share st (inner_slot w y))
+  nodes y i =
+      let n = inner_among g (inner_nodes r.nodes) (x.tree.root ∷ x.tree.below) y h.read.tree.inner
+      (contains_in (x.tree.root ∷ x.tree.below) y i) in
+      let at = in_slot n.0 n.1 in
+      subst (λ k. IsTreeInner w st.change k y (inner_share st k))
+      (sym at.2 ∙ in_bucket (ptr_at n.0.key 0) y.ptr n.2.ptr) (tree_inner y at.0 n.0 at.1 n.2)
+
   all_nodes : (i : ℕ) → IsInTree (st.inner_nodes i).role
-      → (y : Inner) × Contains (x.tree.root ∷ x.tree.below) y × IsTreeInner w y (st.inner_nodes i)
-  all_nodes i live = go (node_at (inner_nodes r.nodes) i) refl
+      → (y : Inner) × Contains (x.tree.root ∷ x.tree.below) y × (inner_slot w y ≡ i)
+  all_nodes i live = go (node_by g (inner_nodes r.nodes) i) refl
     where
-      go : (o : Option Node) → node_at (inner_nodes r.nodes) i ≡ o
-          → (y : Inner) × Contains (x.tree.root ∷ x.tree.below) y × IsTreeInner w y (st.inner_nodes i)
+      go : (o : Option Node) → node_by g (inner_nodes r.nodes) i ≡ o
+          → (y : Inner) × Contains (x.tree.root ∷ x.tree.below) y × (inner_slot w y ≡ i)
       go None e = absurd (subst (λ (z : parts.InnerNode). IsInTree z.role)
           (h.opening.parts.inner_nodes i ∙ ap (λ o. inner_of g o) e) live)
       go (Some n) e =
-          let y = inner_at g (inner_nodes r.nodes) (x.tree.root ∷ x.tree.below) i n h.read.tree.inner e in (
+          let lies = by_in g (inner_nodes r.nodes) i n e in
+          let y = among_inner g (inner_nodes r.nodes) (x.tree.root ∷ x.tree.below) n h.read.tree.inner
+          lies.0 in (
             y.0,
             in_contains (x.tree.root ∷ x.tree.below) y.0 y.1,
-            tree_inner y.0 i n e y.2,
+            sym (in_bucket (ptr_at n.key 0) y.0.ptr y.2.ptr) ∙ lies.1,
           )
+
+  first : (x.tree.root.end ≡ r.newest.item.root.end)
+      × (x.tree.root.ptr ≡ ptr_at r.newest.item.root 0)
+  first = first_inner g p.cache r.newest.item.level 0 r.newest.item.root r.nodes x.tree.root
+      x.tree.below h.view.reading.nodes h.read.tree.inner
 
   spine : IsSpineOf w st x.tree
   spine = record {
@@ -192,13 +267,29 @@ module _ (p : Pair) (v : View) (layout : Layout) (x : Parts) (w : Opening) (st :
         subst (λ n. IsTreeLeaf w l.from l.end l.ptr (shape_of (st.leaves n))) at
         (tree_leaf l k.at k.node k.here k.range);
     all_leaves = all_leaves;
-    nodes = λ y i.
-        let k = inner_placed g (inner_nodes r.nodes) (x.tree.root ∷ x.tree.below) y h.read.tree.inner
-        (contains_in (x.tree.root ∷ x.tree.below) y i) in (k.0, tree_inner y k.0 k.1 k.2 k.3);
+    nodes = nodes;
     all_nodes = all_nodes;
-    end = h.opening.parts.end ∙ sym (first_inner g p.cache r.newest.item.level 0 r.newest.item.root r.nodes
-        x.tree.root x.tree.below h.view.reading.nodes h.read.tree.inner ∙ h.sound.pointers.root);
+    end = h.opening.parts.end ∙ sym (first.0 ∙ h.sound.pointers.root);
+  }
+
+  rest : IsAtRest w st x.tree
+  rest = record {
+    change = h.opening.parts.change;
+    leaves = λ k. subst (λ (y : parts.Leaf). Rests y.role) (sym (h.opening.parts.leaves k))
+        (leaf_rests g (node_at (leaf_nodes r.nodes) k) (waiting_at x.pending k));
+    inner_nodes = λ i. subst (λ (y : parts.InnerNode). Rests y.role)
+        (sym (h.opening.parts.inner_nodes i)) (inner_rests g (node_by g (inner_nodes r.nodes) i));
+    root = record {
+      newest = ap (λ (y : records.Records). y.newest.root) h.opening.records
+          ∙ ap (λ (e : Entry). e.root) (sym h.opening.store.opens.means.newest_is)
+          ∙ in_bucket (ptr_at r.newest.item.root 0) x.tree.root.ptr first.1;
+      sealed = λ some. absurd (some (ap (λ (y : records.Records). y.stage) h.opening.records));
+    };
   }
 
 pub law_spine : LawSpine
-law_spine p v layout x w st h = spine p v layout x w st h
+law_spine p v layout x w st next_seq h = record {
+  spine = spine p v layout x w st h;
+  next_seq = refl;
+  rest = λ off. rest p v layout x w st h;
+}

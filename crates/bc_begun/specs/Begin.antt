@@ -1,5 +1,5 @@
 -- The parts with which a run over a pair with a cache begins.
-use Rattle.std.specs.Prelude.{◌≡◌, ℕ, ◌+◌, List, [], ◌∷◌, Some, map}
+use Rattle.std.specs.Prelude.{◌≡◌, ℕ, ◌+◌, ◌*◌, ◌%◌, ◌^◌, false, List, [], ◌∷◌, Some, map}
 use Rattle.bc_cache.specs.Slots.{NodeCache}
 use Rattle.bc_chosen.specs.Parts.{Parts, choices_of}
 use Rattle.bc_disk.specs.Disk.{DiskFacts}
@@ -11,6 +11,7 @@ use Rattle.bc_journal.specs.Journal.{Journal}
 use Rattle.bc_machine.specs.World.{IsOrigin, IsSeenFrom, IsUntorn, Origin, World, replay, seen_from}
 use Rattle.bc_machine.specs.declared.part.BackingPart.{BackingPart}
 use Rattle.bc_machine.specs.declared.part.BucketsPart.{BucketsPart}
+use Rattle.bc_machine.specs.declared.part.SpinePart.{SpinePart}
 use Rattle.bc_machine.specs.declared.part.CorePart.{CorePart}
 use Rattle.bc_machine.specs.declared.part.CorePart.TheVariants as part
 use Rattle.bc_meta.specs.Layout.{Layout}
@@ -31,9 +32,19 @@ pub record Beginning (C B : Type 0) : Type 0 where
   pub backing : BackingPart B
   pub leaves : List NodeCache
 
+-- The number that the sets of the first new node get: 65,536 for each entry up to the newest one,
+-- in 64 bits. So the nodes of an earlier run have lower numbers.
+abbrev pub first_seq : Journal → ℕ
+first_seq j = j.durable.seq * 65536 % 2 ^ 64
+
+-- the tree, of which no change is under way
+abbrev pub resting : Spine → ℕ → SpinePart
+resting tree next_seq = record { spine = tree; next_seq = next_seq; changing = false }
+
 -- all parts of the run, in the order of their numbers
 abbrev pub parts_of : {C B : Type 0} → Spine → Beginning C B → List (CorePart C B)
-parts_of tree k = part.Spine tree ∷ part.Flight k.flight ∷ part.Buckets k.buckets
+parts_of tree k = part.Spine (resting tree (first_seq k.journal))
+    ∷ part.Flight k.flight ∷ part.Buckets k.buckets
     ∷ part.Journal k.journal ∷ part.Cache k.cache ∷ part.Backing k.backing
     ∷ map part.Leaves k.leaves
 

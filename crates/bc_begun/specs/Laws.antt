@@ -12,8 +12,9 @@ use Rattle.bc_image.specs.Reading.{IsView, View}
 use Rattle.bc_image.specs.Sound.{HasSoundParts}
 use Rattle.bc_journal.specs.Journal.{Journal}
 use Rattle.bc_known.specs.Laws.{IsSound}
+use Rattle.bc_known.specs.Run as known
 use Rattle.bc_leaves.specs.Parts as parts
-use Rattle.bc_machine.specs.Containers.{AreBucketsOf, AreLeavesOf, IsJournalOf, IsSpineOf}
+use Rattle.bc_machine.specs.Containers.{AreBucketsOf, AreLeavesOf, IsJournalOf, IsSpinePartOf}
 use Rattle.bc_machine.specs.World.{Origin, opening}
 use Rattle.bc_machine.specs.declared.part.BucketsPart.{BucketsPart}
 use Rattle.bc_meta.specs.Layout.{Layout}
@@ -21,12 +22,13 @@ use Rattle.bc_resume.specs.Resume.{IsResumed}
 use Rattle.bc_shares.specs.Shares.{journal_share}
 use Rattle.bc_slots.specs.Parts.{AreParts}
 use Rattle.bc_whole.specs.State as whole
-use Rattle.bc_begun.specs.Begin.{Beginning, BeginsOn, IsSeenAs, parts_of}
+use Rattle.bc_begun.specs.Begin.{Beginning, BeginsOn, IsSeenAs, first_seq, parts_of, resting}
 use Rattle.bc_begun.specs.Opened.{AreBytes, IsOpenedWith}
 
 abbrev pub LawSpine : Type 0
 LawSpine = (p : Pair) (v : View) (layout : Layout) (x : Parts) (w : whole.Opening)
-    (st : parts.State) → IsOpenedWith p v layout x w st → IsSpineOf w st x.tree
+    (st : parts.State) (next_seq : ℕ) → IsOpenedWith p v layout x w st
+    → IsSpinePartOf w (known.start w st next_seq) (resting x.tree next_seq)
 
 -- no bucket is open yet
 abbrev pub LawBuckets : Type 0
@@ -56,8 +58,8 @@ LawLeaves d = (p : Pair) (v : View) (layout : Layout) (x : Parts) (w : whole.Ope
 abbrev pub LawOrigin : {C B : Type 0} → (C → DiskFacts) → (B → DiskFacts) → Type 0
 LawOrigin {C} {B} cache_facts backing_facts =
     (p : Pair) (v : View) (layout : Layout) (x : Parts) (read : Read) (count : ℕ) (was : C)
-    (k : Beginning C B) (next_seq : ℕ) → IsView p v → HasSoundParts p v
+    (k : Beginning C B) → IsView p v → HasSoundParts p v
     → IsLayoutOf v.geometry layout → ArePartsOf v.geometry v.reading x
     → BeginsOn cache_facts backing_facts p v x read count was k
-    → (o : Origin) × IsSeenAs p v layout x next_seq
+    → (o : Origin) × IsSeenAs p v layout x (first_seq k.journal)
     (opening cache_facts backing_facts (parts_of x.tree k)) o

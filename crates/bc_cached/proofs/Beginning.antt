@@ -11,6 +11,7 @@ use Rattle.bc_parts.specs.Machine.{StandFrom}
 use Rattle.bc_parts.specs.Seat.{PartsView, newcomer}
 use Rattle.bc_tree.specs.Spine.{Spine}
 use Rattle.bc_begun.specs.bc_machine.Containers.{AreLeavesOf}
+use Rattle.bc_begun.specs.bc_machine.declared.part.SpinePart.{SpinePart}
 use Rattle.bc_begun.specs.bc_machine.declared.part.CorePart.{CorePart}
 use Rattle.bc_begun.specs.bc_machine.declared.part.CorePart.TheVariants as part
 use Rattle.bc_data.specs.Seats.{no_candidate}
@@ -19,7 +20,7 @@ use Rattle.bc_begun.proofs.of_bc_machine.Viewing.{new_view}
 use Rattle.bc_deed.specs.bc_hand.Seats.{Works, core, empty}
 use Rattle.bc_deed.proofs.Devices.{begins_stands}
 use Rattle.bc_deed.proofs.Ending.{six_pushed}
-use Rattle.bc_begun.specs.Begin.{Beginning, parts_of}
+use Rattle.bc_begun.specs.Begin.{Beginning, first_seq, parts_of, resting}
 
 -- ---- devices
 
@@ -148,14 +149,20 @@ module _ {C B : Type 0} (cache_facts : C → DiskFacts) (backing_facts : B → D
         })
 
     -- put one behind the other
-    pub made : (l0 l1 l2 l3 l4 l5 l6 l7 : List (CorePart C B)) → l0 ≡ []
-        → l1 ≡ l0 ++ part.Spine tree ∷ [] → l2 ≡ l1 ++ part.Flight k.flight ∷ []
+    pub made : (s : SpinePart) → s ≡ resting tree (first_seq k.journal)
+        → (l0 l1 l2 l3 l4 l5 l6 l7 : List (CorePart C B)) → l0 ≡ []
+        → l1 ≡ l0 ++ part.Spine s ∷ [] → l2 ≡ l1 ++ part.Flight k.flight ∷ []
         → l3 ≡ l2 ++ part.Buckets k.buckets ∷ [] → l4 ≡ l3 ++ part.Journal k.journal ∷ []
         → l5 ≡ l4 ++ part.Cache k.cache ∷ [] → l6 ≡ l5 ++ part.Backing k.backing ∷ []
         → l7 ≡ l6 ++ map part.Leaves k.leaves → l7 ≡ parts_of tree k
-    made l0 l1 l2 l3 l4 l5 l6 l7 p0 p1 p2 p3 p4 p5 p6 p7 = p7
+    made s is l0 l1 l2 l3 l4 l5 l6 l7 p0 p1 p2 p3 p4 p5 p6 p7 = p7
         ∙ ap (λ (l : List (CorePart C B)). l ++ map part.Leaves k.leaves)
         (six_pushed l0 l1 l2 l3 l4 l5 l6 _ _ _ _ _ _ p0 p1 p2 p3 p4 p5 p6)
+        ∙ ap (λ (t : SpinePart). part.Spine t ∷ rest) is
+      where
+        rest : List (CorePart C B)
+        rest = part.Flight k.flight ∷ part.Buckets k.buckets ∷ part.Journal k.journal
+            ∷ part.Cache k.cache ∷ part.Backing k.backing ∷ map part.Leaves k.leaves
 
     pub begins : k.flight.seats ≡ 320 → k.flight.claims ≡ []
         → k.flight.candidates ≡ [] → k.flight.next ≡ 0

@@ -7,6 +7,7 @@ use Rattle.bc_bucket.specs.Buckets.{bucket_of}
 use Rattle.bc_cache.specs.Slots.{NodeCache}
 use Rattle.bc_disk.specs.Disk.{DiskFacts}
 use Rattle.bc_events.specs.declared.event.Event.{Event}
+use Rattle.bc_journal.specs.Journal.{Journal}
 use Rattle.bc_parts.specs.Seat.{Run}
 use Rattle.bc_resume.specs.Resume.{IsResumed}
 use Rattle.bc_begun.specs.bc_slots.Parts.{AreParts}
@@ -14,7 +15,7 @@ use Rattle.bc_begun.specs.bc_machine.declared.part.BackingPart.{BackingPart}
 use Rattle.bc_begun.specs.bc_machine.declared.part.CorePart.{CorePart}
 use Rattle.bc_begun.specs.bc_machine.World.{World, after, opening}
 use Rattle.bc_deed.specs.bc_hand.Seats as seats
-use Rattle.bc_begun.specs.Begin.{BeginsOn, IsSeenAs, parts_of}
+use Rattle.bc_begun.specs.Begin.{BeginsOn, IsSeenAs, first_seq, parts_of}
 use Rattle.bc_begun.proofs.Origin.{law_origin}
 use Rattle.bc_cached.specs.Laws.{LawFit, LawSeen, parts_in}
 
@@ -34,7 +35,7 @@ law_fit g r reserves buckets has known order = record {
 
 pub law_seen : {C B : Type 0} (cache_facts : C → DiskFacts) (backing_facts : B → DiskFacts)
     → LawSeen cache_facts backing_facts
-law_seen {C} {B} cache_facts backing_facts p v layout read pending count was ready next_seq parts seat
+law_seen {C} {B} cache_facts backing_facts p v layout read pending count was ready parts seat
     has view sound divided are on =
     let k = has.beginning in
     let made = has.made in
@@ -57,7 +58,7 @@ law_seen {C} {B} cache_facts backing_facts p v layout read pending count was rea
           (sym made.leaves) on.leaves;
     } in
     let found = law_origin cache_facts backing_facts p v layout (parts_in ready pending) read count
-    was k next_seq view sound divided are begins in
+    was k view sound divided are begins in
     let is : opening cache_facts backing_facts (parts_of ready.tree k)
     ≡ seats.world cache_facts backing_facts seat =
     ap (λ (ps : List (CorePart C B)). opening cache_facts backing_facts ps) (sym has.start)
@@ -66,6 +67,8 @@ law_seen {C} {B} cache_facts backing_facts p v layout read pending count was rea
     ∙ ap (λ (es : List Event). fold after (opening cache_facts backing_facts seat.run.start) es)
     (sym has.seen) in (
       found.0,
-      subst (λ (y : World).
-          IsSeenAs p v layout (parts_in ready pending) next_seq y found.0) is found.1,
+      subst (λ (j : Journal). IsSeenAs p v layout (parts_in ready pending) (first_seq j)
+          (seats.world cache_facts backing_facts seat) found.0) made.journal
+          (subst (λ (y : World). IsSeenAs p v layout (parts_in ready pending) (first_seq k.journal) y
+          found.0) is found.1),
     )

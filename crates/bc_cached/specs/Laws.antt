@@ -23,7 +23,7 @@ use Rattle.bc_begun.specs.bc_machine.World.{Origin}
 use Rattle.bc_begun.specs.bc_machine.declared.part.CorePart.{CorePart}
 use Rattle.bc_begun.specs.bc_chosen.Parts.{ArePartsOf, Parts}
 use Rattle.bc_deed.specs.bc_hand.Seats as seats
-use Rattle.bc_begun.specs.Begin.{IsSeenAs}
+use Rattle.bc_begun.specs.Begin.{IsSeenAs, first_seq}
 use Rattle.bc_begun.specs.Opened.{AreBytes}
 use Rattle.bc_cached.specs.Begun.{HasBegun}
 use Rattle.bc_cached.specs.declared.run.Ready.{Ready}
@@ -68,10 +68,10 @@ pub record StandsOn {C B : Type 0} (cache_facts : C → DiskFacts) (backing_fact
 abbrev pub LawSeen : {C B : Type 0} → (C → DiskFacts) → (B → DiskFacts) → Type 0
 LawSeen {C} {B} cache_facts backing_facts =
     (p : Pair) (v : View) (layout : Layout) (read : Read) (pending : List (List Numbered))
-    (count : ℕ) (was : C) (ready : Ready C B) (next_seq : ℕ) (parts : PartsView (CorePart C B))
+    (count : ℕ) (was : C) (ready : Ready C B) (parts : PartsView (CorePart C B))
     (seat : seats.View cache_facts backing_facts)
     → HasBegun cache_facts backing_facts ready parts seat → IsView p v → HasSoundParts p v
     → IsLayoutOf v.geometry layout → ArePartsOf v.geometry v.reading (parts_in ready pending)
     → StandsOn cache_facts backing_facts p v read pending count was ready
-    → (o : Origin) × IsSeenAs p v layout (parts_in ready pending) next_seq
+    → (o : Origin) × IsSeenAs p v layout (parts_in ready pending) (first_seq ready.journal)
     (seats.world cache_facts backing_facts seat) o

@@ -6,6 +6,7 @@ ghost use Rattle.bc_book.specs.Pass.{events_in};
 ghost use Rattle.bc_disk.specs.Disk.{StandsFor};
 ghost use Rattle.bc_disk.specs.Stands.{settled_model};
 ghost use Rattle.bc_events.specs.Columns.{entries_of};
+ghost use Rattle.bc_begun.specs.Begin.{first_seq, resting};
 ghost use Rattle.bc_begun.specs.bc_machine.World.{IsBacking, IsCache, are_plain, opening};
 ghost use Rattle.bc_begun.specs.bc_machine.declared.part.CorePart.TheVariants as part;
 ghost use Rattle.bc_parts.specs.Machine.{IsRun};
@@ -14,7 +15,7 @@ ghost use Rattle.bc_cached.specs.Begun.{AreUnopened, HasBegun, HasDevices};
 
 use bc_alloc::Reserves;
 use bc_begun::bc_machine::machine::{CoreParts, CoreSeat};
-use bc_begun::bc_machine::part::{Apart, BackingPart, BucketsPart, CorePart};
+use bc_begun::bc_machine::part::{Apart, BackingPart, BucketsPart, CorePart, SpinePart};
 use bc_book::book::Book;
 use bc_book::pass::Pass;
 use bc_bucket::Buckets;
@@ -77,10 +78,21 @@ fn unopened(buckets: Buckets, reserves: Reserves) -> BucketsPart
     }
 }
 
+// The tree before any change of it. New nodes get numbers from that of the newest entry on.
+fn at_rest(tree: Spine, journal: &Journal) -> SpinePart
+    ensures { result ≡ resting tree (first_seq journal.now) }
+{
+    SpinePart {
+        spine: tree,
+        next_seq: journal.durable().wrapping_mul(65_536),
+        changing: false,
+    }
+}
+
 // The large parts, each kept apart.
 #[derive(Drop)]
 struct Large {
-    tree: Apart<Spine>,
+    tree: Apart<SpinePart>,
     buckets: Apart<BucketsPart>,
     journal: Apart<Journal>,
 }
@@ -88,7 +100,7 @@ struct Large {
 // Sets the large parts apart. `Err` comes from want of memory.
 fn set_apart(
     alloc: Global,
-    tree: Spine,
+    tree: SpinePart,
     buckets: BucketsPart,
     journal: Journal,
 ) -> Result<Large, AllocError>
@@ -163,6 +175,7 @@ pub fn begin<C: Disk + Drop, B: Disk + Drop>(
     let Ok(mut parts) = Vec::with_capacity(alloc, 6 + leaves.len()) else {
         return Err(Devices { cache, backing });
     };
+    let tree = at_rest(tree, &journal);
     let buckets = unopened(buckets, reserves);
     let Ok(large) = set_apart(alloc, tree, buckets, journal) else {
         return Err(Devices { cache, backing });

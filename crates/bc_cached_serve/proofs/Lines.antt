@@ -242,7 +242,7 @@ module _ {C B : Type 0} (cache_facts : C → DiskFacts) (backing_facts : B → D
               AreReads job.worker job.line (pieces job.first job.count) values l)
               (sym all.read.reads.entries_are) all.are,
         );
-        caused = all.read.reads.turned;
+        caused = (all.read.reads.reading, all.read.reads.turned);
         did = h;
       }
 
@@ -301,7 +301,7 @@ module _ {C B : Type 0} (cache_facts : C → DiskFacts) (backing_facts : B → D
         done = all.done;
         keeping = keeping_of all.deeds all.reading;
         serves = serves_part cause why job (entries_by all.deeds) here all.part;
-        caused = caused_by cause why w.seen all.deeds here all.ends;
+        caused = (all.reading, caused_by cause why w.seen all.deeds here all.ends);
         did = (e, is, none);
       }
 
@@ -317,7 +317,7 @@ module _ {C B : Type 0} (cache_facts : C → DiskFacts) (backing_facts : B → D
             (done_none cache_facts backing_facts v seat);
         keeping = tt;
         serves = (h.0, refl);
-        caused = refl;
+        caused = (tt, refl);
         did = (request.OutOfRange, refl, h);
       })
 
@@ -349,7 +349,7 @@ module _ {C B : Type 0} (cache_facts : C → DiskFacts) (backing_facts : B → D
       let all = refused_at job e v w seat h in record {
         deeds = all.deeds;
         done = all.done;
-        keeping = keeping_of all.deeds all.reading;
+        reading = all.reading;
         serves = all.part;
         turned = unsound_turned cause w.seen all.deeds
             (subst (λ (x : RequestError). IsUnsound x) h.stop.is is) all.ends;

@@ -19,7 +19,7 @@ use Rattle.bc_script.specs.declared.line.Line.{Line}
 use Rattle.bc_script.specs.declared.line.Line.TheVariants as line
 use Rattle.bc_serve.proofs.Lists.{entries_both}
 use Rattle.bc_serve.specs.Causes.{entries_by}
-use Rattle.bc_cached_serve.proofs.Going.{keeping_both}
+use Rattle.bc_cached_serve.proofs.Going.{keeping_both, keeping_of}
 use Rattle.bc_cached_serve.specs.Answered.{HasHalfServedLine, HasServedLine}
 use Rattle.bc_cached_serve.specs.Deeds.{AreKeeping}
 use Rattle.bc_cached_serve.specs.Served.{AreAnswered, HaveAnswered, HaveServed, HaveStopped}
@@ -152,7 +152,7 @@ module _ {C B : Type 0} (cache_facts : C → DiskFacts) (backing_facts : B → D
         deeds = a.deeds ++ ds;
         run = b.taken.run ∙ a.run;
         seen = seen_both a.deeds ds v h.at w a.seen b.taken.seen;
-        keeping = keeping_both a.deeds ds a.keeping b.stopped.keeping;
+        keeping = keeping_both a.deeds ds a.keeping (keeping_of ds b.stopped.reading);
       }
 
   -- and where all were answered its entries serve them

@@ -24,6 +24,7 @@ use Rattle.bc_serve.specs.Run.{events_by}
 use Rattle.std.proofs.lemmas.List.Sums.{fold-append}
 use Rattle.bc_cached_serve.proofs.Alone.{ended_there, nothing_behind, own_both, went_on}
 use Rattle.bc_cached_serve.proofs.Durable.{durable_behind}
+use Rattle.bc_cached_serve.proofs.Going.{keeping_of}
 use Rattle.bc_cached_serve.specs.Answered.{HasAnsweredRead, HasHalfServedRead, HasServedRead, HasStoppedRead}
 use Rattle.bc_cached_serve.specs.Deeds.{AreKeeping}
 use Rattle.bc_cached_serve.specs.Worker.{AreAllDurable, IsReady, IsTakenIn, kept_seat, worker_seat}
@@ -270,4 +271,4 @@ module _ {C B : Type 0} (cache_facts : C → DiskFacts) (backing_facts : B → D
   gone_read p job (Ok a) v w ok err =
       record { deeds = ok.deeds; done = ok.done; keeping = ok.keeping }
   gone_read p job (Err why) v w ok err =
-      record { deeds = err.deeds; done = err.done; keeping = err.keeping }
+      record { deeds = err.deeds; done = err.done; keeping = keeping_of err.deeds err.reading }

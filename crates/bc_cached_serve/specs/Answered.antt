@@ -21,7 +21,7 @@ use Rattle.bc_script.specs.declared.line.Line.{Line}
 use Rattle.bc_script.specs.declared.line.Line.TheVariants as line
 use Rattle.bc_serve.specs.Causes.{entries_by}
 use Rattle.bc_serve.specs.Deeds.{job_of}
-use Rattle.bc_cached_serve.specs.Deeds.{AreKeeping, AreTurned, IsCaused, IsFlushCaused}
+use Rattle.bc_cached_serve.specs.Deeds.{AreKeeping, AreReading, AreTurned, IsCaused, IsFlushCaused}
 use Rattle.bc_cached_serve.specs.Refusals.{IsRefusalOf, IsUnsound}
 use Rattle.bc_cached_serve.specs.Worker.{IsTakenIn, worker_seat}
 
@@ -39,9 +39,13 @@ KeepsValues (line.Request worker phase action) = IsReadOrFlush action
 
 -- ---- why a line is answered
 
+-- a line that reads did it by deeds of reading alone
+abbrev pub IsReadCaused : Answer → List Event → List Deed → Type 0
+IsReadCaused answer seen ds = AreReading ds × IsCaused answer seen ds
+
 abbrev pub IsActionCaused : LineNumber → Action → Answer → List Event → List Deed → Type 0
 IsActionCaused of Flush answer seen ds = IsFlushCaused of answer seen ds
-IsActionCaused of action answer seen ds = IsCaused answer seen ds
+IsActionCaused of action answer seen ds = IsReadCaused answer seen ds
 
 abbrev pub IsLineCaused : (number : ℕ) → Line → Answer → List Event → List Deed → Type 0
 IsLineCaused number line.Silent answer seen ds = IsCaused answer seen ds
@@ -101,13 +105,13 @@ module _ {C B : Type 0} (cache_facts : C → DiskFacts) (backing_facts : B → D
   abbrev pub HasAnsweredRead : PartsView (CorePart C B) → Job → Answer
       → View cache_facts backing_facts → View cache_facts backing_facts → Type 0
   HasAnsweredRead p job answer v w = HasAnswered
-      (ServesRead job.size job.worker job.line job.first job.count) IsCaused (DidRead p job v w)
+      (ServesRead job.size job.worker job.line job.first job.count) IsReadCaused (DidRead p job v w)
       answer v w
 
   abbrev pub HasServedRead : PartsView (CorePart C B) → Job → Answer
       → View cache_facts backing_facts → View cache_facts backing_facts → Type 0
   HasServedRead p job answer v w = HasServed
-      (ServesRead job.size job.worker job.line job.first job.count) IsCaused (DidRead p job)
+      (ServesRead job.size job.worker job.line job.first job.count) IsReadCaused (DidRead p job)
       answer v w
 
   abbrev pub HasServedFlush : LineNumber → Answer → View cache_facts backing_facts
@@ -128,7 +132,7 @@ module _ {C B : Type 0} (cache_facts : C → DiskFacts) (backing_facts : B → D
       (why : RequestError) (v w : View cache_facts backing_facts) : Type 0 where
     pub deeds : List Deed
     pub done : HasDone cache_facts backing_facts deeds v w
-    pub keeping : AreKeeping deeds
+    pub reading : AreReading deeds
     pub serves : Serves (entries_by deeds)
     pub turned : AreTurned false deeds
     pub unsound : IsUnsound why

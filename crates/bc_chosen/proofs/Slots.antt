@@ -14,6 +14,7 @@ use Rattle.bc_image.proofs.Unique.{some_same}
 use Rattle.bc_meta.specs.Facts.{In}
 use Rattle.bc_meta.specs.Tree.{Owner}
 use Rattle.bc_model.specs.Sector.{Image}
+use Rattle.bc_model.proofs.Cases.{by_test}
 use Rattle.bc_opening.specs.Choices.{AreInSlots, IsInner, IsLeaf}
 use Rattle.bc_opening.proofs.Nodes as nodes
 use Rattle.bc_opening.proofs.Uses.{le_tells, lt_tells, points_into}
@@ -22,7 +23,7 @@ use Rattle.bc_regrow.specs.Tree.{IsTreeOf}
 use Rattle.bc_spine.specs.Leaves.{AreCounted}
 use Rattle.bc_spine.specs.declared.leaf.LeafRange.{LeafRange}
 use Rattle.bc_tree.specs.Spine.{Spine}
-use Rattle.bc_chosen.specs.Slots.{HaveSlots, LawSlots, node_at, slot_at, spans}
+use Rattle.bc_chosen.specs.Slots.{HaveSlots, LawSlots, node_at, node_by, slot_at, spans}
 
 -- ---- a list by places
 
@@ -36,6 +37,16 @@ in_node [] n i = absurd i
 in_node (m ∷ ns) n (inl e) = (0, ap Some (sym e))
 in_node (m ∷ ns) n (inr i) = let k = in_node ns n i in (suc k.0, k.1)
 
+-- the one that is in a bucket lies there
+pub by_in : (g : Geometry) (ns : List Node) (q : ℕ) (n : Node) → node_by g ns q ≡ Some n
+    → In n ns × (bucket_of g n.key ≡ q)
+by_in g [] q n e = absurd (cc)
+by_in g (m ∷ ns) q n e = by_test (bucket_of g m.key) q
+    (λ t. (if t then Some m else node_by g ns q) ≡ Some n → In n (m ∷ ns) × (bucket_of g n.key ≡ q))
+    (λ here is. let same = some_same m n is in
+    (inl (sym same), subst (λ (x : Node). bucket_of g x.key ≡ q) same here))
+    (λ other is. let rest = by_in g ns q n is in (inr rest.0, rest.1)) e
+
 -- each has this to each that comes later
 abbrev Apart : (Node → Node → Type 0) → List Node → Type 0
 Apart R [] = Unit {0}
@@ -47,6 +58,19 @@ apart_all R (n ∷ ns) pairs = (
   (λ m i. all_in (λ x. R n x) ns m (λ j d lt. pairs 0 (suc j) d (omega arith) (omega (arith, lt))) i),
   apart_all R ns (λ j k d lt inside. pairs (suc j) (suc k) d (omega (arith, lt)) (omega (arith, inside))),
 )
+
+-- where no two lie in one bucket, each is the one that is in its bucket
+in_by : (g : Geometry) (R : Node → Node → Type 0) (ns : List Node) → Apart R ns → (n : Node)
+    → ((m : Node) → In m ns → R m n → bucket_of g m.key ≡ bucket_of g n.key → ⊥) → In n ns
+    → node_by g ns (bucket_of g n.key) ≡ Some n
+in_by g R [] apart n never i = absurd i
+in_by g R (m ∷ ns) apart n never (inl e) = by_test (bucket_of g m.key) (bucket_of g n.key)
+    (λ t. (if t then Some m else node_by g ns (bucket_of g n.key)) ≡ Some n)
+    (λ here. ap Some (sym e)) (λ other. absurd (other (ap (λ (x : Node). bucket_of g x.key) (sym e))))
+in_by g R (m ∷ ns) apart n never (inr i) = by_test (bucket_of g m.key) (bucket_of g n.key)
+    (λ t. (if t then Some m else node_by g ns (bucket_of g n.key)) ≡ Some n)
+    (λ here. absurd (never m (inl refl) (apart.0 n i) here))
+    (λ other. in_by g R ns apart.1 n (λ k j. never k (inr j)) i)
 
 node_once : (R : Node → Node → Type 0) (ns : List Node) → Apart R ns → (n : Node) → (R n n → ⊥) → (i k : ℕ) → node_at ns i ≡ Some n → node_at ns k ≡ Some n → i ≡ k
 node_once R [] apart n never i k a b = absurd (cc)
@@ -95,7 +119,7 @@ one_inner zero m n ns level i = inr i
 one_inner (suc l) m n ns level (inl e) = inl (e, subst (λ (x : Node). 0 < x.level) (sym e) (omega (arith, level)))
 one_inner (suc l) m n ns level (inr i) = inr i
 
-inner_back : (ns : List Node) (n : Node) → In n (inner_nodes ns) → In n ns × IsInner n.level
+pub inner_back : (ns : List Node) (n : Node) → In n (inner_nodes ns) → In n ns × IsInner n.level
 inner_back [] n i = absurd i
 inner_back (m ∷ ns) n i = elim (one_inner m.level m n (inner_nodes ns) refl i) [
   | inl k ↦ (inl k.0, k.1)
@@ -217,18 +241,18 @@ module _ (g : Geometry) (image : Image) (size : ℕ) (r : Reading) (tree : Spine
   apart : Apart NoBucket r.nodes
   apart = apart_all NoBucket r.nodes uses.nodes
 
+  -- the bucket that a node lies in
+  lies : (n : Node) → In n r.nodes → PointsInto g n.key (back g (bucket_of g n.key))
+  lies n i = let key = all_in (λ (x : Node). IsNodeKey g x.key) r.nodes n pointers.nodes i in
+      (points_into g n.key key.some key.ptrs (bucket_of g n.key)).0 refl
+
   -- a node lies in some bucket
   never : (n : Node) → In n r.nodes → NoBucket n n → ⊥
   never n i none =
-      let key = all_in (λ (x : Node). IsNodeKey g x.key) r.nodes n pointers.nodes i in
-      let here : PointsInto g n.key (back g (bucket_of g n.key)) = (points_into g n.key key.some key.ptrs (bucket_of g n.key)).0 refl in
-      none (back g (bucket_of g n.key)) here here
+      let here = lies n i in none (back g (bucket_of g n.key)) here here
 
   leaf_once : (i k : ℕ) (n : Node) → node_at (leaf_nodes r.nodes) i ≡ Some n → node_at (leaf_nodes r.nodes) k ≡ Some n → i ≡ k
   leaf_once i k n a b = node_once NoBucket (leaf_nodes r.nodes) (leaf_apart NoBucket r.nodes apart) n (never n (leaf_back r.nodes n (node_in (leaf_nodes r.nodes) i n a)).0) i k a b
-
-  inner_once : (i k : ℕ) (n : Node) → node_at (inner_nodes r.nodes) i ≡ Some n → node_at (inner_nodes r.nodes) k ≡ Some n → i ≡ k
-  inner_once i k n a b = node_once NoBucket (inner_nodes r.nodes) (inner_apart NoBucket r.nodes apart) n (never n (inner_back r.nodes n (node_in (inner_nodes r.nodes) i n a)).0) i k a b
 
   leaves : AreInSlots r.nodes IsLeaf (node_at (leaf_nodes r.nodes))
   leaves = record {
@@ -237,11 +261,18 @@ module _ (g : Geometry) (image : Image) (size : ℕ) (r : Reading) (tree : Spine
     once = leaf_once;
   }
 
-  inners : AreInSlots r.nodes IsInner (node_at (inner_nodes r.nodes))
+  inner_here : (n : Node) → In n (inner_nodes r.nodes)
+      → node_by g (inner_nodes r.nodes) (bucket_of g n.key) ≡ Some n
+  inner_here n i = in_by g NoBucket (inner_nodes r.nodes) (inner_apart NoBucket r.nodes apart) n
+      (λ m j none same. none (back g (bucket_of g m.key)) (lies m (inner_back r.nodes m j).0)
+      (subst (λ q. PointsInto g n.key (back g q)) (sym same) (lies n (inner_back r.nodes n i).0))) i
+
+  inners : AreInSlots r.nodes IsInner (node_by g (inner_nodes r.nodes))
   inners = record {
-    is_node = λ i n e. inner_back r.nodes n (node_in (inner_nodes r.nodes) i n e);
-    all = λ n i level. in_node (inner_nodes r.nodes) n (to_inner r.nodes n i level);
-    once = inner_once;
+    is_node = λ i n e. inner_back r.nodes n (by_in g (inner_nodes r.nodes) i n e).0;
+    all = λ n i level. (bucket_of g n.key, inner_here n (to_inner r.nodes n i level));
+    once = λ i k n a b. sym (by_in g (inner_nodes r.nodes) i n a).1
+        ∙ (by_in g (inner_nodes r.nodes) k n b).1;
   }
 
   owners : ℕ → Owner
@@ -258,7 +289,7 @@ module _ (g : Geometry) (image : Image) (size : ℕ) (r : Reading) (tree : Spine
       let at = f.is in
       omega (arith, at, same)
 
-  pub law : HaveSlots r.nodes (node_at (leaf_nodes r.nodes)) (node_at (inner_nodes r.nodes)) (slot_at tree.leaves)
+  pub law : HaveSlots r.nodes (node_at (leaf_nodes r.nodes)) (node_by g (inner_nodes r.nodes)) (slot_at tree.leaves)
   law = record { leaves = leaves; inner_nodes = inners; slots = slots }
 
 pub law_slots : LawSlots

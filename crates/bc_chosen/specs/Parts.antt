@@ -24,7 +24,7 @@ use Rattle.bc_whole.specs.State.{Opening}
 use Rattle.bc_chosen.specs.Lists.{kept_by, listed_at}
 use Rattle.bc_chosen.specs.Marks.{mark_at}
 use Rattle.bc_chosen.specs.Oldest.{last_gc_at}
-use Rattle.bc_chosen.specs.Slots.{node_at, slot_at}
+use Rattle.bc_chosen.specs.Slots.{node_at, node_by, slot_at}
 use Rattle.bc_chosen.specs.Waiting.{waiting_at}
 
 pub record Parts : Type 0 where
@@ -45,7 +45,7 @@ pub record ArePartsOf (g : Geometry) (r : Reading) (x : Parts) : Type 0 where
 abbrev pub choices_of : Geometry → Reading → Parts → Choices
 choices_of g r x = record {
   leaf = node_at (leaf_nodes r.nodes);
-  inner = node_at (inner_nodes r.nodes);
+  inner = node_by g (inner_nodes r.nodes);
   slot = slot_at x.tree.leaves;
   pending = waiting_at x.pending;
   listed = listed_at g x.reserves;

@@ -1,8 +1,9 @@
--- The tree in memory, by slots: of the leaves by their numbers, and of the inner nodes by their
--- places.
-use Rattle.std.specs.Prelude.{◌≡◌, ℕ, zero, suc, ◌<◌, ◌≤◌, ◌&&◌, nat_le, nat_lt, Bool}
+-- The tree in memory, by slots: of the leaves by their numbers, and of the inner nodes by the
+-- buckets that they lie in.
+use Rattle.std.specs.Prelude.{◌≡◌, ℕ, zero, suc, ◌^◌, ◌<◌, ◌≤◌, ◌&&◌, ◌==◌, nat_le, nat_lt, Bool}
 use Rattle.std.specs.Prelude.{List, [], ◌∷◌, Option, Some, None, if◌then◌else◌}
 use Rattle.bc_disk.specs.declared.geometry.Geometry.{Geometry}
+use Rattle.bc_facts.specs.Seen.{bucket_of}
 use Rattle.bc_image.specs.Reading.{IsReading, Reading}
 use Rattle.bc_image.specs.Sound.{HasOneUse, HasPointers, HasRanges}
 use Rattle.bc_image.specs.Tree.{Node}
@@ -18,12 +19,18 @@ node_at [] i = None
 node_at (n ∷ nodes) zero = Some n
 node_at (n ∷ nodes) (suc i) = node_at nodes i
 
+-- the one of these that lies in a bucket
+abbrev pub node_by : Geometry → List Node → ℕ → Option Node
+node_by g [] q = None
+node_by g (n ∷ nodes) q = if bucket_of g n.key == q then Some n else node_by g nodes q
+
 abbrev pub spans : LeafRange → ℕ → Bool
 spans leaf s = nat_le leaf.from s && nat_lt s leaf.end
 
--- the number of the leaf that has the sector; 0 where none has it
+-- The number of the leaf that has the sector; where none has it, one that no leaf can get: a leaf
+-- that comes never takes over such sectors.
 abbrev pub slot_at : List LeafRange → ℕ → ℕ
-slot_at [] s = 0
+slot_at [] s = 2 ^ 32
 slot_at (leaf ∷ leaves) s = if spans leaf s then leaf.number else slot_at leaves s
 
 -- each node is in one slot, and each sector of a leaf has the leaf's
@@ -39,5 +46,5 @@ abbrev pub LawSlots : Type 0
 LawSlots =
     (g : Geometry) (image : Image) (size : ℕ) (r : Reading) (tree : Spine) → IsReading g image r
     → HasRanges r → HasPointers g size r → HasOneUse g r → IsTreeOf g r.nodes tree
-    → HaveSlots r.nodes (node_at (leaf_nodes r.nodes)) (node_at (inner_nodes r.nodes))
+    → HaveSlots r.nodes (node_at (leaf_nodes r.nodes)) (node_by g (inner_nodes r.nodes))
     (slot_at tree.leaves)

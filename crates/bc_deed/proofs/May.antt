@@ -24,10 +24,9 @@ use Rattle.bc_disk.specs.declared.disk.Device.TheVariants as which
 use Rattle.bc_hand.specs.bc_machine.declared.part.CorePart.{CorePart}
 use Rattle.bc_hand.specs.bc_machine.declared.part.CorePart.TheVariants as part
 use Rattle.bc_hand.specs.bc_machine.Plain.{worker_of}
-use Rattle.bc_hand.specs.bc_machine.World.{World, CanFollow, IsNumbered, data_of, are_plain, opening, after, IsBackingOf, IsBacking}
+use Rattle.bc_hand.specs.bc_machine.World.{World, CanFollow, EndsItsChange, IsNumbered, data_of, are_plain, opening, after, IsBackingOf, IsBacking}
 use Rattle.bc_hand.specs.bc_machine.Standing.{leads_each}
 use Rattle.bc_hand.proofs.of_bc_machine.Viewing.{opening_stays, plain_view}
-use Rattle.bc_shares.specs.Touched.{NamesItsChange}
 use Rattle.bc_hand.specs.bc_machine.Note.{note_of}
 use Rattle.bc_hand.specs.declared.hand.Hand.{Hand}
 use Rattle.bc_hand.specs.Seats.{by, world, note, IsCoreSeat, AtDeed, MayDo, Did, Works}
@@ -68,7 +67,7 @@ map_if_err (Err e) f h = f e h
 pub can_alone : (y : World) (i : ℕ) (d : Deed) (act : flow.Act) → i < 320
     → acts_of y.opening.machine y.now.machine i d ≡ Some (Alone act ∷ []) → is_quiet act ≡ true
     → flow_ask.IsEnabled y.opening.machine.flow (data_of y) i act → IsFit y.opening y.now i d
-    → IsOf y.opening i (line_of d) → NamesItsChange y.now.machine.whole.parts d → IsNumbered y.log d
+    → IsOf y.opening i (line_of d) → EndsItsChange y.now.machine.whole.parts d → IsNumbered y.log d
     → CanFollow y (by i d)
 can_alone y i d act low is quiet on fit of names number = record {
   enabled = subst (λ o. IsSome o (CanDo y.opening y.now (by i d))) (sym is) (record {

@@ -21,9 +21,10 @@ use Rattle.bc_key.specs.Key.{ptr_at}
 use Rattle.bc_key.specs.declared.key.Key.{Key}
 use Rattle.bc_key.specs.declared.ptr.Ptr.{Ptr}
 use Rattle.bc_sight.specs.bc_machine.Containers.{IsLeafFor, IsTreeLeaf}
-use Rattle.bc_sight.specs.bc_machine.Standing.{begun_stays}
-use Rattle.bc_sight.specs.bc_machine.World.{AreLeaves, Begun, IsCourseOf, IsOrigin, IsSpine, Origin, World, opening, replay}
+use Rattle.bc_sight.specs.bc_machine.Standing.{begun_stays, has_spine}
+use Rattle.bc_sight.specs.bc_machine.World.{AreLeaves, Begun, IsCourseOf, IsOrigin, IsSpine, IsSpinePart, Origin, World, opening, replay}
 use Rattle.bc_sight.specs.bc_machine.declared.part.CorePart.{CorePart}
+use Rattle.bc_sight.specs.bc_machine.declared.part.SpinePart.{SpinePart}
 use Rattle.bc_model.specs.Sector.{values_of}
 use Rattle.bc_node.specs.Leaf.{Leaf}
 use Rattle.bc_node.specs.Loading.{IsDecoded, IsNotDecoded}
@@ -121,10 +122,11 @@ module _ {C B : Type 0} (cache_facts : C → DiskFacts) (backing_facts : B → D
       works.stand.leaves
 
   pub spine_in_hand : (p : PartsView (CorePart C B)) (v : View cache_facts backing_facts)
-      (h : Hand C B) (sp : Spine) → Works cache_facts backing_facts p v h → h.spine ≡ Some sp
-      → IsSpine sp (world cache_facts backing_facts v)
-  spine_in_hand p v h sp works is = some_of
-      (λ (s : Spine). IsSpine s (world cache_facts backing_facts v)) h.spine sp is works.stand.spine
+      (h : Hand C B) (s : SpinePart) → Works cache_facts backing_facts p v h → h.spine ≡ Some s
+      → IsSpine s.spine (world cache_facts backing_facts v)
+  spine_in_hand p v h s works is = has_spine s (world cache_facts backing_facts v)
+      (some_of (λ (t : SpinePart). IsSpinePart t (world cache_facts backing_facts v)) h.spine s is
+      works.stand.spine)
 
   -- with another cache of the same leaves it stands too
   pub works_with : (p : PartsView (CorePart C B)) (v : View cache_facts backing_facts) (h : Hand C B)
@@ -173,7 +175,7 @@ both_after a b now P same of = (of.0, sym (leaves_after a b same) ∙ of.1, of.2
 pub spine_after : {C B : Type 0} (a b : Hand C B) (range : LeafRange) → IsSameButCache a b
     → IsInSpine a range → IsInSpine b range
 spine_after a b range same there = record {
-  spine = there.spine;
+  part = there.part;
   is = ap (λ (h : Hand _ _). h.spine) same.rest ∙ there.is;
   range_in = there.range_in;
 }

@@ -30,7 +30,7 @@ use Rattle.bc_fetch.proofs.Fetching.{in_hand, its_number, its_part, leaf_count, 
 pub spine_leaves : {C B : Type 0} (a b : Hand C B) (range : LeafRange)
     → b ≡ record a { leaves = b.leaves } → IsInSpine a range → IsInSpine b range
 spine_leaves a b range is there = record {
-  spine = there.spine;
+  part = there.part;
   is = ap (λ (h : Hand _ _). h.spine) is ∙ there.is;
   range_in = there.range_in;
 }
@@ -70,7 +70,7 @@ part_given a b c part has same is = let one = part_kept a b part has same in rec
 spine_kept : {C B : Type 0} (a b : Hand C B) (range : LeafRange) → IsInSpine a range
     → IsSameButLeaves a b → IsInSpine b range
 spine_kept a b range there same = record {
-  spine = there.spine;
+  part = there.part;
   is = ap (λ (h : Hand _ _). h.spine) same.rest ∙ there.is;
   range_in = there.range_in;
 }
@@ -200,8 +200,8 @@ module _ {C B : Type 0} (cache_facts : C → DiskFacts) (backing_facts : B → D
       let count = ap (λ n. range.number % n) (sym (leaf_count cache_facts backing_facts v)) in
       let its = its_part cache_facts backing_facts p v range.number l.part works.run
       (its_number h (6 + range.number % (length p.run.start - 6)) l part is) in record {
-        spine = tree.spine;
-        tree = spine_in_hand cache_facts backing_facts p v h tree.spine works tree.is;
+        spine = tree.part.spine;
+        tree = spine_in_hand cache_facts backing_facts p v h tree.part works tree.is;
         range_in = tree.range_in;
         stood = subst (λ n. AreLeaves n l.cache (world cache_facts backing_facts v))
             (sym (count ∙ its)) (in_hand cache_facts backing_facts p v h l works is).1;

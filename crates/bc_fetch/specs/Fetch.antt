@@ -18,6 +18,7 @@ use Rattle.bc_sight.specs.bc_hand.declared.error.StepError.TheVariants as steps
 use Rattle.bc_sight.specs.bc_hand.declared.hand.Hand.{Hand}
 use Rattle.bc_sight.specs.bc_hand.declared.hand.LeafHand.{LeafHand}
 use Rattle.bc_key.specs.declared.key.Key.{Key}
+use Rattle.bc_sight.specs.bc_machine.declared.part.SpinePart.{SpinePart}
 use Rattle.bc_sight.specs.bc_machine.World.{AreLeaves, IsCourseOf, IsOrigin, IsSpine, Origin, World, cache_among, replay}
 use Rattle.bc_model.specs.Sector.{Image, Value, values_of}
 use Rattle.bc_node.specs.Leaf.{Leaf}
@@ -64,9 +65,9 @@ pub record IsSameButLeaves {C B : Type 0} (old new : Hand C B) : Type 0 where
 
 -- the tree in hand has a leaf of this range
 pub record IsInSpine {C B : Type 0} (h : Hand C B) (range : LeafRange) : Type 0 where
-  pub spine : Spine
-  pub is : h.spine ≡ Some spine
-  pub range_in : Contains spine.leaves range
+  pub part : SpinePart
+  pub is : h.spine ≡ Some part
+  pub range_in : Contains part.spine.leaves range
 
 -- the part in hand is this one
 pub record HasPart {C B : Type 0} (h : Hand C B) (part : ℕ) : Type 0 where

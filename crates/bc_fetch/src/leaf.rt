@@ -42,11 +42,11 @@ fn take_spine<C: Disk + Drop, B: Disk + Drop, R: Wait>(
     ensures missing { IfNone result (HasShortTree C.facts B.facts first count seat.old seat.new) }
 {
     let (spine, _) = borrow_spine(rt, parts, seat, hand);
-    if spine.get().root().end() <= first {
+    if spine.get().spine.root().end() <= first {
         return_spine(parts, seat, hand, spine, true);
         return None;
     }
-    let range = spine.get().find(first);
+    let range = spine.get().spine.find(first);
     let missing = range.end < first + u64::from(count);
     return_spine(parts, seat, hand, spine, missing);
     if missing { None } else { Some(range) }

@@ -288,6 +288,8 @@ module _ (w : Opening) (st : whole.State) (inv : Inv w st) (k : ℕ)
             (subst (λ (p : Ptr). IsTreeLeaf w from key.end p (shape_of (st.parts.leaves k)))
             (sym of.ptr) at));
         loaded = λ on. of.loaded;
+        own = λ off. absurd (let read = of.loaded in cc);
+        whole = λ off. absurd (let read = of.loaded in cc);
         keys = λ s low high. keys_say (image_tree.set_keys sets) leaf.keys s of.last.order of.last.shown
             ∙ ap (λ l. ref_said (last_said l s)) (leaf_keys g sets)
             ∙ ap (λ l. ref_said (last_said (set_keys l) s)) (sym seen)

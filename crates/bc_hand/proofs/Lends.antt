@@ -2,15 +2,15 @@
 use Rattle.std.proofs.Common.{◌≡◌, ◌≢◌, inl, inr, ℕ, ◌<◌, ◌≤◌, Bool, true, false, List, [], ◌∷◌, Option, Some, None, refl, sym, ap, ◌∙◌, subst, arith}
 use Rattle.std.specs.Prelude.{IfSome, ◌==◌, ◌-◌, not, if◌then◌else◌}
 use Rattle.bc_disk.specs.Disk.{DiskFacts}
-use Rattle.bc_tree.specs.Spine.{Spine}
 use Rattle.bc_journal.specs.Journal.{Journal}
 use Rattle.bc_parts.specs.Seat.{PartsView, Run, Holds, without}
 use Rattle.bc_seats.specs.Seats.{IsSeat, Waited, Kept}
 use Rattle.bc_machine.specs.declared.part.BucketsPart.{BucketsPart}
+use Rattle.bc_machine.specs.declared.part.SpinePart.{SpinePart}
 use Rattle.bc_machine.specs.declared.part.CorePart.{CorePart}
 use Rattle.bc_cache.specs.Slots.{NodeCache}
 use Rattle.bc_machine.specs.declared.part.CorePart.TheVariants as part
-use Rattle.bc_machine.specs.World.{World, is_plain, are_plain, StandsAs, IsSpine, AreLeaves, AreBuckets, IsJournal, IsCache}
+use Rattle.bc_machine.specs.World.{World, is_plain, are_plain, StandsAs, IsSpinePart, AreLeaves, AreBuckets, IsJournal, IsCache}
 use Rattle.bc_machine.specs.Frame.{by_test}
 use Rattle.bc_hand.specs.declared.hand.Hand.{Hand}
 use Rattle.bc_hand.specs.declared.hand.LeafHand.{LeafHand}
@@ -43,7 +43,7 @@ module _ {C B : Type 0} (cache_facts : C → DiskFacts) (backing_facts : B → D
       ∙ ap (λ o. with_part 1 o (with_leaves h.leaves ks)) none.flight
       ∙ ap (λ o. with_leaves o ks) none.leaves
 
-  with_spine : (h : Hand C B) (p : Spine) (x : World) → IsSpine p x
+  with_spine : (h : Hand C B) (p : SpinePart) (x : World) → IsSpinePart p x
       → StandIn cache_facts backing_facts (record h { spine = None }) x
       → StandIn cache_facts backing_facts (record h { spine = Some p }) x
   with_spine h p x on stand = record {
@@ -56,7 +56,7 @@ module _ {C B : Type 0} (cache_facts : C → DiskFacts) (backing_facts : B → D
     backing = stand.backing;
   }
 
-  without_spine : (h : Hand C B) (p : Spine) (x : World)
+  without_spine : (h : Hand C B) (p : SpinePart) (x : World)
       → StandIn cache_facts backing_facts (record h { spine = Some p }) x
       → StandIn cache_facts backing_facts (record h { spine = None }) x
   without_spine h p x stand = record {
@@ -75,10 +75,10 @@ module _ {C B : Type 0} (cache_facts : C → DiskFacts) (backing_facts : B → D
   no_spine h x stand = not_behind 5 0 h.backing _ (λ is. cc) (not_behind 4 0 h.cache _ (λ is. cc) (not_behind 3 0 h.journal _ (λ is. cc) (not_behind 2 0 h.buckets _ (λ is. cc) (not_behind 1 0 h.flight _ (λ is. cc) (not_behind_leaves 0 h.leaves _ (leaves_high cache_facts backing_facts (record h { spine = None }) x stand) (omega arith) (λ n. n))))))
 
   pub works_took_spine : (p : PartsView (CorePart C B)) (v w : View cache_facts backing_facts) (h : Hand C B)
-      (value : Spine) → Works cache_facts backing_facts p v h → h.spine ≡ None
+      (value : SpinePart) → Works cache_facts backing_facts p v h → h.spine ≡ None
       → HasNoneBehindSpine h → IsSeat (m cache_facts backing_facts) w
       → Waited (m cache_facts backing_facts) v w → w.parts ≡ 0 ∷ v.parts
-      → IsSpine value (world cache_facts backing_facts w)
+      → IsSpinePart value (world cache_facts backing_facts w)
       → Works cache_facts backing_facts p w (record h { spine = Some value })
   works_took_spine p v w h value works no_value none live waited parts on =
       let rest : List ℕ = [] in
@@ -99,7 +99,7 @@ module _ {C B : Type 0} (cache_facts : C → DiskFacts) (backing_facts : B → D
         };
       }
 
-  left_spine : (h : Hand C B) (value : Spine) → IfSome h.leaves (λ l. 6 ≤ l.part)
+  left_spine : (h : Hand C B) (value : SpinePart) → IfSome h.leaves (λ l. 6 ≤ l.part)
       → without 0 (numbers (record h { spine = Some value }))
       ≡ numbers (record h { spine = None })
   left_spine h value low = passes 5 0 h.backing (with_part 4 h.cache (with_part 3 h.journal (with_part 2 h.buckets (with_part 1 h.flight (with_leaves h.leaves (0 ∷ [])))))) refl
@@ -110,7 +110,7 @@ module _ {C B : Type 0} (cache_facts : C → DiskFacts) (backing_facts : B → D
       ∙ ap (λ ks. with_part 1 h.flight ks) (passes_leaves 0 h.leaves (0 ∷ []) low (omega arith))))))
 
   pub works_gave_spine : (p : PartsView (CorePart C B)) (v w : View cache_facts backing_facts) (h : Hand C B)
-      (value : Spine) → Works cache_facts backing_facts p v (record h { spine = Some value })
+      (value : SpinePart) → Works cache_facts backing_facts p v (record h { spine = Some value })
       → IsSeat (m cache_facts backing_facts) w → Waited (m cache_facts backing_facts) v w
       → w.parts ≡ without 0 v.parts
       → Works cache_facts backing_facts p w (record h { spine = None })
@@ -123,18 +123,18 @@ module _ {C B : Type 0} (cache_facts : C → DiskFacts) (backing_facts : B → D
         (record h { spine = Some value }) works.seat works.parts waited.since works.stand);
   }
 
-  one_more_spine : (h : Hand C B) (value : Spine) (k : ℕ)
+  one_more_spine : (h : Hand C B) (value : SpinePart) (k : ℕ)
       → Holds (numbers (record h { spine = None })) k
       → Holds (numbers (record h { spine = Some value })) k
   one_more_spine h value k = more 5 h.backing _ _ k (more 4 h.cache _ _ k (more 3 h.journal _ _ k (more 2 h.buckets _ _ k (more 1 h.flight _ _ k (more_leaves h.leaves _ _ k (λ holds. inr holds))))))
 
   -- the part that a deed changed stands anew, and the others as before
   pub works_spine : (p : PartsView (CorePart C B)) (v w : View cache_facts backing_facts) (h : Hand C B)
-      (old new : Spine) (changed : ℕ → Bool)
+      (old new : SpinePart) (changed : ℕ → Bool)
       → Works cache_facts backing_facts p v (record h { spine = Some old })
       → IsCoreSeat cache_facts backing_facts w → Kept (m cache_facts backing_facts) v w changed
       → ((k : ℕ) → k ≢ 0 → changed k ≡ false)
-      → IsSpine new (world cache_facts backing_facts w)
+      → IsSpinePart new (world cache_facts backing_facts w)
       → Works cache_facts backing_facts p w (record h { spine = Some new })
   works_spine p v w h old new changed works seat kept off value =
       let others = without_spine h old (world cache_facts backing_facts v) works.stand in record {
@@ -630,7 +630,7 @@ module _ {C B : Type 0} (cache_facts : C → DiskFacts) (backing_facts : B → D
   never b is off = cc
 
   pub only_spine : (p : CorePart C B) (x : World) → StandsAs cache_facts backing_facts 0 p x
-      → is_plain x ≡ false → ((y : Spine) → p ≡ part.Spine y → ⊥) → ⊥
+      → is_plain x ≡ false → ((y : SpinePart) → p ≡ part.Spine y → ⊥) → ⊥
   only_spine part.Absent x h cached none = never (is_plain x) h.plain cached
   only_spine (part.Spine sp) x h cached none = none sp refl
   only_spine (part.Flight f) x h cached none = absurd (let is = h.0 in cc)

@@ -11,7 +11,7 @@ use Rattle.bc_events.specs.declared.event.Event.{Event}
 use Rattle.bc_book.specs.declared.book.Book.{Book}
 use Rattle.bc_machine.specs.declared.machine.Core.{Core}
 use Rattle.bc_machine.specs.declared.part.CorePart.{CorePart}
-use Rattle.bc_machine.specs.World.{World, Origin, IsSeenFrom, data_of, is_plain, is_told, are_plain, opening, after, IsView, InEach, CanFollow, IsEnabled, changes, StandsAs, IsSpine, AreLeaves, IsFlight, AreBuckets, IsJournal, IsCache, IsBacking}
+use Rattle.bc_machine.specs.World.{World, Origin, IsSeenFrom, data_of, is_plain, is_told, are_plain, opening, after, IsView, InEach, CanFollow, IsEnabled, changes, StandsAs, IsSpinePart, AreLeaves, IsFlight, AreBuckets, IsJournal, IsCache, IsBacking}
 use Rattle.bc_machine.specs.Note.{Note, note_of, note_by, IsFirmer}
 use Rattle.bc_machine.specs.Bare.{IsBareRun}
 use Rattle.bc_hand.specs.declared.hand.Hand.{Hand}
@@ -181,7 +181,7 @@ module _ {C B : Type 0} (cache_facts : C → DiskFacts) (backing_facts : B → D
 
   -- each part in hand stands for its share of the state
   pub record StandIn (h : Hand C B) (x : World) : Type 0 where
-    pub spine : IfSome h.spine (λ sp. IsSpine sp x)
+    pub spine : IfSome h.spine (λ p. IsSpinePart p x)
     pub leaves : IfSome h.leaves (λ l. (6 ≤ l.part) × AreLeaves (l.part - 6) l.cache x)
     pub flight : IfSome h.flight (λ f. IsFlight f x)
     pub buckets : IfSome h.buckets (λ p. AreBuckets p x)

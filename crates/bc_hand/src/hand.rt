@@ -10,9 +10,8 @@ use bc_disk::disk::Disk;
 use bc_flight::flight::Flight;
 use bc_journal::Journal;
 use bc_machine::machine::{Core, CoreParts, CoreSeat};
-use bc_machine::part::{Apart, BACKING, BackingPart, BucketsPart, CorePart, FLIGHT};
+use bc_machine::part::{Apart, BACKING, BackingPart, BucketsPart, CorePart, FLIGHT, SpinePart};
 use bc_seats::seats;
-use bc_tree::Spine;
 use std::sync::Wait;
 
 /// A part with leaves, and its number among all parts.
@@ -25,7 +24,7 @@ pub struct LeafHand {
 /// The parts that a seat holds, one of each kind at most. They are taken in this order.
 #[derive(Drop)]
 pub struct Hand<C, B> {
-    pub spine: Option<Apart<Spine>>,
+    pub spine: Option<Apart<SpinePart>>,
     pub leaves: Option<LeafHand>,
     pub flight: Option<Flight>,
     pub buckets: Option<Apart<BucketsPart>>,

@@ -11,9 +11,8 @@ use bc_cache::NodeCache;
 use bc_disk::disk::Disk;
 use bc_journal::Journal;
 use bc_machine::machine::{CoreParts, CoreSeat};
-use bc_machine::part::{Apart, BUCKETS, BucketsPart, CACHE, CorePart, JOURNAL, SPINE};
+use bc_machine::part::{Apart, BUCKETS, BucketsPart, CACHE, CorePart, JOURNAL, SPINE, SpinePart};
 use bc_seats::seats;
-use bc_tree::Spine;
 use std::sync::Wait;
 
 /// Borrows the tree in memory. The answer says whether it wasn't in hand.
@@ -22,7 +21,7 @@ pub fn borrow_spine<C: Disk + Drop, B: Disk + Drop, R: Wait>(
     parts: &CoreParts<C, B>,
     seat: &mut CoreSeat<C, B>,
     hand: &mut Hand<C, B>,
-) -> (Apart<Spine>, bool)
+) -> (Apart<SpinePart>, bool)
     requires works { Works C.facts B.facts parts.now seat.old hand.old }
     requires cached { are_plain C.facts B.facts parts.now.run.start ≡ false }
     requires order { hand.old.spine ≡ None → HasNoneBehindSpine hand.old }
@@ -47,7 +46,7 @@ pub fn return_spine<C: Disk + Drop, B: Disk + Drop>(
     parts: &CoreParts<C, B>,
     seat: &mut CoreSeat<C, B>,
     hand: &mut Hand<C, B>,
-    spine: Apart<Spine>,
+    spine: Apart<SpinePart>,
     taken: bool,
 )
     requires { Works C.facts B.facts parts.now seat.old (record hand.old { spine = Some spine }) }

@@ -137,6 +137,11 @@ module _ (w : Opening) (x : LeafShare) (n : ℕ) (keys : List Key) (old new : no
   leaf_is = record {
     at = at;
     loaded = λ on. is.same.loaded ∙ h.loaded on;
+    own = λ off. let had = h.own (sym is.same.loaded ∙ off) in record {
+      number = λ e i. had.number e i ∙ sym is.same.seq;
+      taken_is = is.same.taken ∙ had.taken_is;
+    };
+    whole = λ off. h.whole (sym is.same.loaded ∙ off);
     keys = keys_say_so;
     pending = pending_says_so;
     entries = subst (λ (o : Option Entries). AreEntriesOf o waiting) (sym is.entries)

@@ -175,7 +175,7 @@ slot_event : (w : Opening) (st : State) (log : List Event) (i : ℕ) (d : Deed)
     → Fits st.machine.whole.parts → Follows w st log (record { seat = i; deed = d }) → HasSlots st
     → HasSlots (after w st (record { seat = i; deed = d }))
 slot_event w st log i (deed.Install c come gone) fits on slots =
-    slots_installed w st i c come gone fits on.names slots
+    slots_installed w st i c come gone fits on.names.0 slots
 slot_event w st log i d fits on slots = slots_shrunk st (after w st (record { seat = i; deed = d }))
     (shrunk w st (record { seat = i; deed = d }) on.enabled tt) slots
 

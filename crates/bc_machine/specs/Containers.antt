@@ -1,20 +1,24 @@
 -- What the parts of a running cache that are in memory stand for, in the core's state.
-use Rattle.std.specs.Prelude.{◌≡◌, ◌≢◌, ℕ, zero, suc, Bool, true, false, ◌+◌, ◌*◌, ◌%◌, ◌<◌, ◌≤◌, List, [], ◌∷◌, ◌++◌, length, reverse, Contains, Option, Some, None, IfSome, slice_get, slice_index}
+use Rattle.std.specs.Prelude.{◌≡◌, ◌≢◌, ◌⊎◌, ℕ, zero, suc, Bool, true, false, ◌+◌, ◌*◌, ◌%◌, ◌<◌, ◌≤◌, List, [], ◌∷◌, ◌++◌, length, map, reverse, Contains, Option, Some, None, IfSome, slice_get, slice_index}
+use Rattle.bc_key.specs.Key.{ptr_at}
 use Rattle.bc_key.specs.Words.{ptr_word}
 use Rattle.bc_key.specs.declared.key.Key.{Key}
 use Rattle.bc_key.specs.declared.ptr.Ptr.{Ptr}
 use Rattle.bc_meta.specs.Entries.{Entry}
 use Rattle.bc_meta.specs.Facts.{In}
-use Rattle.bc_meta.specs.Layout.{Layout, entry_len}
-use Rattle.bc_meta.specs.Tree.{set_keys}
+use Rattle.bc_meta.specs.Layout.{Layout, entry_len, set_len}
+use Rattle.bc_meta.specs.Records.{Records, Nothing}
+use Rattle.bc_meta.specs.Tree.{Child, NodeSet, set_keys, children_of}
 use Rattle.bc_facts.specs.Layout.{IsLayoutOf}
+use Rattle.bc_facts.specs.Seen.{is_gone}
 use Rattle.bc_leaves.specs.Keys.{last_said, ref_said}
-use Rattle.bc_leaves.specs.Parts.{Role, NoNode, Draft, Free, Leaving, Coming, Pending, AllFrom, AllUpTo, keys_of}
+use Rattle.bc_leaves.specs.Parts.{Role, NoNode, Draft, Free, Leaving, Coming, Change, NoChange, BySet, Pending, AllFrom, AllUpTo, keys_of}
 use Rattle.bc_leaves.specs.Parts as parts
 use Rattle.bc_books.specs.Books.{Books}
 use Rattle.bc_books.specs.Marks as books
 use Rattle.bc_books.specs.Shelves.{Shelf, Loose, Listed, Raised, Open, Held, Owner}
 use Rattle.bc_whole.specs.State.{Opening}
+use Rattle.bc_known.specs.Acts.{State}
 use Rattle.bc_inner.specs.Inner.{Inner}
 use Rattle.bc_spine.specs.Numbers.{HasNumber}
 use Rattle.bc_spine.specs.declared.leaf.LeafRange.{LeafRange}
@@ -31,8 +35,22 @@ use Rattle.bc_journal.specs.declared.place.Numbers.{Numbers}
 use Rattle.bc_journal.specs.Journal.{Journal}
 use Rattle.bc_journal.specs.Ring.{Ring}
 use Rattle.bc_places.specs.Stands.{IsCutInto, StandFor}
-use Rattle.bc_shares.specs.Shares.{Shape, shape_of, JournalShare, BucketsShare, buckets_in, Use, Unused, Pinned, Used, use_of, LeafShare, leaf_share}
+use Rattle.bc_shares.specs.Shares.{Shape, shape_of, JournalShare, BucketsShare, buckets_in, Use, Unused, Pinned, Used, use_of, NodeShare, LeafShare, leaf_share, InnerShare, inner_share}
 use Rattle.bc_machine.specs.declared.part.BucketsPart.{BucketsPart}
+use Rattle.bc_machine.specs.declared.part.SpinePart.{SpinePart}
+
+-- ---- nodes
+
+-- how many sectors these sets take, one behind the other
+abbrev pub sets_len : Layout → List NodeSet → ℕ
+sets_len w [] = 0
+sets_len w (x ∷ xs) = set_len w x + sets_len w xs
+
+-- Of a node that this run wrote: its sets have this number and take so many sectors. One whose
+-- write failed isn't among them.
+pub record HasSets (w : Layout) (x : NodeShare) (seq taken : ℕ) : Type 0 where
+  pub number : (e : NodeSet) → In e x.sets → e.seq ≡ seq
+  pub taken_is : taken ≡ sets_len w x.sets
 
 -- ---- the spine
 
@@ -52,25 +70,69 @@ pub record IsTreeLeaf (w : Opening) (from end : ℕ) (ptr : Ptr) (x : Shape) : T
   pub bucket : x.bucket ≡ w.flow.books.bucket ptr.offset
   pub word : x.word ≡ ptr_word ptr
 
-pub record IsTreeInner (w : Opening) (n : Inner) (x : parts.InnerNode) : Type 0 where
-  pub role : IsInTree x.role
-  pub first : x.first ≡ n.from
-  pub end : x.end ≡ n.end
-  pub bucket : x.bucket ≡ w.flow.books.bucket n.ptr.offset
-  pub word : x.word ≡ ptr_word n.ptr
-  pub level : suc x.height ≡ n.level
+-- the child to which a key points
+abbrev pub child_of : Opening → Key → Child
+child_of w key = record {
+  end = key.end;
+  bucket = w.flow.books.bucket (ptr_at key 0).offset;
+  word = ptr_word (ptr_at key 0);
+  gone = is_gone key;
+}
 
--- Each leaf of the tree is in the slot of its number, and each inner node in some slot; and no
--- other slot has a node of the tree.
+-- The slot of an inner node: its bucket. So who writes a new one into a bucket that no node lies in
+-- finds its slot without one.
+abbrev pub inner_slot : Opening → Inner → ℕ
+inner_slot w n = w.flow.books.bucket n.ptr.offset
+
+-- An inner node in memory is the one in this slot. Its children are those that the node's sets name,
+-- but where a set of it makes the change under way: memory has the children before that set until
+-- the change is over. Of a node that this run wrote, memory knows where its next set goes.
+pub record IsTreeInner (w : Opening) (change : Change) (slot : ℕ) (n : Inner) (x : InnerShare) :
+    Type 0 where
+  pub role : IsInTree x.inner.role
+  pub first : x.inner.first ≡ n.from
+  pub end : x.inner.end ≡ n.end
+  pub bucket : x.inner.bucket ≡ w.flow.books.bucket n.ptr.offset
+  pub word : x.inner.word ≡ ptr_word n.ptr
+  pub level : suc x.inner.height ≡ n.level
+  pub loaded : x.inner.loaded ≡ true → n.loaded ≡ true
+  pub own : n.loaded ≡ false → HasSets w.layout x.node n.seq n.taken
+  pub children : change ≢ BySet slot → children_of x.node.sets ≡ map (child_of w) n.children
+
+-- Each leaf of the tree is in the slot of its number, and each inner node in that of its bucket; and
+-- no other slot has a node of the tree.
 pub record IsSpineOf (w : Opening) (st : parts.State) (sp : Spine) : Type 0 where
   pub leaves : (l : LeafRange) → Contains sp.leaves l
       → IsTreeLeaf w l.from l.end l.ptr (shape_of (st.leaves l.number))
   pub all_leaves : (k : ℕ) → IsInTree (st.leaves k).role → HasNumber sp.leaves k
   pub nodes : (n : Inner) → Contains (sp.root ∷ sp.below) n
-      → (x : ℕ) × IsTreeInner w n (st.inner_nodes x)
+      → IsTreeInner w st.change (inner_slot w n) n (inner_share st (inner_slot w n))
   pub all_nodes : (x : ℕ) → IsInTree (st.inner_nodes x).role
-      → (n : Inner) × Contains (sp.root ∷ sp.below) n × IsTreeInner w n (st.inner_nodes x)
+      → (n : Inner) × Contains (sp.root ∷ sp.below) n × (inner_slot w n ≡ x)
   pub end : st.end ≡ sp.root.end
+
+-- a slot has a node of the tree, or none
+abbrev pub Rests : Role → Type 0
+Rests role = (role ≡ NoNode) ⊎ (role ≡ Free)
+
+-- the durable entry names a root in this bucket, and so does the sealed one
+pub record NamesRoot (r : Records) (root : ℕ) : Type 0 where
+  pub newest : r.newest.root ≡ root
+  pub sealed : r.stage ≢ Nothing → r.entry.root ≡ root
+
+-- no change of the tree is under way, no new node waits for one, and the root is the one that
+-- entries name
+pub record IsAtRest (w : Opening) (st : parts.State) (sp : Spine) : Type 0 where
+  pub change : st.change ≡ NoChange
+  pub leaves : (k : ℕ) → Rests (st.leaves k).role
+  pub inner_nodes : (x : ℕ) → Rests (st.inner_nodes x).role
+  pub root : NamesRoot st.records (w.flow.books.bucket sp.root.ptr.offset)
+
+-- The tree, the number that the next new node gets, and whether the tree is at rest.
+pub record IsSpinePartOf (w : Opening) (st : State) (p : SpinePart) : Type 0 where
+  pub spine : IsSpineOf w st.whole.parts p.spine
+  pub next_seq : p.next_seq ≡ st.next_seq
+  pub rest : p.changing ≡ false → IsAtRest w st.whole.parts p.spine
 
 -- ---- leaves
 
@@ -87,10 +149,14 @@ pub record HasLists (leaf : Leaf) : Type 0 where
   pub last_added : AreLastOfAll added leaf.pending
 
 -- A leaf in memory is the one in a slot: its keys say what the node's sets say, and what is pending
--- over them. One that was read from the device is never taken for one that this run wrote.
+-- over them. One that was read from the device is never taken for one that this run wrote. Of such a
+-- one memory knows the number of the sets and where the next one goes, and no write of a set failed:
+-- behind a set that may stand nothing goes, so a leaf with one is like one that was read.
 pub record IsLeafFor (w : Opening) (x : LeafShare) (leaf : Leaf) : Type 0 where
   pub at : IsTreeLeaf w leaf.from leaf.end leaf.ptr (shape_of x.leaf)
   pub loaded : x.leaf.loaded ≡ true → leaf.loaded ≡ true
+  pub own : leaf.loaded ≡ false → HasSets w.layout x.node leaf.seq leaf.taken
+  pub whole : leaf.loaded ≡ false → x.node.lost ≡ None
   pub keys : (s : ℕ) → leaf.from ≤ s → s < leaf.end → ref_said (last_said leaf.keys s)
       ≡ ref_said (last_said (keys_of x.leaf.pending ++ set_keys x.node.sets) s)
   pub pending : (s : ℕ) → last_said leaf.pending s ≡ last_said (keys_of x.leaf.pending) s

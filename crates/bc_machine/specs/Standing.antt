@@ -1,5 +1,5 @@
 -- A part goes on to stand for its share of the state whatever events happen that don't change it.
-use Rattle.std.specs.Prelude.{◌≡◌, ◌≢◌, ℕ, zero, suc, ◌+◌, ◌-◌, ◌*◌, ◌%◌, ◌<◌, ◌≤◌, Bool, true, false, ◌==◌, ◌&&◌, ◌||◌, List, [], ◌∷◌, ◌++◌, length, fold, Option, Some, None, if◌then◌else◌, refl}
+use Rattle.std.specs.Prelude.{◌≡◌, ◌≢◌, ℕ, zero, suc, ◌+◌, ◌-◌, ◌*◌, ◌%◌, ◌≤◌, Bool, true, false, ◌==◌, ◌&&◌, ◌||◌, List, [], ◌∷◌, ◌++◌, length, fold, Option, Some, None, if◌then◌else◌, refl}
 use Rattle.std.proofs.Common.{inl, inr, sym, ap, ◌∙◌, subst, arith}
 use Rattle.bc_disk.specs.Device.{Content}
 use Rattle.bc_disk.specs.Disk.{DiskFacts, StandsFor}
@@ -15,6 +15,7 @@ use Rattle.bc_leaves.specs.After.{has}
 use Rattle.bc_whole.specs.State as whole
 use Rattle.bc_known.specs.Acts as known
 use Rattle.bc_parts.specs.Course.{IsCourse}
+use Rattle.bc_inner.specs.Inner.{Inner}
 use Rattle.bc_tree.specs.Spine.{Spine}
 use Rattle.bc_journal.specs.Journal.{Journal}
 use Rattle.bc_bucket.specs.Buckets.{bucket_of}
@@ -30,7 +31,7 @@ use Rattle.bc_events.specs.declared.event.Failure.TheVariants as failure
 use Rattle.bc_events.specs.declared.event.Deed.{Deed}
 use Rattle.bc_events.specs.declared.event.Deed.TheVariants as deed
 use Rattle.bc_events.specs.declared.event.Event.{Event}
-use Rattle.bc_shares.specs.Shares.{Shape, JournalShare, journal_share, BucketsShare, buckets_in, use_of, books_of, LeafShare, leaf_share, SameSpine}
+use Rattle.bc_shares.specs.Shares.{Shape, JournalShare, journal_share, BucketsShare, buckets_in, use_of, books_of, LeafShare, leaf_share, InnerShare, inner_share, SameSpine}
 use Rattle.bc_shares.specs.Touched.{touches_journal, touches_buckets, among_leaves, write_touches_leaf, root_touches_leaf, fault_touches_leaf, touches_leaf, NamesItsChange, touches_spine}
 use Rattle.bc_needs.specs.Needs.{NeedsFrom}
 use Rattle.bc_needs.proofs.Lasting.{law_lasts}
@@ -39,10 +40,12 @@ use Rattle.bc_shares.proofs.Law.{law_journal, law_buckets, law_spine, law_slot, 
 use Rattle.bc_places.proofs.Others.{law_kept}
 use Rattle.bc_machine.specs.declared.part.BackingPart.{BackingPart}
 use Rattle.bc_machine.specs.declared.part.BucketsPart.{BucketsPart}
+use Rattle.bc_machine.specs.declared.part.SpinePart.{SpinePart}
 use Rattle.bc_machine.specs.declared.part.CorePart.{CorePart}
 use Rattle.bc_machine.specs.declared.part.CorePart.TheVariants as part
-use Rattle.bc_machine.specs.Containers.{IsInTree, IsTreeLeaf, IsTreeInner, IsSpineOf, IsLeafFor, AreLeavesOf, IsJournalOf, IsBucketFor, pins_of, pins_in, AreBucketsOf}
-use Rattle.bc_machine.specs.World.{Side, model, behind, same_device, called, counted, held_after, held_after_failure, Begun, World, is_told, after, data_of, Origin, replay, IsCourseOf, IsOrigin, CanFollow, IsEnabled, is_call_of, touches_flight, lies_in, any_in, change_in, write_in, root_in, fault_in, touches_leaves, changes, claim_in, share_of, Kept, kept_of, notes_candidate, candidates_noted, IsCandidateOf, EachIsOf, AreCandidatesOf, seen_from, IsView, InEach, IsFlightOf, FromEach, IsSpine, AreBuckets, IsJournal, AreLeaves, IsCache, IsBackingOf, StandsAs, opening}
+use Rattle.bc_machine.specs.Containers.{IsInTree, IsTreeLeaf, IsTreeInner, inner_slot, IsSpineOf, Rests, IsAtRest, IsSpinePartOf, IsLeafFor, AreLeavesOf, IsJournalOf, IsBucketFor, pins_of, pins_in, AreBucketsOf}
+use Rattle.bc_machine.specs.World.{Side, model, behind, same_device, called, counted, held_after, held_after_failure, Begun, World, is_told, after, data_of, Origin, replay, IsCourseOf, IsOrigin, EndsItsChange, CanFollow, IsEnabled, is_call_of, touches_flight, lies_in, any_in, change_in, write_in, root_in, fault_in, touches_leaves, changes, claim_in, share_of, Kept, kept_of, notes_candidate, candidates_noted, IsCandidateOf, EachIsOf, AreCandidatesOf, seen_from, IsView, InEach, IsFlightOf, FromEach, IsSpine, IsSpinePart, AreBuckets, IsJournal, AreLeaves, IsCache, IsBackingOf, StandsAs, opening}
+use Rattle.bc_machine.specs.Roots.{NameTheSame, law_root}
 use Rattle.bc_machine.specs.Frame.{Range, range_of, by_test, Claims, OnBacking, stays_event}
 
 -- ---- claims and devices
@@ -218,28 +221,63 @@ from_each : (x : World) (e : Event) (P : Origin → core.State → Type 0)
 from_each x e P keeps h = λ o is course. let before = origin_before x e o is in
     keeps o before course.2 course.0 (h o before course.2)
 
+in_tree_some : (r : Role) → IsInTree r → r ≢ NoNode
+in_tree_some NoNode live none = live
+in_tree_some Draft live none = live
+in_tree_some Free live none = cc
+in_tree_some Leaving live none = cc
+in_tree_some Coming live none = live
+
 same_spine : (w : whole.Opening) (a b : known.State) (sp : Spine) → SameSpine a b
     → IsSpineOf w a.whole.parts sp → IsSpineOf w b.whole.parts sp
 same_spine w a b sp same h = record {
   leaves = λ l in'. subst (IsTreeLeaf w l.from l.end l.ptr) (sym (same.leaves l.number)) (h.leaves l in');
   all_leaves = λ k live. h.all_leaves k (subst IsInTree (ap (λ (x : Shape). x.role) (same.leaves k)) live);
-  nodes = λ n in'. let one = h.nodes n in' in
-      (one.0, subst (λ (f : ℕ → parts.InnerNode). IsTreeInner w n (f one.0)) (sym same.slots) one.1);
-  all_nodes = λ x live. let one = h.all_nodes x (subst (λ (f : ℕ → parts.InnerNode). IsInTree (f x).role) same.slots live) in
-      (one.0, one.1, subst (λ (f : ℕ → parts.InnerNode). IsTreeInner w one.0 (f x)) (sym same.slots) one.2);
+  nodes = λ n in'. inner (inner_slot w n) n (h.nodes n in');
+  all_nodes = λ x live. h.all_nodes x (subst (λ (f : ℕ → parts.InnerNode). IsInTree (f x).role) same.slots live);
   end = same.end ∙ h.end;
 }
+  where
+    inner : (x : ℕ) (n : Inner) → IsTreeInner w a.whole.parts.change x n (inner_share a.whole.parts x)
+        → IsTreeInner w b.whole.parts.change x n (inner_share b.whole.parts x)
+    inner x n one = subst (λ c. IsTreeInner w c x n (inner_share b.whole.parts x)) (sym same.change)
+        (subst (λ (s : InnerShare). IsTreeInner w a.whole.parts.change x n s)
+        (sym (same.inner_nodes x (in_tree_some _ one.role))) one)
 
-spine_stays : (sp : Spine) (x : World) (e : Event)
-    → touches_spine e.deed ≡ false → IsSpine sp x → IsSpine sp (after x e)
-spine_stays sp x e off = from_each x e
-    (λ o st. IsSpineOf o.opening.machine st.machine.whole.parts sp)
-    (λ o is course follows h. same_spine o.opening.machine (replay o x.log).machine
-    (core.after o.opening (replay o x.log) e).machine sp
+same_rest : (w : whole.Opening) (a b : known.State) (sp : Spine) → SameSpine a b
+    → NameTheSame a.whole.parts b.whole.parts → IsAtRest w a.whole.parts sp
+    → IsAtRest w b.whole.parts sp
+same_rest w a b sp same names h = record {
+  change = same.change ∙ h.change;
+  leaves = λ k. subst Rests (sym (ap (λ (x : Shape). x.role) (same.leaves k))) (h.leaves k);
+  inner_nodes = λ x. subst (λ (f : ℕ → parts.InnerNode). Rests (f x).role) (sym same.slots)
+      (h.inner_nodes x);
+  root = names (w.flow.books.bucket sp.root.ptr.offset) h.root;
+}
+
+same_part : (w : whole.Opening) (a b : known.State) (p : SpinePart) → SameSpine a b
+    → NameTheSame a.whole.parts b.whole.parts → IsSpinePartOf w a p → IsSpinePartOf w b p
+same_part w a b p same names h = record {
+  spine = same_spine w a b p.spine same h.spine;
+  next_seq = h.next_seq ∙ sym same.next_seq;
+  rest = λ off. same_rest w a b p.spine same names (h.rest off);
+}
+
+spine_stays : (p : SpinePart) (x : World) (e : Event)
+    → touches_spine e.deed ≡ false → IsSpinePart p x → IsSpinePart p (after x e)
+spine_stays p x e off = from_each x e
+    (λ o st. IsSpinePartOf o.opening.machine st.machine p)
+    (λ o is course follows h. same_part o.opening.machine (replay o x.log).machine
+    (core.after o.opening (replay o x.log) e).machine p
     (subst (λ (st : core.State). SameSpine st.machine (core.after o.opening st e).machine)
     (sym (replay_is o x.log))
     (law_spine o.opening o.parts o.next_seq (oldest_first x.log) e
-    (happens x o e is course follows.enabled) off)) h)
+    (happens x o e is course follows.enabled) off))
+    (law_root o.opening (replay o x.log) e follows.enabled off) h)
+
+-- the part has the tree
+pub has_spine : (p : SpinePart) (x : World) → IsSpinePart p x → IsSpine p.spine x
+has_spine p x h = λ o is course. (h o is course).spine
 
 -- what no leaf waits for, none ever will
 pub needs_stay : (low : ℕ) (x : World) (e : Event) → FromEach x (λ o st. NeedsFrom low st)
@@ -343,12 +381,10 @@ leaf_off count part k (deed.Install change come gone) is off = change_off count 
 leaf_off count part k (deed.DeviceFault x) is off = fault_leaf_off count part k x is off
 leaf_off count part k d is off = refl
 
-in_tree_some : (r : Role) → IsInTree r → r ≢ NoNode
-in_tree_some NoNode live none = live
-in_tree_some Draft live none = live
-in_tree_some Free live none = cc
-in_tree_some Leaving live none = cc
-in_tree_some Coming live none = live
+-- so it names what leaves and comes
+pub ends_named : (st : parts.State) (d : Deed) → EndsItsChange st d → NamesItsChange st d
+ends_named st (deed.Install change come gone) ends = ends.0
+ends_named st d ends = tt
 
 leaf_same : (x : World) (o : Origin) (e : Event) (k : ℕ) → IsOrigin x o → IsCourseOf o x.log
     → CanFollow (seen_from o x) e → touches_leaf k e.deed ≡ false
@@ -360,7 +396,8 @@ leaf_same x o e k is course follows off some = subst (λ (st : core.State). Name
     → leaf_share (core.after o.opening st e).machine.whole.parts k ≡ leaf_share st.machine.whole.parts k)
     (sym (replay_is o x.log))
     (λ names there. law_leaf o.opening o.parts o.next_seq (oldest_first x.log) e
-    (happens x o e is course follows.enabled) k off names there) follows.names some
+    (happens x o e is course follows.enabled) k off names there)
+    (ends_named (replay o x.log).machine.whole.parts e.deed follows.names) some
 
 leaves_stay : (part : ℕ) (c : NodeCache) (x : World) (e : Event)
     → touches_leaves x.begun.leaf_parts part e.deed ≡ false → AreLeaves part c x
@@ -377,12 +414,14 @@ leaves_stay part c x e off = from_each x e
           (in_tree_some _ one.at.role))) one;
       others = λ k its live misses.
           let same = law_slot o.opening (replay o x.log) e follows.enabled k
-          (leaf_off x.begun.leaf_parts part k e.deed its off) follows.names in
+          (leaf_off x.begun.leaf_parts part k e.deed its off)
+          (ends_named (replay o x.log).machine.whole.parts e.deed follows.names) in
           ap (λ (l : parts.Leaf). l.pending) same
           ∙ h.others k its (subst (λ (l : parts.Leaf). IsInTree l.role) same live) misses;
       leaving = λ k its leaves.
           let same = law_slot o.opening (replay o x.log) e follows.enabled k
-          (leaf_off x.begun.leaf_parts part k e.deed its off) follows.names in
+          (leaf_off x.begun.leaf_parts part k e.deed its off)
+          (ends_named (replay o x.log).machine.whole.parts e.deed follows.names) in
           h.leaving k its (sym (ap (λ (l : parts.Leaf). l.role) same) ∙ leaves);
     })
 
@@ -451,8 +490,8 @@ module _ {C B : Type 0} (cache_facts : C → DiskFacts) (backing_facts : B → D
     not_backing = h.not_backing;
     plain = h.plain;
   }
-  part_stays n k (part.Spine sp) x e count off h =
-      (h.0, spine_stays sp x e (number_off n k 0 e h.0 off) h.1)
+  part_stays n k (part.Spine p) x e count off h =
+      (h.0, spine_stays p x e (number_off n k 0 e h.0 off) h.1)
   part_stays n k (part.Flight f) x e count off h =
       (h.0, in_each x e (IsFlightOf f) (λ y view on. flight_stays f y e (number_off n k 1 e h.0 off) on) h.1)
   part_stays n k (part.Buckets p) x e count off h =

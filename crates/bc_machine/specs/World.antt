@@ -5,7 +5,7 @@
 -- alone whether they are sound. So the state here says only what the events make: claims, notes,
 -- what devices hold. What the parts in memory stand for is said of each opening of the core that
 -- they stand for as the run begins (`Origin`): where the pair was sound there is one.
-use Rattle.std.specs.Prelude.{◌≡◌, ◌≢◌, ◌⊎◌, ℕ, suc, ◌+◌, ◌-◌, ◌%◌, ◌<◌, ◌≤◌, Bool, true, false, ◌==◌, ◌&&◌, ◌||◌, not, nat_lt, List, [], ◌∷◌, length, Option, Some, None, IfSome, if◌then◌else◌}
+use Rattle.std.specs.Prelude.{◌≡◌, ◌≢◌, ◌⊎◌, ℕ, suc, ◌+◌, ◌-◌, ◌%◌, ◌^◌, ◌<◌, ◌≤◌, Bool, true, false, ◌==◌, ◌&&◌, ◌||◌, not, nat_lt, List, [], ◌∷◌, length, Option, Some, None, IfSome, if◌then◌else◌}
 use Rattle.bc_model.specs.Sector.{Image}
 use Rattle.bc_model.specs.Pattern.{zeros}
 use Rattle.bc_disk.specs.Device.{Content, DeviceModel, next_count, quiet, written, failed, settled}
@@ -26,6 +26,7 @@ use Rattle.bc_books.specs.Books as book
 use Rattle.bc_data.specs.Seats as seats
 use Rattle.bc_data.specs.Data as flow
 use Rattle.bc_leaves.specs.Parts as parts
+use Rattle.bc_leaves.specs.After.{has}
 use Rattle.bc_known.specs.Laws.{IsSound}
 use Rattle.bc_tree.specs.Spine.{Spine}
 use Rattle.bc_journal.specs.Journal.{Journal}
@@ -45,11 +46,12 @@ use Rattle.bc_events.specs.declared.event.Deed.TheVariants as deed
 use Rattle.bc_events.specs.declared.event.Event.{Event}
 use Rattle.bc_needs.specs.Needs.{NeedsFrom}
 use Rattle.bc_shares.specs.Shares.{books_of, journal_share}
-use Rattle.bc_shares.specs.Touched.{touches_journal, touches_buckets, touches_spine, NamesItsChange}
+use Rattle.bc_shares.specs.Touched.{touches_journal, touches_buckets, touches_spine, NamesChange}
 use Rattle.bc_machine.specs.Plain.{bare_opening, no_parts}
-use Rattle.bc_machine.specs.Containers.{IsInTree, IsSpineOf, AreBucketsOf, IsJournalOf, AreLeavesOf}
+use Rattle.bc_machine.specs.Containers.{IsInTree, IsSpineOf, IsSpinePartOf, AreBucketsOf, IsJournalOf, AreLeavesOf}
 use Rattle.bc_machine.specs.declared.part.BackingPart.{BackingPart}
 use Rattle.bc_machine.specs.declared.part.BucketsPart.{BucketsPart}
+use Rattle.bc_machine.specs.declared.part.SpinePart.{SpinePart}
 use Rattle.bc_machine.specs.declared.part.CorePart.{CorePart}
 use Rattle.bc_machine.specs.declared.part.CorePart.TheVariants as part
 
@@ -108,7 +110,7 @@ held_after c d = c
 
 -- the parts in memory of a run with a cache, of which one over the backing device alone has none
 pub record Begun : Type 0 where
-  pub spine : Option Spine
+  pub spine : Option SpinePart
   pub buckets : Option BucketsPart
   pub journal : Option Journal
   pub leaves : List NodeCache
@@ -182,11 +184,24 @@ abbrev pub IsNumbered : List Event → Deed → Type 0
 IsNumbered es (deed.Candidate candidate first count at) = candidate ≡ candidates_noted es
 IsNumbered es d = Unit {0}
 
--- An event follows behind these in the core; one that ends a change of the tree names the leaves
--- that leave and come, and one that notes a candidate gives it the next number.
+-- the buckets of what comes are among these
+pub record MakesNodes (st : parts.State) (buckets : List ℕ) : Type 0 where
+  pub leaves : (k : ℕ) → (st.leaves k).role ≡ parts.Coming → has buckets (st.leaves k).bucket ≡ true
+  pub inner_nodes : (x : ℕ) → (st.inner_nodes x).role ≡ parts.Coming
+      → has buckets (st.inner_nodes x).bucket ≡ true
+
+-- An install names the leaves that leave and come, and makes the buckets of all that comes nodes: so
+-- whoever writes a set of a node of the tree knows that nobody holds its bucket.
+abbrev pub EndsItsChange : parts.State → Deed → Type 0
+EndsItsChange st (deed.Install change come gone) =
+    NamesChange st change × MakesNodes st come.items
+EndsItsChange st d = Unit {0}
+
+-- An event follows behind these in the core; one that ends a change of the tree does so for all of
+-- it, and one that notes a candidate gives it the next number.
 pub record Follows (w : Opening) (st : State) (es : List Event) (e : Event) : Type 0 where
   pub enabled : core.IsEnabled w st e
-  pub names : NamesItsChange st.machine.whole.parts e.deed
+  pub names : EndsItsChange st.machine.whole.parts e.deed
   pub number : IsNumbered es e.deed
 
 -- The premise on torn records, of one state: whatever the cache device may leave, no record that is
@@ -211,9 +226,19 @@ AreLeafParts w st count part [] = Unit {0}
 AreLeafParts w st count part (c ∷ cs) =
     AreLeavesOf w.machine st count part c × AreLeafParts w st count (suc part) cs
 
+-- Each node that a run finds was read from the device: so it is none that the run wrote. And where
+-- the tree has no sectors, no leaf that it can get has their keys.
+pub record IsReadTree (o : Origin) : Type 0 where
+  pub leaves : (k : ℕ) → (o.parts.leaves k).role ≢ parts.NoNode → (o.parts.leaves k).loaded ≡ true
+  pub inner_nodes : (x : ℕ) → (o.parts.inner_nodes x).role ≢ parts.NoNode
+      → (o.parts.inner_nodes x).loaded ≡ true
+  pub beyond : (s : ℕ) → o.parts.end ≤ s → 2 ^ 32 ≤ o.opening.machine.flow.books.leaf s
+
 -- the parts in memory stand for the opening's
 pub record HasBegun (b : Begun) (o : Origin) : Type 0 where
-  pub spine : IfSome b.spine (IsSpineOf o.opening.machine o.parts)
+  pub read : IsReadTree o
+  pub spine : IfSome b.spine
+      (IsSpinePartOf o.opening.machine (start o.opening o.parts o.next_seq).machine)
   pub buckets : IfSome b.buckets
       (AreBucketsOf o.opening.machine (book.opened o.opening.machine.flow.books))
   pub journal : IfSome b.journal (IsJournalOf o.opening.machine
@@ -449,8 +474,13 @@ IsFlight f x = InEach x (IsFlightOf f)
 abbrev pub FromEach : World → (Origin → State → Type 0) → Type 0
 FromEach x P = (o : Origin) → IsOrigin x o → IsCourseOf o x.log → P o (replay o x.log)
 
+-- the tree in memory
 abbrev pub IsSpine : Spine → World → Type 0
 IsSpine sp x = FromEach x (λ o st. IsSpineOf o.opening.machine st.machine.whole.parts sp)
+
+-- with the number of the next new node, and whether it is at rest
+abbrev pub IsSpinePart : SpinePart → World → Type 0
+IsSpinePart p x = FromEach x (λ o st. IsSpinePartOf o.opening.machine st.machine p)
 
 abbrev pub AreBuckets : BucketsPart → World → Type 0
 AreBuckets p x = FromEach x (λ o st. AreBucketsOf o.opening.machine (books_of st.machine) p)
@@ -488,7 +518,7 @@ module _ {C B : Type 0} (cache_facts : C → DiskFacts) (backing_facts : B → D
 
   abbrev pub StandsAs : ℕ → CorePart C B → World → Type 0
   StandsAs k part.Absent x = IsAbsent k x
-  StandsAs k (part.Spine sp) x = (k ≡ 0) × IsSpine sp x
+  StandsAs k (part.Spine p) x = (k ≡ 0) × IsSpinePart p x
   StandsAs k (part.Flight f) x = (k ≡ 1) × IsFlight f x
   StandsAs k (part.Buckets p) x = (k ≡ 2) × AreBuckets p x
   StandsAs k (part.Journal j) x = (k ≡ 3) × IsJournal j x
@@ -513,9 +543,9 @@ module _ {C B : Type 0} (cache_facts : C → DiskFacts) (backing_facts : B → D
       record { device = backing_facts b.disk; offset = b.offset; size = b.size }
   data_among (p ∷ ps) = data_among ps
 
-  abbrev pub spine_among : List (CorePart C B) → Option Spine
+  abbrev pub spine_among : List (CorePart C B) → Option SpinePart
   spine_among [] = None
-  spine_among (part.Spine sp ∷ ps) = Some sp
+  spine_among (part.Spine p ∷ ps) = Some p
   spine_among (p ∷ ps) = spine_among ps
 
   abbrev pub buckets_among : List (CorePart C B) → Option BucketsPart

@@ -36,6 +36,17 @@ pub const BACKING: u32 = 5;
 /// i modulo n behind it.
 pub const LEAVES: u32 = 6;
 
+/// The tree in memory, the number that the sets of the next new node get, and whether a change of
+/// the tree is under way.
+#[derive(Drop)]
+pub struct SpinePart {
+    pub spine: Spine,
+    pub next_seq: u64,
+    /// Who changes the tree sets it before the first new node is written, and takes it back once the
+    /// change is over. Who finds it set knows that the run was halted in between.
+    pub changing: bool,
+}
+
 /// The backing device, with its data: `size` sectors from the sector `offset` on.
 #[derive(Drop)]
 pub struct BackingPart<B> {
@@ -104,7 +115,7 @@ impl<T> Apart<T> {
 pub enum CorePart<C, B> {
     /// A part that the run hasn't: one over the backing device alone has no cache.
     Absent,
-    Spine(Apart<Spine>),
+    Spine(Apart<SpinePart>),
     Flight(Flight),
     Buckets(Apart<BucketsPart>),
     Journal(Apart<Journal>),

@@ -33,7 +33,7 @@ pub record Leaf : Type 0 where
   pub pending : List Key
   -- the entries of the journal that hold the keys which were added since the last set
   pub entries : Option Entries
-  -- whether it was read from a device and not rewritten since
+  -- whether it was read from a device, or a write of it failed, and it wasn't rewritten since
   pub loaded : Bool
 
 -- keys in order that give each sector the last key of a list, where a key without pointers counts as none

@@ -1,5 +1,5 @@
 //! Leaves.
-ghost use Rattle.std.specs.Prelude.{◌≡◌, ◌≢◌, ◌⊎◌, ◌↔◌, ◌+◌, ◌*◌, ◌^◌, ◌<◌, ◌≤◌, [], length, false, All, IsTrue, OnOk, OnErr, IfOk, IfErr};
+ghost use Rattle.std.specs.Prelude.{◌≡◌, ◌≢◌, ◌⊎◌, ◌↔◌, ◌+◌, ◌*◌, ◌^◌, ◌<◌, ◌≤◌, [], length, true, false, All, IsTrue, OnOk, OnErr, IfOk, IfErr};
 ghost use Rattle.bc_disk.specs.Disk.{IsKept, IsWritten, IsFailedWrite, IsCounted};
 ghost use Rattle.bc_model.specs.Sector.{values_of};
 ghost use Rattle.bc_key.specs.Key.{IsExtent, ptr_at};
@@ -319,6 +319,14 @@ impl Leaf {
         Ok(())
     }
 
+    /// Takes it from now on for one that was read from a device, as after a write of it that failed:
+    /// what stands behind its sets is not known then.
+    pub fn close(&mut self)
+        ensures { self.new ≡ record self.old { loaded = true } }
+    {
+        self.loaded = true;
+    }
+
     /// How many sectors its sets take on the device, in whole blocks; 0 where it has none yet.
     pub fn taken(&self) -> u16
         ensures { result ≡ self.now.taken }
@@ -333,7 +341,7 @@ impl Leaf {
         self.entries
     }
 
-    /// Whether it was read from a device and not rewritten since.
+    /// Whether it was read from a device or closed, and not rewritten since.
     pub fn is_loaded(&self) -> bool
         ensures { result ≡ self.now.loaded }
     {

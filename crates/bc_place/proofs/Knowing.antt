@@ -10,10 +10,9 @@ use Rattle.bc_deed.specs.bc_hand.Seats.{AtDeed, Did, IsCoreSeat, MayDo, by, worl
 use Rattle.bc_deed.proofs.of_bc_hand.Knowing.{View, framed, is_plain_at, m}
 use Rattle.bc_deed.proofs.May.{low}
 use Rattle.bc_deed.specs.bc_machine.Standing.{origin_before}
-use Rattle.bc_deed.specs.bc_machine.World.{AreBuckets, CanFollow, FromEach, IsCourseOf, IsNumbered, IsOrigin, IsSeenFrom, Origin, World, are_plain, replay, seen_from}
+use Rattle.bc_deed.specs.bc_machine.World.{AreBuckets, CanFollow, EndsItsChange, FromEach, IsCourseOf, IsNumbered, IsOrigin, IsSeenFrom, Origin, World, are_plain, replay, seen_from}
 use Rattle.bc_deed.specs.bc_machine.declared.part.BucketsPart.{BucketsPart}
 use Rattle.bc_deed.specs.bc_machine.declared.part.CorePart.TheVariants as part
-use Rattle.bc_shares.specs.Touched.{NamesItsChange}
 use Rattle.bc_events.specs.Columns.{outlasts_halt}
 use Rattle.bc_place.specs.Place.{HasBefore}
 
@@ -37,7 +36,7 @@ module _ {C B : Type 0} (cache_facts : C → DiskFacts) (backing_facts : B → D
       → ((o : Origin) (x : World) → IsOrigin x o → IsCourseOf o x.log
       → AtDeed cache_facts backing_facts v d x (seen_from o x)
       → core.IsEnabled o.opening (replay o x.log) (by v.first d)
-      × NamesItsChange (replay o x.log).machine.whole.parts d × IsNumbered x.log d)
+      × EndsItsChange (replay o x.log).machine.whole.parts d × IsNumbered x.log d)
       → MayDo cache_facts backing_facts v d
   may_each v cached d may x y at told =
       let seen = at.from (is_plain_at cache_facts backing_facts v x at.since ∙ cached) in
@@ -59,7 +58,7 @@ module _ {C B : Type 0} (cache_facts : C → DiskFacts) (backing_facts : B → D
       → ((o : Origin) (x : World) → Since (m cache_facts backing_facts) v x → IsOrigin x o
       → IsCourseOf o x.log → (replay o x.log).machine.whole.flow.halted ≡ false
       → core.IsEnabled o.opening (replay o x.log) (by v.first d)
-      × NamesItsChange (replay o x.log).machine.whole.parts d × IsNumbered x.log d)
+      × EndsItsChange (replay o x.log).machine.whole.parts d × IsNumbered x.log d)
       → MayDo cache_facts backing_facts v d
   may_from v cached d ends may = may_each v cached d
       (λ o x is course at. may o x at.since is course (at.running ends))

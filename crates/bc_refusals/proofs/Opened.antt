@@ -135,8 +135,8 @@ module _ {C B : Type 0} (cache_facts : C → DiskFacts) (backing_facts : B → D
       ((λ k. refl), ((λ k. refl), ((λ k. refl), ((λ k. refl), ((λ k. refl), tt))))))
 
   pub law_opened : LawOpened {C = C} {B = B} cache_facts backing_facts
-  law_opened s b cache backing c d v layout next_seq loaded parts seat holds divided over =
-      let seen = law_session cache_facts backing_facts s b cache backing c d v layout next_seq
+  law_opened s b cache backing c d v layout loaded parts seat holds divided over =
+      let seen = law_session cache_facts backing_facts s b cache backing c d v layout
       loaded parts seat holds divided over in
       let o = seen.0 in
       let open_ = seen.1.opened in

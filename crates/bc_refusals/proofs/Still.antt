@@ -8,7 +8,7 @@ use Rattle.bc_events.specs.declared.event.Failure.TheVariants as failure
 use Rattle.bc_known.specs.Laws.{IsSound}
 use Rattle.bc_leaves.specs.Parts.{NoNode}
 use Rattle.bc_leaves.specs.Parts as parts
-use Rattle.bc_request.specs.bc_machine.Standing.{oldest_first, replay_is, replay_runs}
+use Rattle.bc_request.specs.bc_machine.Standing.{ends_named, oldest_first, replay_is, replay_runs}
 use Rattle.bc_request.specs.bc_machine.World.{IsCourseOf, Origin, World, after, replay}
 use Rattle.bc_shares.proofs.Law.{law_leaf, law_slot}
 use Rattle.bc_shares.specs.Shares.{leaf_share}
@@ -21,7 +21,8 @@ pub same_leaf : (o : Origin) (es : List Event) → IsCourseOf o es → TouchNoLe
     → (replay o es).machine.whole.parts.leaves k ≡ o.parts.leaves k
 same_leaf o [] course off k = refl
 same_leaf o (e ∷ es) course off k =
-    law_slot o.opening (replay o es) e course.0.enabled k (off.0 k) course.0.names
+    law_slot o.opening (replay o es) e course.0.enabled k (off.0 k)
+    (ends_named (replay o es).machine.whole.parts e.deed course.0.names)
     ∙ same_leaf o es course.2 off.1 k
 
 -- and its node, what it had
@@ -30,7 +31,8 @@ pub still : (o : Origin) → IsSound o.opening.machine o.parts → (es : List Ev
     → leaf_share (replay o es).machine.whole.parts k ≡ leaf_share o.parts k
 still o sound [] course off k some = refl
 still o sound (e ∷ es) course off k some =
-    let slot = law_slot o.opening (replay o es) e course.0.enabled k (off.0 k) course.0.names in
+    let slot = law_slot o.opening (replay o es) e course.0.enabled k (off.0 k)
+    (ends_named (replay o es).machine.whole.parts e.deed course.0.names) in
     let there : ((replay o es).machine.whole.parts.leaves k).role ≢ NoNode
     = λ none. some (ap (λ (l : parts.Leaf). l.role) slot ∙ none) in
     subst (λ (st : core.State). core.IsEnabled o.opening st e
@@ -41,7 +43,8 @@ still o sound (e ∷ es) course off k some =
       sound = sound;
       course = replay_runs o es course.2;
       enabled = enabled;
-    }) k (off.0 k) names some) course.0.enabled course.0.names there
+    }) k (off.0 k) names some) course.0.enabled
+    (ends_named (replay o es).machine.whole.parts e.deed course.0.names) there
     ∙ still o sound es course.2 off.1 k there
 
 pub law_still : LawStill

@@ -1,5 +1,5 @@
 -- Which runs are over a sound pair.
-use Rattle.std.specs.Prelude.{ℕ, List}
+use Rattle.std.specs.Prelude.{List}
 use Rattle.bc_disk.specs.Disk.{DiskFacts}
 use Rattle.bc_disk.specs.declared.geometry.Geometry.{Geometry}
 use Rattle.bc_request.specs.bc_deed.Flushed.{HasDone}
@@ -27,7 +27,7 @@ module _ {C B : Type 0} (cache_facts : C → DiskFacts) (backing_facts : B → D
   -- record matched by chance; and no leaf was touched yet.
   abbrev pub LawOpened : Type 0
   LawOpened = (s : Survey) (b : BackingSuper) (cache : C) (backing : B) (c d : Image)
-      (v : pairs.View) (layout : Layout) (next_seq : ℕ) (loaded : Loaded)
+      (v : pairs.View) (layout : Layout) (loaded : Loaded)
       (parts : PartsView (CorePart C B)) (seat : View cache_facts backing_facts)
       → HoldSound cache_facts backing_facts s b cache backing c d v
       → IsLayoutOf v.geometry layout

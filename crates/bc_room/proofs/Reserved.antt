@@ -28,6 +28,11 @@ stays_leaf w x old new r h = record {
       (subst (λ n. IsTreeLeaf w old.from n new.ptr (shape_of x.leaf)) (sym r.same.end)
       (subst (λ q. IsTreeLeaf w old.from old.end q (shape_of x.leaf)) (sym r.same.ptr) h.at));
   loaded = λ is. r.same.loaded ∙ h.loaded is;
+  own = λ off. let had = h.own (sym r.same.loaded ∙ off) in record {
+    number = λ e i. had.number e i ∙ sym r.same.seq;
+    taken_is = r.same.taken ∙ had.taken_is;
+  };
+  whole = λ off. h.whole (sym r.same.loaded ∙ off);
   keys = λ s low high. ap (λ ks. ref_said (last_said ks s)) r.keys
       ∙ h.keys s (subst (λ n. n ≤ s) r.same.from low) (subst (λ n. s < n) r.same.end high);
   pending = λ s. ap (λ ks. last_said ks s) r.pending ∙ h.pending s;

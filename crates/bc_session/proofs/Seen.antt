@@ -1,7 +1,7 @@
 -- What a run over a pair that was opened stands for.
 use Rattle.std.proofs.Common.{◌≡◌, ℕ, ◌+◌, ◌≤◌, List, [], ◌∷◌, Option, Some, None, refl, sym, ap, ◌∙◌, subst, arith, if◌then◌else◌}
 use Rattle.std.specs.Prelude.{fold, map}
-use Rattle.bc_started.specs.bc_begun.Begin.{parts_of}
+use Rattle.bc_started.specs.bc_begun.Begin.{first_seq, parts_of}
 use Rattle.bc_started.specs.bc_cached.Laws.{StandsOn, parts_in}
 use Rattle.bc_started.specs.bc_cached.declared.run.Ready.{Ready}
 use Rattle.bc_started.specs.bc_chosen.Parts.{ArePartsOf}
@@ -200,24 +200,23 @@ module _ {C B : Type 0} (cache_facts : C → DiskFacts) (backing_facts : B → D
               over.is_loaded.are.leaves.pending) (sym r.entries) over.is_loaded.are.leaves.keys;
         }
 
-        abbrev Seen : Layout → ℕ → pairs.View → Type 0
-        Seen layout next_seq v = IsView p v → HasSoundParts p v → IsLayoutOf v.geometry layout
+        abbrev Seen : Layout → pairs.View → Type 0
+        Seen layout v = IsView p v → HasSoundParts p v → IsLayoutOf v.geometry layout
             → (o : Origin) × IsStartedFrom p v layout
-            (parts_in ready over.is_loaded.are.leaves.pending) next_seq
+            (parts_in ready over.is_loaded.are.leaves.pending) (first_seq loaded.journal)
             (world cache_facts backing_facts seat) o
 
-        seen_here : (layout : Layout) (next_seq : ℕ) → Seen layout next_seq w
-        seen_here layout next_seq view sound divided =
+        seen_here : (layout : Layout) → Seen layout w
+        seen_here layout view sound divided =
             law_started cache_facts backing_facts p w layout s.journal
             over.is_loaded.are.leaves.pending over.is_loaded.count over.is_loaded.are.was ready
-            next_seq parts seat (subst (λ (g : Geometry).
+            parts seat (subst (λ (g : Geometry).
             HasStarted cache_facts backing_facts g s.journal ready parts seat) (sym r.geometry) h)
             view sound divided of_pair stands
 
-        seen : (layout : Layout) (next_seq : ℕ) (v : pairs.View) → IsView p v
-            → Seen layout next_seq v
-        seen layout next_seq v view = subst (Seen layout next_seq)
-            (one_view p w v r.is_view view) (seen_here layout next_seq)
+        seen : (layout : Layout) (v : pairs.View) → IsView p v → Seen layout v
+        seen layout v view = subst (Seen layout)
+            (one_view p w v r.is_view view) (seen_here layout)
 
   pub law_rests : LawRests {C = C} {B = B} cache_facts backing_facts
   law_rests s b cache backing loaded parts seat left rest reads read over is_left is_rest =
@@ -229,6 +228,6 @@ module _ {C B : Type 0} (cache_facts : C → DiskFacts) (backing_facts : B → D
       )
 
   pub law_session : LawSession {C = C} {B = B} cache_facts backing_facts
-  law_session s b cache backing c d v layout next_seq loaded parts seat hold divided over =
+  law_session s b cache backing c d v layout loaded parts seat hold divided over =
       seen s b cache backing loaded parts seat over c d hold.tells hold.told hold.reads hold.read layout
-      next_seq v hold.view hold.view hold.sound divided
+      v hold.view hold.view hold.sound divided

@@ -1,5 +1,6 @@
 -- What a run over a pair that was opened stands for, and what its devices leave of the pair.
-use Rattle.std.specs.Prelude.{◌≡◌, ℕ, Some}
+use Rattle.std.specs.Prelude.{◌≡◌, Some}
+use Rattle.bc_started.specs.bc_begun.Begin.{first_seq}
 use Rattle.bc_started.specs.bc_cached.Laws.{parts_in}
 use Rattle.bc_disk.specs.Disk.{DiskFacts}
 use Rattle.bc_facts.specs.Layout.{IsLayoutOf}
@@ -37,17 +38,17 @@ module _ {C B : Type 0} (cache_facts : C → DiskFacts) (backing_facts : B → D
     pub sound : HasSoundParts (pair_of (cache_facts cache) (backing_facts backing) c d) v
 
   -- Such a run is seen from an opening of the core by what the parts say of the pair that the devices
-  -- held before, wherever the seqs of new nodes go on.
+  -- held before, where the seqs of new nodes go on at the number of the newest entry.
   abbrev pub LawSession : Type 0
   LawSession = (s : Survey) (b : BackingSuper) (cache : C) (backing : B) (c d : Image)
-      (v : pairs.View) (layout : Layout) (next_seq : ℕ) (loaded : Loaded)
+      (v : pairs.View) (layout : Layout) (loaded : Loaded)
       (parts : PartsView (CorePart C B))
       (seat : View cache_facts backing_facts) → HoldSound s b cache backing c d v
       → IsLayoutOf v.geometry layout
       → (over : IsRunOver cache_facts backing_facts s b cache backing loaded parts seat)
       → (o : Origin) × IsStartedFrom (pair_of (cache_facts cache) (backing_facts backing) c d) v
       layout (parts_in (ready_of loaded cache over.part) over.is_loaded.are.leaves.pending)
-      next_seq (world cache_facts backing_facts seat) o
+      (first_seq loaded.journal) (world cache_facts backing_facts seat) o
 
   -- Wherever its devices stop before it does more, they leave a sound pair that shows what the pair
   -- showed, and the backing device but for `dirty` as it was.

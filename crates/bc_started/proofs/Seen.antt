@@ -54,7 +54,7 @@ module _ {C B : Type 0} (cache_facts : C → DiskFacts) (backing_facts : B → D
       (run.0.follows o is course, here.0, course) untorn
 
   pub law_started : LawStarted {C = C} {B = B} cache_facts backing_facts
-  law_started p v layout read pending count was ready next_seq parts seat h view sound divided
+  law_started p v layout read pending count was ready parts seat h view sound divided
       of on =
       let many : 5 < length parts.run.start =
       subst (λ (ps : List (CorePart C B)). 5 < length ps) (sym h.start) (omega arith) in
@@ -69,7 +69,7 @@ module _ {C B : Type 0} (cache_facts : C → DiskFacts) (backing_facts : B → D
         promises = refl;
         works = newcomer_works cache_facts backing_facts parts h.seats many;
       } in
-      let one = law_seen cache_facts backing_facts p v layout read pending count was ready next_seq
+      let one = law_seen cache_facts backing_facts p v layout read pending count was ready
       parts (newcomer parts) begun view sound divided of on in
       let o = one.0 in
       let first : World = opening cache_facts backing_facts seat.run.start in

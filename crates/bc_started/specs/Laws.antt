@@ -1,6 +1,7 @@
 -- What a run that was started stands for.
 use Rattle.std.specs.Prelude.{◌≡◌, ℕ, List, [], ◌∷◌, map}
 use Rattle.bc_cached.specs.Laws.{StandsOn, parts_in}
+use Rattle.bc_cached.specs.bc_begun.Begin.{first_seq}
 use Rattle.bc_cached.specs.declared.run.Ready.{Ready}
 use Rattle.bc_cached.specs.bc_chosen.Parts.{ArePartsOf, Parts, choices_of}
 use Rattle.bc_entry.specs.bc_deed.Flushed.{HasDone}
@@ -48,11 +49,11 @@ pub record IsStartedFrom (p : Pair) (v : View) (layout : Layout) (x : Parts) (ne
 abbrev pub LawStarted : {C B : Type 0} → (C → DiskFacts) → (B → DiskFacts) → Type 0
 LawStarted {C} {B} cache_facts backing_facts =
     (p : Pair) (v : View) (layout : Layout) (read : Read) (pending : List (List Numbered))
-    (count : ℕ) (was : C) (ready : Ready C B) (next_seq : ℕ) (parts : PartsView (CorePart C B))
+    (count : ℕ) (was : C) (ready : Ready C B) (parts : PartsView (CorePart C B))
     (seat : seats.View cache_facts backing_facts)
     → HasStarted cache_facts backing_facts v.geometry read ready parts seat → IsView p v
     → HasSoundParts p v → IsLayoutOf v.geometry layout
     → ArePartsOf v.geometry v.reading (parts_in ready pending)
     → StandsOn cache_facts backing_facts p v read pending count was ready
-    → (o : Origin) × IsStartedFrom p v layout (parts_in ready pending) next_seq
+    → (o : Origin) × IsStartedFrom p v layout (parts_in ready pending) (first_seq ready.journal)
     (seats.world cache_facts backing_facts seat) o

@@ -102,7 +102,7 @@ plain_line : (number : ℕ) (l : Line) (a : Answer) (seen : List Event) (ds : Li
 plain_line number line.Silent a seen ds h = plain_one a seen ds h
 plain_line number (line.Request worker phase Flush) a seen ds h =
     plain_flush (record { worker = worker; line = number }) a seen ds h
-plain_line number (line.Request worker phase action) a seen ds h = plain_one a seen ds h
+plain_line number (line.Request worker phase action) a seen ds h = plain_one a seen ds h.1
 
 module _ {C B : Type 0} (cache_facts : C → DiskFacts) (facts : B → DiskFacts) where
   all_plain : (p : PartsView (CorePart C B)) (size number : ℕ) (ls : List Line)

@@ -123,7 +123,7 @@ line_failed number line.Silent seen ds a caused is = caused_failed seen ds a cau
 line_failed number (line.Request worker phase Flush) seen ds a caused is =
     flush_failed (record { worker = worker; line = number }) seen ds a caused is
 line_failed number (line.Request worker phase action) seen ds a caused is =
-    caused_failed seen ds a caused is
+    caused_failed seen ds a caused.1 is
 
 -- what was seen goes on to be
 failed_behind : (xs ys : List Event) (ds : List Deed) → ys ≡ xs ++ map (by 16) ds

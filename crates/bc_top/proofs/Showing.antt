@@ -9,6 +9,7 @@ use Rattle.bc_sound_reads.specs.bc_cached_serve.Served.{AreAnswered, HaveServed}
 use Rattle.bc_sound_reads.specs.bc_cached_serve.declared.unsound.Unsound.{Unsound}
 use Rattle.bc_sound_reads.specs.bc_cached_serve.declared.whole_run.Outcome.{Outcome}
 use Rattle.bc_disk.specs.Disk.{DiskFacts, IfTold, IsHonest}
+use Rattle.bc_session_laws.specs.bc_begun.Begin.{first_seq}
 use Rattle.bc_session_laws.specs.bc_entered.Laws.{ShowsTheSame}
 use Rattle.bc_events.specs.Columns.{entries_of, entry_by}
 use Rattle.bc_events.specs.declared.event.Deed.{Deed}
@@ -290,13 +291,13 @@ module _ {C B : Type 0} (cache_facts : C → DiskFacts) (facts : B → DiskFacts
         some : (o : Origin)
             × IsSeenFrom cache_facts facts b s cache backing lines r run p v o
         some =
-            let x = law_session cache_facts facts s b run.read backing c d v (made v.geometry) 0
+            let x = law_session cache_facts facts s b run.read backing c d v (made v.geometry)
             run.loaded run.over.parts run.over.seat hold (is_layout v.geometry) over in (
               x.0,
               record {
                 layout = made v.geometry;
                 divided = is_layout v.geometry;
-                next_seq = 0;
+                next_seq = first_seq run.loaded.journal;
                 started = x.1;
               },
             )

@@ -1,4 +1,4 @@
-use Rattle.std.proofs.Common.{◌<◌, List, length, refl, sym, ap, ◌∙◌, subst, arith}
+use Rattle.std.proofs.Common.{◌≡◌, ◌<◌, List, length, refl, sym, ap, ◌∙◌, subst, arith}
 use Rattle.std.specs.Prelude.{map}
 use Rattle.bc_parts.specs.Machine.{StandFrom}
 use Rattle.bc_begun.specs.bc_machine.World.{opening}
@@ -6,8 +6,8 @@ use Rattle.bc_begun.specs.bc_machine.declared.part.CorePart.{CorePart}
 use Rattle.bc_begun.specs.bc_machine.declared.part.CorePart.TheVariants as part
 use Rattle.bc_deed.specs.bc_hand.Seats.{View, Works, core, empty}
 use Rattle.bc_begun.specs.bc_machine.declared.part.BucketsPart.{BucketsPart}
-use Rattle.bc_tree.specs.Spine.{Spine}
-use Rattle.bc_begun.specs.Begin.{Beginning, parts_of}
+use Rattle.bc_journal.specs.Journal.{Journal}
+use Rattle.bc_begun.specs.Begin.{Beginning, first_seq, resting}
 use Rattle.bc_cached.specs.Begun.{AreUnopened}
 use Rattle.bc_cached.proofs.Beginning.{begins, made, newcomer_works}
 use Rattle.bc_cached.proofs.run.begin.Goals as goal
@@ -22,14 +22,17 @@ new-requires-3-clause-stand g c =
       backing = c.args.ready.backing;
       leaves = c.args.ready.leaves.items;
     } in
+    let is : c.in-Ok-set_apart.large.tree ≡ resting c.args.ready.tree (first_seq k.journal) =
+    c.in-Ok-set_apart.ensures.0 ∙ c.at_rest-tree.ensures
+    ∙ ap (λ (j : Journal). resting c.args.ready.tree (first_seq j)) (sym c.in-Ok-set_apart.ensures.2) in
     subst (λ (ps : List (CorePart g.row.C.Denot g.row.B.Denot)).
     StandFrom (core g.C.Disk.facts g.B.Disk.facts) (opening g.C.Disk.facts g.B.Disk.facts ps) 0 ps)
-    (sym (made g.C.Disk.facts g.B.Disk.facts c.in-Ok-set_apart.large.tree k _ _ _ _ _ _ _ _
+    (sym (made g.C.Disk.facts g.B.Disk.facts c.args.ready.tree k c.in-Ok-set_apart.large.tree is _ _ _ _ _ _ _ _
     c.in-Ok-with_capacity.ensures.items c.push_reserved.ensures.items
     c.push_reserved-2.ensures.items c.push_reserved-3.ensures.items
     c.push_reserved-4.ensures.items c.push_reserved-5.ensures.items
     c.push_reserved-6.ensures.items c.add_leaves.ensures))
-    (begins g.C.Disk.facts g.B.Disk.facts c.in-Ok-set_apart.large.tree k c.in-Ok.ensures.0 c.in-Ok.ensures.1
+    (begins g.C.Disk.facts g.B.Disk.facts c.args.ready.tree k c.in-Ok.ensures.0 c.in-Ok.ensures.1
     c.in-Ok.ensures.2 c.in-Ok.ensures.3
     c.requires.cache c.requires.backing c.requires.inside)
 
@@ -42,16 +45,19 @@ devices_in-requires g c =
       cache = c.args.ready.cache;
       backing = c.args.ready.backing;
       leaves = c.args.ready.leaves.items;
-    } in (
+    } in
+    let is : c.in-Ok-set_apart.large.tree ≡ resting c.args.ready.tree (first_seq k.journal) =
+    c.in-Ok-set_apart.ensures.0 ∙ c.at_rest-tree.ensures
+    ∙ ap (λ (j : Journal). resting c.args.ready.tree (first_seq j)) (sym c.in-Ok-set_apart.ensures.2) in (
       k.cache,
       k.backing,
       (
-        part.Spine c.in-Ok-set_apart.large.tree,
+        part.Spine (resting c.args.ready.tree (first_seq k.journal)),
         part.Flight k.flight,
         part.Buckets k.buckets,
         part.Journal k.journal,
         map part.Leaves k.leaves,
-        c.in-Err.ensures.err.0 ∙ made g.C.Disk.facts g.B.Disk.facts c.in-Ok-set_apart.large.tree k _ _ _ _ _ _ _ _
+        c.in-Err.ensures.err.0 ∙ made g.C.Disk.facts g.B.Disk.facts c.args.ready.tree k c.in-Ok-set_apart.large.tree is _ _ _ _ _ _ _ _
             c.in-Ok-with_capacity.ensures.items c.push_reserved.ensures.items
             c.push_reserved-2.ensures.items c.push_reserved-3.ensures.items
             c.push_reserved-4.ensures.items c.push_reserved-5.ensures.items
@@ -69,13 +75,15 @@ returns-in-Ok-new-clause-ok g c =
       backing = c.args.ready.backing;
       leaves = c.args.ready.leaves.items;
     } in
+    let is : c.in-Ok-set_apart.large.tree ≡ resting c.args.ready.tree (first_seq k.journal) =
+    c.in-Ok-set_apart.ensures.0 ∙ c.at_rest-tree.ensures
+    ∙ ap (λ (j : Journal). resting c.args.ready.tree (first_seq j)) (sym c.in-Ok-set_apart.ensures.2) in
     let ok = c.in-Ok-new.ensures.ok in
-    let start = ok.0 ∙ made g.C.Disk.facts g.B.Disk.facts c.in-Ok-set_apart.large.tree k _ _ _ _ _ _ _ _
+    let start = ok.0 ∙ made g.C.Disk.facts g.B.Disk.facts c.args.ready.tree k c.in-Ok-set_apart.large.tree is _ _ _ _ _ _ _ _
     c.in-Ok-with_capacity.ensures.items c.push_reserved.ensures.items
     c.push_reserved-2.ensures.items c.push_reserved-3.ensures.items
     c.push_reserved-4.ensures.items c.push_reserved-5.ensures.items
-    c.push_reserved-6.ensures.items c.add_leaves.ensures
-    ∙ ap (λ (t : Spine). parts_of t k) c.in-Ok-set_apart.ensures.0 in
+    c.push_reserved-6.ensures.items c.add_leaves.ensures in
     let many : 5 < length c.in-Ok-new.run'.0.run.start =
     subst (λ (ps : List (CorePart g.row.C.Denot g.row.B.Denot)). 5 < length ps) (sym start)
     (omega arith) in

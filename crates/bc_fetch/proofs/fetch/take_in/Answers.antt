@@ -29,9 +29,9 @@ returns-in-Ok-clause-works g c =
     let tree = c.requires.spine in
     let part = its_number h _ l c.requires.part is in
     works_with g.C.Disk.facts g.B.Disk.facts p v h l c.put_leaf-slot.new.cache c.requires.works is
-    (put_leaves (world g.C.Disk.facts g.B.Disk.facts v) tree.spine (l.part - 6) l.cache
+    (put_leaves (world g.C.Disk.facts g.B.Disk.facts v) tree.part.spine (l.part - 6) l.cache
     c.args.range.now c.key_of-key.result c.args.bytes.now c.in-Ok.leaf
-    (spine_in_hand g.C.Disk.facts g.B.Disk.facts p v h tree.spine c.requires.works tree.is)
+    (spine_in_hand g.C.Disk.facts g.B.Disk.facts p v h tree.part c.requires.works tree.is)
     tree.range_in (in_hand g.C.Disk.facts g.B.Disk.facts p v h l c.requires.works is).1
     (its_part g.C.Disk.facts g.B.Disk.facts p v c.args.range.now.number l.part c.requires.works.run
     part)
@@ -95,8 +95,8 @@ returns-in-Err-clause-err g c =
     c.key_of-key.result c.args.bytes.now c.args.bucket is
     c.key_of-key.ensures.names
     (record {
-      spine = tree.spine;
-      tree = spine_in_hand g.C.Disk.facts g.B.Disk.facts c.args.parts.now v h tree.spine
+      spine = tree.part.spine;
+      tree = spine_in_hand g.C.Disk.facts g.B.Disk.facts c.args.parts.now v h tree.part
           c.requires.works tree.is;
       range_in = tree.range_in;
     })

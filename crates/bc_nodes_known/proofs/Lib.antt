@@ -1,0 +1,10 @@
+mod Own
+mod Places
+mod Nodes
+mod Drafts
+mod Vacant
+mod Roots
+mod Regroup
+mod Beyond
+mod Install
+pub mod Law
