@@ -1,7 +1,7 @@
 -- An opening from which a run that begins is seen.
 use Rattle.std.proofs.Common.{◌≡◌, ℕ, zero, suc, ◌+◌, ◌-◌, ◌<◌, ◌&&◌, Bool, true, false, List, [], ◌∷◌, length, Option, refl, sym, ap, ◌∙◌, subst, arith, ◌≢◌, inl, inr, Some, None, if◌then◌else◌}
 use Rattle.std.specs.Prelude.{◌^◌, ◌≤◌, ◌/◌, map, nat_le, nat_lt, slice_index_or}
-use Rattle.std.proofs.Math.Nat.{div-mul-le_self}
+use Rattle.std.proofs.Math.Nat.{div-mul-le_self, mul_comm}
 use Rattle.std.proofs.lemmas.Bool.{le-ltb}
 use Rattle.std.proofs.lemmas.Nat.{le-div}
 use Rattle.bc_cache.specs.Slots.{NodeCache}
@@ -19,6 +19,7 @@ use Rattle.bc_image.specs.Pair.{Pair}
 use Rattle.bc_image.specs.Reading.{IsView, View}
 use Rattle.bc_image.specs.Sound.{HasSoundParts}
 use Rattle.bc_image.specs.Tree.{Node}
+use Rattle.bc_jset.specs.Entries.{bucket_start}
 use Rattle.bc_known.specs.Laws.{IsSound}
 use Rattle.bc_leaves.specs.Parts as parts
 use Rattle.bc_machine.specs.Containers.{AreLeavesOf, IsInTree}
@@ -54,6 +55,24 @@ in_order : (g : Geometry) (a b s t : ℕ) → s ≤ t → a ≡ counted g (bucke
     → b ≡ counted g (bucket_at g t) → a ≤ b
 in_order g a b s t le at_s at_t =
     let up = div_rises g.bucket s t le in omega (arith, at_s, at_t, up)
+
+-- what lies behind a bucket is in a later one
+behind_bucket : (g : Geometry) (q t b : ℕ) → 0 < g.bucket → bucket_start g q + g.bucket ≤ t
+    → b ≡ counted g (bucket_at g t) → q < b
+behind_bucket g q t b some le at =
+    let turned = mul_comm g.bucket (g.first_bucket + q) in
+    let low : suc (g.first_bucket + q) ≤ t / g.bucket =
+    le-div (suc (g.first_bucket + q)) t g.bucket some (omega (arith, turned, le)) in
+    omega (arith, at, low)
+
+ends_of : (g : Geometry) (w l : Layout) → IsLayoutOf g l → w ≡ l → (bucket : ℕ → ℕ)
+    → ((place : ℕ) → bucket place ≡ counted g (bucket_at g place)) → 0 < w.bucket_sectors
+    → (q t : ℕ) → w.first q + w.bucket_sectors ≤ t → q < bucket t
+ends_of g w l cut is bucket at some q t le =
+    let size : w.bucket_sectors ≡ g.bucket =
+    ap (λ (x : Layout). x.bucket_sectors) is ∙ cut.bucket_sectors in
+    let begins : w.first q ≡ bucket_start g q = ap (λ (x : Layout). x.first q) is ∙ cut.first q in
+    behind_bucket g q t (bucket t) (omega (arith, size, some)) (omega (arith, size, begins, le)) (at t)
 
 -- ---- leaf parts
 
@@ -208,6 +227,8 @@ module _ {C B : Type 0} (cache_facts : C → DiskFacts) (backing_facts : B → D
       slots = in_slots p v layout x w st h;
       order = λ s t le. in_order v.geometry (w.flow.books.bucket s) (w.flow.books.bucket t) s t le
           (h.opening.books.bucket s) (h.opening.books.bucket t);
+      ends = ends_of v.geometry w.layout layout divided h.opening.layout_is w.flow.books.bucket
+          h.opening.books.bucket;
       calm = h.opening.parts.change;
       begun = begun;
     }

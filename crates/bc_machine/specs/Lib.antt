@@ -2,6 +2,7 @@ pub mod Plain
 pub mod Containers
 pub mod World
 pub mod Roots
+pub mod Comes
 pub mod Frame
 pub mod Standing
 pub mod Note

@@ -46,6 +46,7 @@ use Rattle.bc_machine.specs.declared.part.CorePart.TheVariants as part
 use Rattle.bc_machine.specs.Containers.{IsInTree, IsTreeLeaf, IsTreeInner, inner_slot, IsSpineOf, Rests, IsAtRest, IsSpinePartOf, IsLeafFor, AreLeavesOf, IsJournalOf, IsBucketFor, pins_of, pins_in, AreBucketsOf}
 use Rattle.bc_machine.specs.World.{Side, model, behind, same_device, called, counted, held_after, held_after_failure, Begun, World, is_told, after, data_of, Origin, replay, IsCourseOf, IsOrigin, EndsItsChange, CanFollow, IsEnabled, is_call_of, touches_flight, lies_in, any_in, change_in, write_in, root_in, fault_in, touches_leaves, changes, claim_in, share_of, Kept, kept_of, notes_candidate, candidates_noted, IsCandidateOf, EachIsOf, AreCandidatesOf, seen_from, IsView, InEach, IsFlightOf, FromEach, IsSpine, IsSpinePart, AreBuckets, IsJournal, AreLeaves, IsCache, IsBackingOf, StandsAs, opening}
 use Rattle.bc_machine.specs.Roots.{NameTheSame, law_root}
+use Rattle.bc_machine.specs.Comes.{write_spares, root_spares, fault_spares, spares, tree_spared, law_comes}
 use Rattle.bc_machine.specs.Frame.{Range, range_of, by_test, Claims, OnBacking, stays_event}
 
 -- ---- claims and devices
@@ -137,6 +138,7 @@ origin_before x e o h = record {
   sound = h.sound;
   slots = h.slots;
   order = h.order;
+  ends = h.ends;
   calm = h.calm;
   begun = h.begun;
 }
@@ -347,39 +349,40 @@ any_off count part k (y ∷ ys) is off = let both = not_or (lies_in count part y
     ∙ any_off count part k ys is both.1
 
 change_off : (count part k : ℕ) (c : Change) → k % count ≡ part → change_in count part c ≡ false
-    → among_leaves k c ≡ false
-change_off count part k c is off =
-    let both = not_or (any_in count part c.gone.items) (any_in count part c.come.items) off in
-    ap (λ b. b || has c.come.items k) (any_off count part k c.gone.items is both.0)
-    ∙ any_off count part k c.come.items is both.1
+    → has c.come.items k ≡ false → among_leaves k c ≡ false
+change_off count part k c is off new =
+    ap (λ b. b || has c.come.items k) (any_off count part k c.gone.items is off) ∙ new
 
 write_leaf_off : (count part k : ℕ) (what : Written) → k % count ≡ part
-    → write_in count part what ≡ false → write_touches_leaf k what ≡ false
-write_leaf_off count part k (written.Set leaf) is off = lies_off count part k leaf is off
-write_leaf_off count part k (written.Parent inner change) is off = change_off count part k change is off
-write_leaf_off count part k (written.Leaf node) is off = lies_off count part k node.slot is off
-write_leaf_off count part k what is off = refl
+    → write_in count part what ≡ false → write_spares k what → write_touches_leaf k what ≡ false
+write_leaf_off count part k (written.Set leaf) is off new = lies_off count part k leaf is off
+write_leaf_off count part k (written.Parent inner change) is off new =
+    change_off count part k change is off new
+write_leaf_off count part k (written.Leaf node) is off new = new
+write_leaf_off count part k what is off new = refl
 
 fault_leaf_off : (count part k : ℕ) (x : Failure) → k % count ≡ part → fault_in count part x ≡ false
-    → fault_touches_leaf k x ≡ false
-fault_leaf_off count part k (failure.CacheWrite at what values) is off = write_leaf_off count part k what is off
-fault_leaf_off count part k x is off = refl
+    → fault_spares k x → fault_touches_leaf k x ≡ false
+fault_leaf_off count part k (failure.CacheWrite at what values) is off new =
+    write_leaf_off count part k what is off new
+fault_leaf_off count part k x is off new = refl
 
 root_off : (count part k : ℕ) (o : Option NewRoot) → k % count ≡ part → root_in count part o ≡ false
-    → root_touches_leaf k o ≡ false
-root_off count part k None is off = refl
-root_off count part k (Some x) is off = change_off count part k x.change is off
+    → root_spares k o → root_touches_leaf k o ≡ false
+root_off count part k None is off new = refl
+root_off count part k (Some x) is off new = change_off count part k x.change is off new
 
 leaf_off : (count part k : ℕ) (d : Deed) → k % count ≡ part → touches_leaves count part d ≡ false
-    → touches_leaf k d ≡ false
-leaf_off count part k (deed.InsertWrite leaf keys of first values) is off = lies_off count part k leaf is off
-leaf_off count part k (deed.Insert leaf keys form) is off = lies_off count part k leaf is off
-leaf_off count part k (deed.Settle leaf candidate keys) is off = lies_off count part k leaf is off
-leaf_off count part k (deed.CacheWrite at what values) is off = write_leaf_off count part k what is off
-leaf_off count part k (deed.Seal last_seq bucket rest new_root chain) is off = root_off count part k new_root is off
-leaf_off count part k (deed.Install change come gone) is off = change_off count part k change is off
-leaf_off count part k (deed.DeviceFault x) is off = fault_leaf_off count part k x is off
-leaf_off count part k d is off = refl
+    → spares k d → touches_leaf k d ≡ false
+leaf_off count part k (deed.InsertWrite leaf keys of first values) is off new = lies_off count part k leaf is off
+leaf_off count part k (deed.Insert leaf keys form) is off new = lies_off count part k leaf is off
+leaf_off count part k (deed.Settle leaf candidate keys) is off new = lies_off count part k leaf is off
+leaf_off count part k (deed.CacheWrite at what values) is off new = write_leaf_off count part k what is off new
+leaf_off count part k (deed.Seal last_seq bucket rest new_root chain) is off new =
+    root_off count part k new_root is off new
+leaf_off count part k (deed.Install change come gone) is off new = change_off count part k change is off new
+leaf_off count part k (deed.DeviceFault x) is off new = fault_leaf_off count part k x is off new
+leaf_off count part k d is off new = refl
 
 -- so it names what leaves and comes
 pub ends_named : (st : parts.State) (d : Deed) → EndsItsChange st d → NamesItsChange st d
@@ -399,6 +402,26 @@ leaf_same x o e k is course follows off some = subst (λ (st : core.State). Name
     (happens x o e is course follows.enabled) k off names there)
     (ends_named (replay o x.log).machine.whole.parts e.deed follows.names) some
 
+-- what a leaf of the tree is to a deed that touches none of its part
+tree_off : (x : World) (o : Origin) (e : Event) (part k : ℕ) → CanFollow (seen_from o x) e
+    → k % x.begun.leaf_parts ≡ part → touches_leaves x.begun.leaf_parts part e.deed ≡ false
+    → IsInTree ((replay o x.log).machine.whole.parts.leaves k).role → touches_leaf k e.deed ≡ false
+tree_off x o e part k follows its off there = leaf_off x.begun.leaf_parts part k e.deed its off
+    (tree_spared o.opening (replay o x.log) e.seat k there e.deed follows.enabled follows.names)
+
+slot_stays : (x : World) (o : Origin) (e : Event) (part k : ℕ) → CanFollow (seen_from o x) e
+    → k % x.begun.leaf_parts ≡ part → touches_leaves x.begun.leaf_parts part e.deed ≡ false
+    → IsInTree ((replay o x.log).machine.whole.parts.leaves k).role
+    → (core.after o.opening (replay o x.log) e).machine.whole.parts.leaves k
+    ≡ (replay o x.log).machine.whole.parts.leaves k
+slot_stays x o e part k follows its off there =
+    law_slot o.opening (replay o x.log) e follows.enabled k
+    (tree_off x o e part k follows its off there)
+    (ends_named (replay o x.log).machine.whole.parts e.deed follows.names)
+
+free_leaving : Free ≡ Leaving → ⊥
+free_leaving is = cc
+
 leaves_stay : (part : ℕ) (c : NodeCache) (x : World) (e : Event)
     → touches_leaves x.begun.leaf_parts part e.deed ≡ false → AreLeaves part c x
     → AreLeaves part c (after x e)
@@ -410,19 +433,21 @@ leaves_stay part c x e off = from_each x e
       leaves = λ i cached at. let one = h.leaves i cached at in
           subst (λ (s : LeafShare). IsLeafFor o.opening.machine s cached.leaf)
           (sym (leaf_same x o e cached.number is course follows
-          (leaf_off x.begun.leaf_parts part cached.number e.deed (h.rest i cached at) off)
+          (tree_off x o e part cached.number follows (h.rest i cached at) off one.at.role)
           (in_tree_some _ one.at.role))) one;
       others = λ k its live misses.
-          let same = law_slot o.opening (replay o x.log) e follows.enabled k
-          (leaf_off x.begun.leaf_parts part k e.deed its off)
-          (ends_named (replay o x.log).machine.whole.parts e.deed follows.names) in
-          ap (λ (l : parts.Leaf). l.pending) same
-          ∙ h.others k its (subst (λ (l : parts.Leaf). IsInTree l.role) same live) misses;
+          elim (law_comes o.opening (replay o x.log) e follows.enabled follows.names k live) [
+            | inl there ↦ ap (λ (l : parts.Leaf). l.pending)
+                (slot_stays x o e part k follows its off there) ∙ h.others k its there misses
+            | inr new ↦ new.bare
+          ];
       leaving = λ k its leaves.
-          let same = law_slot o.opening (replay o x.log) e follows.enabled k
-          (leaf_off x.begun.leaf_parts part k e.deed its off)
-          (ends_named (replay o x.log).machine.whole.parts e.deed follows.names) in
-          h.leaving k its (sym (ap (λ (l : parts.Leaf). l.role) same) ∙ leaves);
+          elim (law_comes o.opening (replay o x.log) e follows.enabled follows.names k
+          (subst IsInTree (sym leaves) tt)) [
+            | inl there ↦ h.leaving k its (sym (ap (λ (l : parts.Leaf). l.role)
+                (slot_stays x o e part k follows its off there)) ∙ leaves)
+            | inr new ↦ absurd (free_leaving (sym new.role ∙ leaves))
+          ];
     })
 
 -- ---- all parts

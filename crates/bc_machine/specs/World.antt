@@ -184,14 +184,16 @@ abbrev pub IsNumbered : List Event → Deed → Type 0
 IsNumbered es (deed.Candidate candidate first count at) = candidate ≡ candidates_noted es
 IsNumbered es d = Unit {0}
 
--- the buckets of what comes are among these
+-- The buckets of what comes are among these, and no leaf that comes has a key but those of its sets.
 pub record MakesNodes (st : parts.State) (buckets : List ℕ) : Type 0 where
   pub leaves : (k : ℕ) → (st.leaves k).role ≡ parts.Coming → has buckets (st.leaves k).bucket ≡ true
   pub inner_nodes : (x : ℕ) → (st.inner_nodes x).role ≡ parts.Coming
       → has buckets (st.inner_nodes x).bucket ≡ true
+  pub bare : (k : ℕ) → (st.leaves k).role ≡ parts.Coming → (st.leaves k).pending ≡ []
 
 -- An install names the leaves that leave and come, and makes the buckets of all that comes nodes: so
--- whoever writes a set of a node of the tree knows that nobody holds its bucket.
+-- whoever writes a set of a node of the tree knows that nobody holds its bucket. What comes has
+-- nothing pending, so that no part with leaves has to have it.
 abbrev pub EndsItsChange : parts.State → Deed → Type 0
 EndsItsChange st (deed.Install change come gone) =
     NamesChange st change × MakesNodes st come.items
@@ -266,6 +268,10 @@ pub record IsOrigin (x : World) (o : Origin) : Type 0 where
   -- buckets lie in the order of their numbers
   pub order : (s t : ℕ) → s ≤ t → o.opening.machine.flow.books.bucket s
       ≤ o.opening.machine.flow.books.bucket t
+  -- and what lies behind a bucket is in a later one, also behind the last one of the device
+  pub ends : 0 < o.opening.machine.layout.bucket_sectors → (q t : ℕ)
+      → o.opening.machine.layout.first q + o.opening.machine.layout.bucket_sectors ≤ t
+      → q < o.opening.machine.flow.books.bucket t
   -- no change of the tree is under way as a run begins
   pub calm : o.parts.change ≡ parts.NoChange
   pub begun : HasBegun x.begun o
@@ -316,13 +322,13 @@ abbrev pub any_in : (count part : ℕ) → List ℕ → Bool
 any_in count part [] = false
 any_in count part (k ∷ ks) = lies_in count part k || any_in count part ks
 
+-- A part has the leaves of the tree: so it stands for what it did whatever comes, until that is read.
 abbrev pub change_in : (count part : ℕ) → Change → Bool
-change_in count part c = any_in count part c.gone.items || any_in count part c.come.items
+change_in count part c = any_in count part c.gone.items
 
 abbrev pub write_in : (count part : ℕ) → Written → Bool
 write_in count part (written.Set leaf) = lies_in count part leaf
 write_in count part (written.Parent inner change) = change_in count part change
-write_in count part (written.Leaf node) = lies_in count part node.slot
 write_in count part what = false
 
 abbrev pub root_in : (count part : ℕ) → Option NewRoot → Bool

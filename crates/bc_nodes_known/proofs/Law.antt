@@ -12,7 +12,7 @@ use Rattle.bc_meta.specs.Layout.{Layout, node_end, set_len}
 use Rattle.bc_meta.specs.Places.{CanAppend, Places, node_behind}
 use Rattle.bc_meta.specs.Records.{Node, Nothing, Fixed, Ready, Safe, Sent, Records, Stage}
 use Rattle.bc_meta.specs.Tree.{NodeSet, Owner, set_keys}
-use Rattle.bc_leaves.specs.Parts.{NoNode, Draft, Free, Leaving, Coming, Role, IsLive, keys_of, node_of, inner_node_of, ready_number}
+use Rattle.bc_leaves.specs.Parts.{NoNode, Draft, Free, Leaving, Coming, NoChange, Role, IsLive, keys_of, node_of, inner_node_of, ready_number}
 use Rattle.bc_leaves.specs.Parts as parts
 use Rattle.bc_leaves.specs.Fits.{Fits, last_keys}
 use Rattle.bc_leaves.specs.Keys.{last_said, ref_said}
@@ -39,7 +39,8 @@ use Rattle.bc_looks.proofs.Law.{law_slots}
 use Rattle.bc_looks.specs.bc_machine.Containers.{HasSets, IsInTree, sets_len}
 use Rattle.bc_looks.specs.bc_machine.Standing.{oldest_first, replay_is, replay_runs}
 use Rattle.bc_looks.specs.bc_machine.World.{Follows, IsCourseOf, IsReadTree, Origin, replay}
-use Rattle.bc_nodes_known.specs.Nodes.{AreNodes, AreOwn, AreStill, IsOwn, LawAppend, LawAppendParent, LawBarrier, LawDraft, LawInstall, LawListed, LawNodes, LawOwn, LawRegroup, LawRoot, LawSaid, LawStill, LawUnnamed, LawVacant, StayDrafts, StayNamed, StayVacant}
+use Rattle.bc_nodes_known.specs.Nodes.{AreNodes, AreOwn, AreStill, IsOwn, LawAppend, LawAppendParent, LawBare, LawBarrier, LawDraft, LawInstall, LawListed, LawNodes, LawOwn, LawRegroup, LawRoot, LawSaid, LawStill, LawUnnamed, LawVacant, StayDrafts, StayNamed, StayVacant}
+use Rattle.bc_nodes_known.proofs.Bare.{ComesBare, bare_run}
 use Rattle.bc_nodes_known.proofs.Beyond.{Beyond, SameSlots, beyond_installed, beyond_kept, slots_kept}
 use Rattle.bc_nodes_known.proofs.Drafts.{drafts_kept, settled_all}
 use Rattle.bc_nodes_known.proofs.Install.{install_enabled}
@@ -119,6 +120,39 @@ own_course o sound read es on =
 
 pub law_own : LawOwn
 law_own x o is course = own_course o is.sound is.begun.read x.log course
+
+-- ---- leaves that come
+
+bare_core : (w : core.Opening) (x : parts.State) (n : ℕ) (es : List Event) → IsSound w.machine x
+    → core.IsRun w (core.start w x n) es → ComesBare x
+    → ComesBare (core.run w (core.start w x n) es).machine.whole.parts
+bare_core w x n es sound on h =
+    let m = law_machine w (core.start w x n) es on in
+    subst (λ (y : State). ComesBare y.whole.parts) (sym m.last)
+    (bare_run w.machine x sound (core.start w x n).machine
+    (core.machine_events w (core.start w x n) es) m.course
+    (at_end w.machine x n [] sound tt) h)
+
+-- as a run begins nothing comes
+coming_live : (r : Role) → r ≡ Coming → IsLive r
+coming_live r is = subst IsLive (sym is) tt
+
+begun_bare : (o : Origin) → IsSound o.opening.machine o.parts → o.parts.change ≡ NoChange
+    → ComesBare o.parts
+begun_bare o sound calm k coming =
+    let inv = inv_at o.opening.machine o.parts
+    (core.start o.opening o.parts o.next_seq).machine.whole sound
+    (at_end o.opening.machine o.parts o.next_seq [] sound tt).at in
+    let free = inv.fits.quiet.calm calm k (coming_live (o.parts.leaves k).role coming) in
+    absurd (let is : Free ≡ Coming = sym free ∙ coming in cc)
+
+pub law_bare : LawBare
+law_bare x o is course = record {
+  drafts = λ k draft. ((inv_course o is.sound x.log course).fits.leaves.drafts k draft).none;
+  coming = subst (λ (st : core.State). ComesBare st.machine.whole.parts) (sym (replay_is o x.log))
+      (bare_core o.opening o.parts o.next_seq (oldest_first x.log) is.sound
+      (replay_runs o x.log course) (begun_bare o is.sound is.calm));
+}
 
 -- ---- nothing under way
 

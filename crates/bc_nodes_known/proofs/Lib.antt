@@ -1,4 +1,5 @@
 mod Own
+mod Bare
 mod Places
 mod Nodes
 mod Drafts

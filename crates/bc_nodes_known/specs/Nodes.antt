@@ -14,7 +14,7 @@ use Rattle.bc_meta.specs.Places.{CanAppend, node_behind}
 use Rattle.bc_meta.specs.Records.{Node, Nothing, Records}
 use Rattle.bc_meta.specs.Tree.{NodeSet}
 use Rattle.bc_leaves.specs.Keys.{SaysSame, last_said, ref_said}
-use Rattle.bc_leaves.specs.Parts.{NoNode, Draft, Free, Leaving, BySet, AllUpTo, IsLive, keys_in_leaf, keys_of, node_of, inner_node_of, leaf_owner, inner_owner, sealed_number}
+use Rattle.bc_leaves.specs.Parts.{NoNode, Draft, Free, Leaving, Coming, BySet, AllUpTo, IsLive, keys_in_leaf, keys_of, node_of, inner_node_of, leaf_owner, inner_owner, sealed_number}
 use Rattle.bc_leaves.specs.Parts as parts
 use Rattle.bc_leaves.specs.Rows.{Row}
 use Rattle.bc_leaves.specs.Enabled.{IsMade, IsStable, IsVacant, CanWriteSet}
@@ -219,6 +219,14 @@ pub record LawRoot : Type 0 where
       → NamesRoot r root
 
 -- ---- installs
+
+-- A leaf that nothing names yet has nothing pending, nor has one that comes.
+pub record AreBare (st : parts.State) : Type 0 where
+  pub drafts : (k : ℕ) → (st.leaves k).role ≡ Draft → (st.leaves k).pending ≡ []
+  pub coming : (k : ℕ) → (st.leaves k).role ≡ Coming → (st.leaves k).pending ≡ []
+
+abbrev pub LawBare : Type 0
+LawBare = InCourse (λ o st. AreBare st.machine.whole.parts)
 
 -- The leaves that leave are all of a range, one behind the other, and so are those that come.
 pub record IsWholeChange (p : parts.State) (c : Change) : Type 0 where

@@ -1,5 +1,5 @@
 //! What holds of nodes in each state of a run with a cache, each law the contract of a function.
-ghost use Rattle.bc_nodes_known.specs.Nodes.{LawOwn, LawStill, LawAppend, LawAppendParent, LawSaid, LawNodes, LawListed, LawUnnamed, LawDraft, LawBarrier, LawVacant, LawRoot, LawRegroup, LawInstall};
+ghost use Rattle.bc_nodes_known.specs.Nodes.{LawOwn, LawStill, LawAppend, LawAppendParent, LawSaid, LawNodes, LawListed, LawUnnamed, LawDraft, LawBarrier, LawVacant, LawRoot, LawBare, LawRegroup, LawInstall};
 
 /// Of each node that wasn't read from the device, the core has its number and the place behind its
 /// sets.
@@ -62,6 +62,11 @@ pub fn law_vacant()
 /// While nobody changes the tree, entries name the new root from the one on that was sealed with it.
 pub fn law_root()
     ensures { LawRoot }
+{}
+
+/// A leaf that nothing names yet has nothing pending, nor has one that comes.
+pub fn law_bare()
+    ensures { LawBare }
 {}
 
 /// Where the leaves of a change are all of a range, an install of it may do to the index what it does.
