@@ -26,6 +26,7 @@ origin_after x e o h = record {
   sound = h.sound;
   slots = h.slots;
   order = h.order;
+  ends = h.ends;
   calm = h.calm;
   begun = h.begun;
 }
