@@ -1,0 +1,14 @@
+mod Lists
+mod Filled
+mod Nexts
+mod Said
+mod Places
+mod Begins
+mod Left
+mod Keeping
+mod Turned
+mod Rooting
+mod Sealed
+mod Seated
+mod Going
+mod Staying

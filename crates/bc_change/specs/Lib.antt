@@ -1,0 +1,5 @@
+pub mod Goes
+pub mod Ready
+pub mod Under
+pub mod Laws
+pub mod Root

@@ -1,0 +1,2 @@
+pub mod Law
+pub use Rattle.bc_looks.proofs as of_bc_looks
