@@ -1,6 +1,5 @@
 -- A change that is ready may begin.
-use Rattle.std.proofs.Common.{◌≡◌, ◌≢◌, ◌⊎◌, inl, inr, ℕ, zero, suc, ◌+◌, ◌<◌, ◌≤◌, Bool, true, false, List, [], ◌∷◌, ◌++◌, Option, Some, None, refl, sym, subst, ap, ◌∙◌, arith, if◌then◌else◌}
-use Rattle.std.specs.Prelude.{Contains, map}
+use Rattle.std.proofs.Common.{◌≡◌, ◌⊎◌, inl, inr, ℕ, ◌<◌, ◌≤◌, Bool, true, false, List, [], ◌∷◌, refl, sym, subst, ap, ◌∙◌, arith, if◌then◌else◌}
 use Rattle.bc_books.specs.Shelves.{Held, Tree}
 use Rattle.bc_events.specs.Changes.{buckets_come, inner_buckets, leaf_buckets, without}
 use Rattle.bc_events.specs.declared.event.Change.{Change}
@@ -16,7 +15,7 @@ use Rattle.bc_leaves.specs.Parts.{AllUpTo, Draft, Free, InRange, Stays, inner_no
 use Rattle.bc_leaves.specs.Parts as parts
 use Rattle.bc_leaves.specs.Rows.{Fills, Row}
 use Rattle.bc_leaves.proofs.Chains.{has_in, in_has}
-use Rattle.bc_nodes_known.specs.bc_machine.Containers.{IsLeafFor, child_of, inner_slot}
+use Rattle.bc_nodes_known.specs.bc_machine.Containers.{IsLeafFor, inner_slot}
 use Rattle.bc_meta.specs.Facts.{In}
 use Rattle.bc_meta.specs.Records.{Node}
 use Rattle.bc_meta.specs.Tree.{Child, NodeSet, children_of, set_keys}
@@ -33,11 +32,11 @@ use Rattle.bc_whole.specs.State.{Opening}
 use Rattle.bc_whole.specs.Together.{AreHeldFor}
 use Rattle.bc_nodes_known.proofs.Law.{law_said}
 use Rattle.bc_nodes_known.specs.bc_machine.World.{replay}
-use Rattle.bc_change.specs.Goes.{IsChangeBy, new_nodes, numbers, old_nodes}
-use Rattle.bc_change.specs.Laws.{LawBegin, MayBegin, unused_for}
-use Rattle.bc_change.specs.Ready.{HoldsNew, IsLeafToGo, IsReadyChange}
-use Rattle.bc_change.proofs.Filled.{HasShape, tree_filled}
-use Rattle.bc_change.proofs.Lists.{in_map, map_in, row_ends, row_known, row_last, row_rises}
+use Rattle.bc_change.specs.Goes.{IsChangeBy, new_nodes, old_nodes}
+use Rattle.bc_change.specs.Laws.{LawBegin, unused_for}
+use Rattle.bc_change.specs.Ready.{HoldsNew, IsReadyChange}
+use Rattle.bc_change.proofs.Filled.{tree_filled}
+use Rattle.bc_change.proofs.Lists.{in_map, row_ends, row_known, row_last, row_rises}
 use Rattle.bc_change.proofs.Nexts.{new_in}
 use Rattle.bc_change.proofs.Places.{free_of, goes_in, inner_ready, leaf_free, leaf_place, leaf_ready, leaves_row, new_keys, next_place, old_there, tree_inner, tree_leaf}
 use Rattle.bc_change.proofs.Said.{same_ref}

@@ -1,8 +1,8 @@
 -- The inner nodes of a tree have their children below them.
-use Rattle.std.proofs.Common.{◌≡◌, ◌⊎◌, inl, inr, ℕ, zero, suc, ◌+◌, ◌<◌, ◌≤◌, List, [], ◌∷◌, ◌++◌, refl, sym, subst, ap, ◌∙◌, arith}
-use Rattle.std.specs.Prelude.{All, map}
+use Rattle.std.proofs.Common.{◌≡◌, inl, inr, ℕ, suc, ◌<◌, List, [], ◌∷◌, ◌++◌, refl, sym, subst, ap, ◌∙◌, arith}
+use Rattle.std.specs.Prelude.{map}
 use Rattle.bc_disk.specs.declared.geometry.Geometry.{Geometry}
-use Rattle.bc_facts.proofs.Stood.{all_in, contains_in}
+use Rattle.bc_facts.proofs.Stood.{all_in}
 use Rattle.bc_inner.specs.Inner.{Inner}
 use Rattle.bc_key.specs.Key.{ptr_at}
 use Rattle.bc_key.specs.Words.{ptr_word}
@@ -15,8 +15,8 @@ use Rattle.bc_nodes_known.specs.bc_machine.Containers.{child_of}
 use Rattle.bc_meta.specs.Facts.{In}
 use Rattle.bc_spine.specs.Leaves.{IsRow}
 use Rattle.bc_spine.specs.declared.leaf.LeafRange.{LeafRange}
-use Rattle.bc_tree.specs.Spine.{AreInRow, Covers, IsSpine, NameLeaves, NameNodes, bottom, children_in, last_end}
-use Rattle.bc_tree.proofs.Places.{bottom_row, spans_some}
+use Rattle.bc_tree.specs.Spine.{AreInRow, Covers, IsSpine, NameLeaves, NameNodes, children_in, last_end}
+use Rattle.bc_tree.proofs.Places.{spans_some}
 use Rattle.bc_tree.proofs.Spines.{cover_ends, in_row}
 use Rattle.bc_whole.specs.State.{Opening}
 

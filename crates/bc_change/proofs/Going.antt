@@ -1,7 +1,7 @@
 -- A change that is under way stays so while nobody changes the tree.
-use Rattle.std.proofs.Common.{◌≡◌, ◌≢◌, ◌⊎◌, inl, inr, ℕ, ◌<◌, Bool, true, false, List, [], ◌∷◌, Option, Some, None, refl, sym, ap, ◌∙◌, subst}
-use Rattle.std.specs.Prelude.{◌==◌, Contains}
-use Rattle.bc_books.specs.Shelves.{Held, Shelf, Tree}
+use Rattle.std.proofs.Common.{◌≡◌, ◌≢◌, inl, inr, ℕ, Bool, true, false, List, [], ◌∷◌, Option, Some, None, refl, sym, ap, ◌∙◌, subst}
+use Rattle.std.specs.Prelude.{◌==◌}
+use Rattle.bc_books.specs.Shelves.{Held, Tree}
 use Rattle.bc_events.specs.Run as core
 use Rattle.bc_events.specs.Run.{CanDo, IsSome}
 use Rattle.bc_events.specs.Writes.{map_some, set_in, with_beginning}
@@ -13,30 +13,25 @@ use Rattle.bc_events.specs.declared.event.Failure.TheVariants as failure
 use Rattle.bc_events.specs.declared.event.Written.TheVariants as written
 use Rattle.bc_entry.specs.bc_hand.Seats.{by}
 use Rattle.bc_holds.proofs.Law.{law_held}
-use Rattle.bc_inner.specs.Inner.{Inner}
 use Rattle.bc_known.specs.Acts.{FailCache, WriteCache}
 use Rattle.bc_leaves.specs.Parts.{Role, NoNode, Draft, Free, Leaving, Coming, leaf_owner}
 use Rattle.bc_leaves.specs.Parts as parts
 use Rattle.bc_entry.specs.bc_machine.Containers.{inner_slot}
 use Rattle.bc_entry.specs.bc_machine.Standing.{oldest_first, origin_before, replay_is}
-use Rattle.bc_entry.specs.bc_machine.World.{FromEach, IsCourseOf, IsOrigin, Origin, World, after, replay}
-use Rattle.bc_meta.specs.Facts.{In}
+use Rattle.bc_entry.specs.bc_machine.World.{Origin, replay}
 use Rattle.bc_meta.specs.Tree.{NodeSet}
 use Rattle.bc_meta.proofs.Lists.{by_test}
-use Rattle.bc_node.specs.Leaf.{Leaf}
-use Rattle.bc_nodes_known.specs.Nodes.{IsWholeChange, StayNamed}
+use Rattle.bc_nodes_known.specs.Nodes.{StayNamed}
 use Rattle.bc_nodes_known.proofs.Law.{law_root}
 use Rattle.bc_shares.specs.Laws.{Happens}
-use Rattle.bc_shares.specs.Shares.{BucketsShare, InnerShare, LeafShare, SameSpine, Shape, books_of, inner_share, leaf_share, shape_of}
-use Rattle.bc_shares.specs.Touched.{NamesItsChange, touches_buckets, touches_leaf, touches_spine}
+use Rattle.bc_shares.specs.Shares.{BucketsShare, InnerShare, LeafShare, SameSpine, Shape, books_of, leaf_share}
+use Rattle.bc_shares.specs.Touched.{NamesItsChange, touches_leaf, touches_spine}
 use Rattle.bc_shares.proofs.Law.{law_buckets, law_leaf, law_spine}
-use Rattle.bc_spine.specs.declared.leaf.LeafRange.{LeafRange}
 use Rattle.bc_tree.specs.declared.plan.Plan.{Plan}
 use Rattle.bc_whole.specs.State.{OfSet, Opening}
-use Rattle.bc_change.specs.Goes.{new_leaves, new_nodes}
 use Rattle.bc_change.specs.Laws.{LawByRoot}
-use Rattle.bc_change.specs.Ready.{HoldsNew, IsNewInner, IsNewLeaf}
-use Rattle.bc_change.specs.Under.{IsByRoot, IsUnderWay}
+use Rattle.bc_change.specs.Ready.{IsNewInner, IsNewLeaf}
+use Rattle.bc_change.specs.Under.{IsUnderWay}
 use Rattle.bc_change.proofs.Keeping.{happens}
 use Rattle.bc_change.proofs.Turned.{row_same}
 

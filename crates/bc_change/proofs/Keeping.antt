@@ -1,28 +1,23 @@
 -- New nodes stay ready while others act.
-use Rattle.std.proofs.Common.{◌≡◌, ◌≢◌, ℕ, false, List, refl, sym, ap, ◌∙◌, subst}
-use Rattle.std.specs.Prelude.{Contains}
+use Rattle.std.proofs.Common.{◌≡◌, ℕ, sym, ap, ◌∙◌, subst}
 use Rattle.bc_books.specs.Shelves.{Held, Tree}
 use Rattle.bc_events.specs.Run as core
 use Rattle.bc_events.specs.declared.event.Event.{Event}
 use Rattle.bc_holds.proofs.Law.{law_held}
-use Rattle.bc_inner.specs.Inner.{Inner}
 use Rattle.bc_leaves.specs.Parts.{Draft}
 use Rattle.bc_leaves.specs.Parts as parts
 use Rattle.bc_nodes_known.specs.Nodes.{StayDrafts}
 use Rattle.bc_nodes_known.proofs.Law.{law_draft}
 use Rattle.bc_nodes_known.specs.bc_machine.Containers.{inner_slot}
 use Rattle.bc_nodes_known.specs.bc_machine.Standing.{oldest_first, origin_before, replay_is, replay_runs}
-use Rattle.bc_nodes_known.specs.bc_machine.World.{FromEach, IsCourseOf, IsOrigin, Origin, World, after, replay}
-use Rattle.bc_node.specs.Leaf.{Leaf}
+use Rattle.bc_nodes_known.specs.bc_machine.World.{IsCourseOf, IsOrigin, Origin, World, replay}
 use Rattle.bc_shares.specs.Laws.{Happens}
-use Rattle.bc_shares.specs.Shares.{InnerShare, LeafShare, SameSpine, Shape, books_of, inner_share, leaf_share}
-use Rattle.bc_shares.specs.Touched.{touches_spine}
+use Rattle.bc_shares.specs.Shares.{InnerShare, LeafShare, SameSpine, Shape, books_of}
 use Rattle.bc_shares.proofs.Law.{law_spine}
-use Rattle.bc_spine.specs.declared.leaf.LeafRange.{LeafRange}
 use Rattle.bc_tree.specs.declared.plan.Plan.{Plan}
 use Rattle.bc_whole.specs.State.{Opening}
 use Rattle.bc_change.specs.Laws.{LawReady}
-use Rattle.bc_change.specs.Ready.{AreReady, IsNewInner, IsNewLeaf, IsReadyFor, IsUnchanged}
+use Rattle.bc_change.specs.Ready.{AreReady, IsNewInner, IsNewLeaf, IsUnchanged}
 
 -- an event that doesn't change the tree leaves all roles, and new nodes as they are
 pub ready_kept : (w : Opening) (a b : core.State) (plan : Plan) → SameSpine a.machine b.machine

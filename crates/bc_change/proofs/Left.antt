@@ -1,6 +1,6 @@
--- Once a change has begun, no inner node that stays has a child that leaves, but one that takes a set
--- for it.
-use Rattle.std.proofs.Common.{◌≡◌, ◌≢◌, ◌⊎◌, inl, inr, ℕ, zero, suc, ◌<◌, ◌≤◌, Bool, true, false, List, [], ◌∷◌, ◌++◌, Option, Some, None, refl, sym, subst, ap, ◌∙◌, if◌then◌else◌}
+-- Once a change has begun, no inner node that stays has a child that leaves, but one that takes a
+-- set for it.
+use Rattle.std.proofs.Common.{◌≡◌, ◌≢◌, ◌⊎◌, inl, inr, ℕ, ◌<◌, ◌≤◌, Bool, true, false, List, [], ◌∷◌, ◌++◌, Option, Some, None, refl, sym, subst, ap, ◌∙◌, if◌then◌else◌}
 use Rattle.std.specs.Prelude.{map, slice_get}
 use Rattle.bc_events.specs.declared.event.Change.{Change}
 use Rattle.bc_facts.proofs.Stood.{contains_in}
@@ -14,14 +14,12 @@ use Rattle.bc_leaves.specs.Parts.{Role, NoNode, Draft, Free, Leaving, Coming, Al
 use Rattle.bc_leaves.specs.Parts as parts
 use Rattle.bc_leaves.specs.Rows.{Fills}
 use Rattle.bc_leaves.proofs.Chains.{has_in, in_has}
-use Rattle.bc_nodes_known.specs.bc_machine.Containers.{IsInTree, IsLeafFor, child_of, inner_slot}
+use Rattle.bc_nodes_known.specs.bc_machine.Containers.{IsInTree, IsLeafFor, inner_slot}
 use Rattle.bc_meta.specs.Facts.{In}
-use Rattle.bc_meta.specs.Records.{Nothing}
 use Rattle.bc_meta.specs.Tree.{Child, children_of}
 use Rattle.bc_node.specs.Leaf.{Leaf}
 use Rattle.bc_nodes_known.specs.Nodes.{AreStill}
 use Rattle.bc_shares.specs.Shares.{leaf_share}
-use Rattle.bc_spine.specs.declared.leaf.LeafRange.{LeafRange}
 use Rattle.bc_tree.specs.LastKeys.{LeafKeys}
 use Rattle.bc_tree.specs.Next.{below_next, leaves_next, root_next}
 use Rattle.bc_tree.specs.Spine.{Spine}
@@ -32,9 +30,9 @@ use Rattle.bc_whole.specs.State.{Opening}
 use Rattle.bc_change.specs.Goes.{BringsBy, BringsRoot, IsChangeBy, beside_come, moved, new_nodes, old_nodes, top_moved}
 use Rattle.bc_change.specs.Laws.{unused_for}
 use Rattle.bc_change.specs.Ready.{IsReadyChange, IsUnchanged}
-use Rattle.bc_change.proofs.Begins.{begins, filled, new_at, stable_sets}
-use Rattle.bc_change.proofs.Filled.{HasShape, tree_filled}
-use Rattle.bc_change.proofs.Lists.{in_get, in_map, map_in}
+use Rattle.bc_change.proofs.Begins.{begins, filled, stable_sets}
+use Rattle.bc_change.proofs.Filled.{tree_filled}
+use Rattle.bc_change.proofs.Lists.{in_get, map_in}
 use Rattle.bc_change.proofs.Nexts.{TakesAt, kept_next}
 use Rattle.bc_change.proofs.Places.{inner_ready, leaf_place, leaves_row, new_stays, next_place, tree_inner}
 

@@ -12,3 +12,4 @@ mod Sealed
 mod Seated
 mod Going
 mod Staying
+mod Behind

@@ -1,11 +1,10 @@
 -- Each inner node of the tree after a change is one that comes, or one that stood there before and
 -- doesn't go.
-use Rattle.std.proofs.Common.{◌≡◌, ◌≢◌, ◌⊎◌, inl, inr, ℕ, zero, suc, ◌+◌, ◌<◌, ◌≤◌, List, [], ◌∷◌, ◌++◌, length, take, drop, Option, Some, None, refl, sym, subst, ap, ◌∙◌, arith}
+use Rattle.std.proofs.Common.{◌≡◌, ◌≢◌, ◌⊎◌, inl, inr, ℕ, zero, suc, ◌+◌, ◌<◌, List, [], ◌∷◌, ◌++◌, length, take, drop, Option, Some, None, refl, sym, subst, ap, ◌∙◌, arith}
 use Rattle.std.specs.Prelude.{slice_get, slice_set}
 use Rattle.std.specs.List.{insert, remove}
 use Rattle.bc_facts.proofs.Stood.{in_behind, in_either, in_front}
 use Rattle.bc_inner.specs.Inner.{Inner}
-use Rattle.bc_key.specs.declared.key.Key.{Key}
 use Rattle.bc_meta.specs.Facts.{In}
 use Rattle.bc_meta.proofs.Lists.{decide}
 use Rattle.bc_tree.specs.Group.{CanStand}

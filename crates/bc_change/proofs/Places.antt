@@ -1,10 +1,10 @@
 -- The leaves and the inner nodes of the tree that a change makes, each in its slot.
-use Rattle.std.proofs.Common.{◌≡◌, ◌≢◌, ◌⊎◌, inl, inr, ℕ, zero, suc, ◌+◌, ◌<◌, ◌≤◌, Bool, true, false, List, [], ◌∷◌, ◌++◌, length, take, drop, Option, Some, None, refl, sym, subst, ap, ◌∙◌, arith, if◌then◌else◌}
-use Rattle.std.specs.Prelude.{All, AllPairs, Contains, map, option_to_list, slice_get}
+use Rattle.std.proofs.Common.{◌≡◌, ◌≢◌, ◌⊎◌, inl, inr, ℕ, zero, suc, ◌+◌, Bool, true, false, List, [], ◌∷◌, ◌++◌, length, take, drop, Option, Some, None, refl, sym, subst, ap, ◌∙◌, arith, if◌then◌else◌}
+use Rattle.std.specs.Prelude.{All, AllPairs, option_to_list, slice_get}
 use Rattle.std.proofs.lemmas.Bool.{cases_lt}
-use Rattle.std.proofs.lemmas.List.{append_assoc, drop-drop, take-append-drop}
+use Rattle.std.proofs.lemmas.List.{drop-drop, take-append-drop}
 use Rattle.bc_events.specs.declared.event.Change.{Change}
-use Rattle.bc_facts.proofs.Stood.{all_in, contains_in, in_behind, in_contains, in_either, in_front}
+use Rattle.bc_facts.proofs.Stood.{all_in, in_behind, in_contains, in_either, in_front}
 use Rattle.bc_inner.specs.Inner.{Inner}
 use Rattle.bc_key.specs.Words.{ptr_word}
 use Rattle.bc_key.specs.declared.key.Key.{Key}
@@ -19,7 +19,7 @@ use Rattle.bc_meta.proofs.Lists.{by_test}
 use Rattle.bc_node.specs.Leaf.{Leaf}
 use Rattle.bc_shares.specs.Shares.{inner_share, shape_of}
 use Rattle.bc_spine.specs.Exchange.{coming, going}
-use Rattle.bc_spine.specs.Leaves.{AreLeaves, HaveTwoNumbers, IsRow}
+use Rattle.bc_spine.specs.Leaves.{AreLeaves, HaveTwoNumbers}
 use Rattle.bc_spine.specs.declared.leaf.LeafRange.{LeafRange}
 use Rattle.bc_spine.proofs.Lists.{AllPairs-across, AllPairs-right}
 use Rattle.bc_spine.proofs.Rows.{leaves_replaced}
@@ -29,10 +29,10 @@ use Rattle.bc_tree.specs.Spine.{AreInRow, Covers, IsRootOf, NameNodes, Spine}
 use Rattle.bc_tree.specs.declared.plan.Plan.{Plan}
 use Rattle.bc_tree.proofs.Spines.{in_row}
 use Rattle.bc_whole.specs.State.{Opening}
-use Rattle.bc_change.specs.Goes.{IsChangeBy, new_leaves, new_nodes, numbers, old_nodes, second_comes, slots}
+use Rattle.bc_change.specs.Goes.{IsChangeBy, new_leaves, new_nodes, old_nodes, second_comes}
 use Rattle.bc_change.specs.Ready.{IsReadyChange, IsReadyInner, IsReadyLeaf, IsUnchanged}
 use Rattle.bc_change.proofs.Filled.{HasInner, HasLeaf}
-use Rattle.bc_change.proofs.Lists.{get_in, has_not, in_get, in_map, map_in, nodes_rise}
+use Rattle.bc_change.proofs.Lists.{get_in, has_not, in_map, map_in, nodes_rise}
 use Rattle.bc_change.proofs.Nexts.{Remains, next_is, old_in}
 
 -- ---- roles

@@ -1,22 +1,14 @@
 -- When an entry with a new root may be sealed, and what that leaves.
-use Rattle.std.proofs.Common.{◌≡◌, ◌≢◌, ◌⊎◌, inl, inr, ℕ, suc, ◌+◌, ◌%◌, ◌<◌, ◌≤◌, Bool, true, false, List, [], Option, Some, None, refl, sym, ap, ◌∙◌, subst, arith}
-use Rattle.std.specs.Prelude.{Contains, reverse, slice_index, Vec}
-use Rattle.std.specs.declared.alloc.Global.{Global}
-use Rattle.std.proofs.lemmas.Bool.{lt-ltb}
+use Rattle.std.proofs.Common.{◌≡◌, ℕ, suc, ◌+◌, ◌<◌, ◌≤◌, Bool, true, false, List, [], Some, None, refl, sym, ap, ◌∙◌, subst, arith}
+use Rattle.std.specs.Prelude.{reverse, slice_index}
 use Rattle.std.proofs.lemmas.List.{reverse-reverse}
 use Rattle.std.proofs.lemmas.List.Elements.{All-get_or}
-use Rattle.bc_books.specs.Shelves.{Held, Tree}
-use Rattle.bc_cache.specs.Slots.{NodeCache}
 use Rattle.bc_disk.specs.declared.geometry.Geometry.{Geometry}
-use Rattle.bc_events.specs.Run as core
 use Rattle.bc_events.specs.declared.event.Change.{Change}
-use Rattle.bc_events.specs.declared.event.Deed.{Deed}
-use Rattle.bc_events.specs.declared.event.Deed.TheVariants as deed
 use Rattle.bc_events.specs.declared.event.Event.{Event}
 use Rattle.bc_facts.specs.Layout.{IsLayoutOf}
 use Rattle.bc_facts.specs.Seen.{bucket_of, counted, entry_rest, seen_entry, word_of}
 use Rattle.bc_facts.proofs.Stood.{in_contains}
-use Rattle.bc_entry.specs.bc_hand.Seats.{by}
 use Rattle.bc_inner.specs.Inner.{Inner}
 use Rattle.bc_journal.specs.Journal.{IsJournal as IsGoodJournal, IsSealed, Journal, newest_of, number_of}
 use Rattle.bc_journal.specs.Ring.{is_free, with_entry}
@@ -31,17 +23,15 @@ use Rattle.bc_known.specs.Run.{IsEnabled}
 use Rattle.bc_known.specs.Laws.{IsSound}
 use Rattle.bc_leaves.specs.Enabled.{CanBegin, CanSealNext, CanSealRoot}
 use Rattle.bc_leaves.specs.Keys.{last_said, ref_said}
-use Rattle.bc_leaves.specs.Parts.{ByRoot, BySet, keys_in_leaf}
-use Rattle.bc_leaves.specs.Parts as parts
-use Rattle.bc_entry.specs.bc_machine.Containers.{AreLeavesOf, IsHeldIn, IsJournalOf, IsLeafFor, IsRingOf, IsSpineOf, inner_slot, numbers_in, sealed_numbers}
+use Rattle.bc_leaves.specs.Parts.{keys_in_leaf}
+use Rattle.bc_entry.specs.bc_machine.Containers.{IsJournalOf, IsLeafFor, IsRingOf, numbers_in, sealed_numbers}
 use Rattle.bc_entry.specs.bc_machine.World.{IsCourseOf, Origin, replay}
 use Rattle.bc_meta.specs.Entries.{Entry}
-use Rattle.bc_meta.specs.Facts.{In}
 use Rattle.bc_meta.specs.Layout.{entry_len}
 use Rattle.bc_meta.specs.Records.{Fixed, Nothing, Ready, Records, Safe, Sent, Stage}
 use Rattle.bc_needs.specs.Needs.{NeedsNone}
 use Rattle.bc_node.specs.Leaf.{Leaf}
-use Rattle.bc_nodes_known.specs.Nodes.{AreStill, NamesFrom}
+use Rattle.bc_nodes_known.specs.Nodes.{AreStill}
 use Rattle.bc_entry.specs.bc_sealing.Laws.{IsNew, Seals, front_of}
 use Rattle.bc_entry.proofs.of_bc_sealing.Acts.{law_acts}
 use Rattle.bc_entry.proofs.of_bc_sealing.Ring.{law_places, law_ring}
@@ -53,18 +43,15 @@ use Rattle.bc_tree.specs.declared.plan.Plan.{Plan}
 use Rattle.bc_whole.specs.State as whole
 use Rattle.bc_whole.specs.State.{NewRoot, SameChain}
 use Rattle.bc_whole.specs.Together.{AreHeldFor, entry_of}
-use Rattle.bc_entry.specs.Entry.{IsFixedEntry, IsSealedAs}
+use Rattle.bc_entry.specs.Entry.{IsSealedAs}
 use Rattle.bc_entry.specs.Seal.{CanSeal}
 use Rattle.bc_entry.proofs.Course.{is_sealed, nothing_course, waits_course}
-use Rattle.bc_entry.proofs.Sealing.{GoesTo, has_place}
 use Rattle.bc_change.specs.Goes.{BringsRoot, IsChangeBy, new_nodes}
 use Rattle.bc_change.specs.Laws.{unused_for}
 use Rattle.bc_change.specs.Ready.{HoldsNew, IsReadyChange}
 use Rattle.bc_change.specs.Root.{NamesNext}
-use Rattle.bc_change.specs.Under.{IsByRoot, IsUnderWay}
 use Rattle.bc_change.proofs.Begins.{begins, held}
 use Rattle.bc_change.proofs.Left.{can_seal_root, root_new}
-use Rattle.bc_change.proofs.Turned.{leaves_stand, spine_stands, turned, under_way}
 
 never : (b : Bool) → b ≡ true → b ≡ false → ⊥
 never b is off = cc

@@ -1,10 +1,10 @@
 -- Leaves that give the same last keys say the same of a sector.
-use Rattle.std.proofs.Common.{◌≡◌, ℕ, suc, ◌<◌, ◌≤◌, Bool, true, false, List, [], ◌∷◌, Option, Some, None, refl, sym, ap, ◌∙◌, arith, if◌then◌else◌}
-use Rattle.std.specs.Prelude.{IsSomeAnd, MatchOption, nat_lt}
+use Rattle.std.proofs.Common.{◌≡◌, ℕ, suc, ◌<◌, ◌≤◌, Bool, List, [], ◌∷◌, Option, Some, None, refl, sym, ap, ◌∙◌, arith, if◌then◌else◌}
+use Rattle.std.specs.Prelude.{IsSomeAnd, MatchOption}
 use Rattle.std.specs.Option.{option_or}
 use Rattle.bc_extent.specs.Calls.{live, with_pointer}
 use Rattle.bc_extent.specs.Extents.{IsInOrder, IsPart}
-use Rattle.bc_extent.specs.LastKey.{covers, last_key}
+use Rattle.bc_extent.specs.LastKey.{last_key}
 use Rattle.bc_extent.proofs.LastKeys.{by_cover, last_key_found, last_key_none}
 use Rattle.bc_facts.proofs.Place.{by_lt}
 use Rattle.bc_facts.proofs.Stood.{all_in, in_all}

@@ -1,5 +1,6 @@
--- The entry with a new root as a deed: when it may be done, and what it leaves of the parts in hand.
-use Rattle.std.proofs.Common.{◌≡◌, ◌≢◌, ◌⊎◌, inl, inr, ℕ, suc, ◌+◌, ◌%◌, ◌<◌, ◌≤◌, Bool, true, false, List, [], Option, Some, None, refl, sym, ap, ◌∙◌, subst, arith}
+-- The entry with a new root as a deed: when it may be done, and what it leaves of the parts in
+-- hand.
+use Rattle.std.proofs.Common.{◌≡◌, ◌≢◌, inl, inr, ℕ, suc, ◌%◌, ◌<◌, ◌≤◌, Bool, true, false, List, Option, Some, None, refl, sym, ap, ◌∙◌, subst, arith}
 use Rattle.std.specs.Prelude.{Vec}
 use Rattle.std.specs.declared.alloc.Global.{Global}
 use Rattle.std.proofs.lemmas.Bool.{lt-ltb}
@@ -17,20 +18,17 @@ use Rattle.bc_journal.specs.Journal.{IsJournal as IsGoodJournal, IsSealed, Journ
 use Rattle.bc_journal.specs.Sealed.{Sealed}
 use Rattle.bc_journal.specs.declared.heads.Heads.{Heads}
 use Rattle.bc_journal.specs.declared.place.Place.{Place}
-use Rattle.bc_known.specs.Acts.{State, after}
 use Rattle.bc_known.specs.Laws.{IsSound}
 use Rattle.bc_leaves.specs.Enabled.{CanBegin}
 use Rattle.bc_leaves.specs.Keys.{last_said, ref_said}
 use Rattle.bc_leaves.specs.Parts.{ByRoot, BySet, keys_in_leaf}
-use Rattle.bc_leaves.specs.Parts as parts
 use Rattle.bc_entry.specs.bc_machine.Containers.{AreLeavesOf, IsHeldIn, IsJournalOf, IsLeafFor, IsSpinePartOf}
 use Rattle.bc_entry.specs.bc_machine.World.{IsCourseOf, Origin, replay}
 use Rattle.bc_entry.specs.bc_machine.declared.part.SpinePart.{SpinePart}
 use Rattle.bc_meta.specs.Facts.{In}
-use Rattle.bc_meta.specs.Records.{Fixed}
 use Rattle.bc_needs.specs.Needs.{NeedsNone}
 use Rattle.bc_node.specs.Leaf.{Leaf}
-use Rattle.bc_nodes_known.specs.Nodes.{AreStill, NamesFrom}
+use Rattle.bc_nodes_known.specs.Nodes.{AreStill}
 use Rattle.bc_shares.specs.Shares.{books_of, journal_share, leaf_share}
 use Rattle.bc_tree.specs.LastKeys.{LeafKeys}
 use Rattle.bc_tree.specs.declared.plan.Plan.{Plan}
@@ -43,7 +41,7 @@ use Rattle.bc_change.specs.Ready.{HoldsNew, IsReadyChange}
 use Rattle.bc_change.specs.Root.{NamesNext}
 use Rattle.bc_change.specs.Under.{IsByRoot}
 use Rattle.bc_change.proofs.Left.{root_new}
-use Rattle.bc_change.proofs.Rooting.{can_begin, entry_is, leaves_behind, leaves_in_front, may_begin, may_begin_behind, may_begin_bucket, may_seal, may_seal_behind, number_is, seq_is}
+use Rattle.bc_change.proofs.Rooting.{can_begin, leaves_behind, leaves_in_front, may_begin, may_begin_behind, may_begin_bucket, may_seal, may_seal_behind, number_is, seq_is}
 use Rattle.bc_change.proofs.Turned.{leaves_stand, spine_stands, under_way}
 
 never : (b : Bool) → b ≡ true → b ≡ false → ⊥

@@ -1,8 +1,7 @@
 -- A seat that seals an entry with a new root: that it may, and what it leaves in hand.
-use Rattle.std.proofs.Common.{◌≡◌, ◌≢◌, ◌⊎◌, inl, inr, ℕ, zero, suc, ◌+◌, ◌-◌, ◌%◌, ◌<◌, ◌≤◌, Bool, true, false, List, [], ◌∷◌, ◌++◌, length, Option, Some, None, refl, sym, ap, ◌∙◌, subst, arith}
-use Rattle.std.specs.Prelude.{◌==◌, ◌||◌, Contains, IfSome, Vec, if◌then◌else◌, slice_get}
+use Rattle.std.proofs.Common.{◌≡◌, ◌≢◌, ◌⊎◌, inl, inr, ℕ, zero, suc, ◌+◌, ◌-◌, ◌%◌, ◌≤◌, Bool, true, false, List, [], ◌∷◌, length, Option, Some, None, refl, sym, ap, ◌∙◌, subst, arith}
+use Rattle.std.specs.Prelude.{◌==◌, ◌||◌, Contains, IfSome, Vec, if◌then◌else◌}
 use Rattle.std.specs.declared.alloc.Global.{Global}
-use Rattle.bc_cache.specs.Slots.{NodeCache}
 use Rattle.bc_disk.specs.Disk.{DiskFacts}
 use Rattle.bc_disk.specs.declared.geometry.Geometry.{Geometry}
 use Rattle.bc_events.specs.Run as core
@@ -10,7 +9,7 @@ use Rattle.bc_events.specs.declared.event.Change.{Change}
 use Rattle.bc_events.specs.declared.event.Deed.{Deed}
 use Rattle.bc_events.specs.declared.event.Deed.TheVariants as deed
 use Rattle.bc_events.specs.declared.event.Event.{Event}
-use Rattle.bc_facts.specs.Seen.{counted, entry_rest}
+use Rattle.bc_facts.specs.Seen.{entry_rest}
 use Rattle.bc_facts.proofs.Stood.{in_contains}
 use Rattle.bc_entry.specs.bc_hand.Seats.{Did, MayDo, StandIn, Works, by, numbers, with_leaves, with_part, world}
 use Rattle.bc_entry.specs.bc_hand.declared.hand.Hand.{Hand}
@@ -24,10 +23,9 @@ use Rattle.bc_journal.specs.Sealed.{Sealed}
 use Rattle.bc_journal.specs.declared.heads.Heads.{Heads}
 use Rattle.bc_journal.specs.declared.place.Numbers.{Numbers}
 use Rattle.bc_leaves.specs.Parts.{AllUpTo, Pending}
-use Rattle.bc_leaves.specs.Parts as parts
 use Rattle.bc_entry.specs.bc_machine.Containers.{AreEntriesOf, AreLeavesOf, IsHeldIn, IsJournalOf, IsLeafFor, IsSpinePartOf}
 use Rattle.bc_entry.specs.bc_machine.Standing.{origin_before}
-use Rattle.bc_entry.specs.bc_machine.World.{AreLeaves, CanFollow, FromEach, IsCourseOf, IsJournal, IsOrigin, IsSeenFrom, IsSpinePart, Origin, World, any_in, are_plain, changes, data_of, lies_in, replay}
+use Rattle.bc_entry.specs.bc_machine.World.{AreLeaves, CanFollow, FromEach, IsCourseOf, IsJournal, IsOrigin, IsSeenFrom, IsSpinePart, Origin, World, any_in, are_plain, changes, data_of, replay}
 use Rattle.bc_entry.specs.bc_machine.declared.part.CorePart.{CorePart}
 use Rattle.bc_entry.specs.bc_machine.declared.part.CorePart.TheVariants as part
 use Rattle.bc_entry.specs.bc_machine.declared.part.SpinePart.{SpinePart}
@@ -45,12 +43,11 @@ use Rattle.bc_shares.proofs.Law.{law_journal}
 use Rattle.bc_spine.specs.Exchange.{going}
 use Rattle.bc_spine.specs.declared.leaf.LeafRange.{LeafRange}
 use Rattle.bc_tree.specs.declared.plan.Plan.{Plan}
-use Rattle.bc_whole.specs.State.{Opening}
 use Rattle.bc_entry.specs.Entry.{IsFixedEntry}
 use Rattle.bc_entry.specs.Seal.{begun_by}
 use Rattle.bc_entry.proofs.Holding.{holds_journal, known_since, needs_committed, some_is}
 use Rattle.bc_entry.proofs.Sealing.{goes_to, has_place}
-use Rattle.bc_change.specs.Goes.{IsChangeBy, numbers as numbers_of}
+use Rattle.bc_change.specs.Goes.{IsChangeBy}
 use Rattle.bc_change.specs.Ready.{IsLeafToGo, IsReadyChange, IsReadyFor, IsTree}
 use Rattle.bc_change.specs.Root.{HasSealedRoot, IsGoing, MaySealRoot, NamesNext}
 use Rattle.bc_change.specs.Under.{IsByRoot}

@@ -1,12 +1,10 @@
 -- What a change that has begun leaves of the parts in hand, and what the seat knows of it.
-use Rattle.std.proofs.Common.{◌≡◌, ◌≢◌, ◌⊎◌, inl, inr, ℕ, ◌%◌, ◌<◌, ◌≤◌, ◌^◌, Bool, true, false, List, [], ◌∷◌, Some, None, refl, sym, subst, ap, ◌∙◌, if◌then◌else◌}
-use Rattle.std.specs.Prelude.{Contains, slice_get}
+use Rattle.std.proofs.Common.{◌≡◌, ◌≢◌, ℕ, ◌%◌, ◌<◌, Bool, true, false, List, [], ◌∷◌, refl, sym, subst, ap, ◌∙◌, if◌then◌else◌}
 use Rattle.bc_cache.specs.Slots.{NodeCache}
-use Rattle.bc_cache.specs.declared.slots.Cached.{Cached}
 use Rattle.bc_events.specs.declared.event.Change.{Change}
 use Rattle.bc_facts.proofs.Stood.{contains_in}
 use Rattle.bc_inner.specs.Inner.{Inner}
-use Rattle.bc_leaves.specs.After.{changed, has, inner_nodes_changed, inner_with_role, leaves_changed, with_role}
+use Rattle.bc_leaves.specs.After.{changed, has, inner_nodes_changed, leaves_changed}
 use Rattle.bc_leaves.specs.Enabled.{CanBegin}
 use Rattle.bc_leaves.specs.Parts.{Role, NoNode, Draft, Free, Leaving, Coming, BySet, NoChange}
 use Rattle.bc_leaves.specs.Parts as parts
@@ -17,7 +15,7 @@ use Rattle.bc_meta.specs.Facts.{In}
 use Rattle.bc_meta.specs.Records.{Node, Records}
 use Rattle.bc_node.specs.Leaf.{Leaf}
 use Rattle.bc_nodes_known.specs.Nodes.{IsWholeChange}
-use Rattle.bc_shares.specs.Shares.{InnerShare, LeafShare, Shape, inner_share, leaf_share, node_share, shape_of}
+use Rattle.bc_shares.specs.Shares.{InnerShare, LeafShare, inner_share, leaf_share, node_share, shape_of}
 use Rattle.bc_spine.specs.Exchange.{coming}
 use Rattle.bc_spine.specs.declared.leaf.LeafRange.{LeafRange}
 use Rattle.bc_tree.specs.LastKeys.{LeafKeys}
@@ -26,9 +24,9 @@ use Rattle.bc_tree.specs.declared.plan.Plan.{Plan}
 use Rattle.bc_whole.specs.State.{Opening}
 use Rattle.bc_change.specs.Goes.{IsChangeBy, new_leaves, new_nodes, numbers, slots}
 use Rattle.bc_change.specs.Laws.{unused_for}
-use Rattle.bc_change.specs.Ready.{IsNewInner, IsNewLeaf, IsRangeFor, IsReadyChange, IsUnchanged}
+use Rattle.bc_change.specs.Ready.{IsNewInner, IsNewLeaf, IsReadyChange, IsUnchanged}
 use Rattle.bc_change.specs.Under.{IsUnderWay}
-use Rattle.bc_change.proofs.Lists.{in_map, map_in}
+use Rattle.bc_change.proofs.Lists.{map_in}
 use Rattle.bc_change.proofs.Places.{new_range}
 
 -- ---- roles

@@ -3,3 +3,4 @@ pub mod Ready
 pub mod Under
 pub mod Laws
 pub mod Root
+pub mod Put

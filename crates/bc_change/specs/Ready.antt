@@ -1,6 +1,6 @@
 -- What a seat knows of a change of the tree that is ready to be made: its new nodes stand on the
 -- cache device, and nothing names them yet.
-use Rattle.std.specs.Prelude.{◌≡◌, ℕ, suc, ◌<◌, ◌≤◌, true, false, Contains, List, [], length, map, option_to_list, None}
+use Rattle.std.specs.Prelude.{◌≡◌, ℕ, suc, ◌<◌, ◌≤◌, false, Contains, [], length, map, option_to_list, None}
 use Rattle.bc_books.specs.Books.{Books}
 use Rattle.bc_books.specs.Shelves.{Held, Tree}
 use Rattle.bc_events.specs.Run as core
@@ -106,8 +106,8 @@ pub record IsCalm (st : parts.State) : Type 0 where
 
 -- ---- a change that is ready
 
--- What no part in memory says of a plan's new nodes: they stand, no other node is new, and no change
--- of the tree is under way.
+-- What no part in memory says of a plan's new nodes: they stand, no other node is new, and no
+-- change of the tree is under way.
 pub record AreReady (w : Opening) (st : parts.State) (plan : Plan) : Type 0 where
   pub calm : IsCalm st
   pub come : (range : LeafRange) (leaf : Leaf) → Contains (new_leaves plan) (range, leaf)

@@ -1,5 +1,5 @@
 -- An entry that a seat seals with a new root, by which a planned change of the tree is made.
-use Rattle.std.specs.Prelude.{◌≡◌, ℕ, ◌+◌, ◌-◌, ◌%◌, ◌≤◌, true, Contains, IfSome, None, Some, Vec, length, slice_get}
+use Rattle.std.specs.Prelude.{◌≡◌, ℕ, ◌+◌, ◌-◌, ◌%◌, ◌≤◌, true, Contains, IfSome, None, Some, Vec, slice_get}
 use Rattle.std.specs.declared.alloc.Global.{Global}
 use Rattle.bc_cache.specs.declared.slots.Cached.{Cached}
 use Rattle.bc_disk.specs.Disk.{DiskFacts}
@@ -8,7 +8,7 @@ use Rattle.bc_events.specs.Run as core
 use Rattle.bc_events.specs.declared.event.Change.{Change}
 use Rattle.bc_events.specs.declared.event.Deed.TheVariants as deed
 use Rattle.bc_facts.specs.Seen.{bucket_of, counted, entry_rest, word_of}
-use Rattle.bc_entry.specs.bc_hand.Seats.{Did, View, world}
+use Rattle.bc_entry.specs.bc_hand.Seats.{Did, View}
 use Rattle.bc_entry.specs.bc_hand.declared.hand.Hand.{Hand}
 use Rattle.bc_entry.specs.bc_hand.declared.hand.LeafHand.{LeafHand}
 use Rattle.bc_inner.specs.Inner.{Inner}
@@ -33,8 +33,8 @@ use Rattle.bc_change.specs.Ready.{HasBoth, IsReadyFor}
 
 -- ---- what is in hand
 
--- A leaf that goes is in the part in hand, held in its slot; all that is pending of it is durable; and
--- these are its last keys.
+-- A leaf that goes is in the part in hand, held in its slot; all that is pending of it is durable;
+-- and these are its last keys.
 pub record IsGoing (l : LeafHand) (parts : ℕ) (j : Journal) (keys : LeafKeys) (range : LeafRange) :
     Type 0 where
   pub slot : ℕ
@@ -46,8 +46,8 @@ pub record IsGoing (l : LeafHand) (parts : ℕ) (j : Journal) (keys : LeafKeys) 
   pub keys_are : keys range.number ≡ cached.leaf.keys
   pub durable : IfSome cached.leaf.entries (λ (e : Entries). e.last ≤ j.durable.seq)
 
--- The tree is in hand, of which it is noted that it changes, with the leaves that go and the journal;
--- and the plan fits it.
+-- The tree is in hand, of which it is noted that it changes, with the leaves that go and the
+-- journal; and the plan fits it.
 pub record HasInHand {C B : Type 0} (h : Hand C B) (parts : ℕ) (plan : Plan) (keys : LeafKeys) :
     Type 0 where
   pub spine : SpinePart
@@ -80,8 +80,8 @@ pub record NamesNext (g : Geometry) (heads : Heads) (root : Inner) (slot : ℕ) 
   pub level : root.level ≡ heads.level
   pub prio : (journal_share st.machine).entries.newest.prio ≡ counted g heads.prio
 
--- A seat may seal it: the plan moves the nodes that change up to this root, their new ones are ready,
--- and the change is what it makes of the tree.
+-- A seat may seal it: the plan moves the nodes that change up to this root, their new ones are
+-- ready, and the change is what it makes of the tree.
 pub record MaySealRoot {C B : Type 0} (h : Hand C B) (parts i : ℕ) (plan : Plan) (heads : Heads)
     (slot : ℕ) (c : Change) (x : World) : Type 0 where
   pub keys : LeafKeys

@@ -17,8 +17,8 @@ use Rattle.bc_whole.specs.State.{Opening}
 use Rattle.bc_change.specs.Goes.{new_leaves, new_nodes}
 use Rattle.bc_change.specs.Ready.{HoldsNew, IsNewInner, IsNewLeaf, IsRangeFor}
 
--- Leaves and inner nodes leave and come, as the change says, and no others; what comes is the plan's;
--- and there are no other new nodes.
+-- Leaves and inner nodes leave and come, as the change says, and no others; what comes is the
+-- plan's; and there are no other new nodes.
 pub record IsUnderWay (w : Opening) (st : parts.State) (plan : Plan) (c : Change) : Type 0 where
   pub whole : IsWholeChange st c
   pub old : (x : ℕ) → In x c.old.items → (st.inner_nodes x).role ≡ Leaving

@@ -11,8 +11,8 @@ pub fn law_ready()
     ensures { LawReady }
 {}
 
-/// A change that is under way stays so while nobody else changes the tree: what leaves and what comes,
-/// and which root entries name.
+/// A change that is under way stays so while nobody else changes the tree: what leaves and what
+/// comes, and which root entries name.
 pub fn law_by_root()
     ensures { LawByRoot }
 {}

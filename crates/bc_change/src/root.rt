@@ -27,10 +27,10 @@ use bc_tree::{Plan, Spine};
 use std::alloc::{AllocError, Global};
 use std::sync::Wait;
 
-/// Seals the keys that wait into an entry that names a new root, with which a planned change of the
-/// tree begins. Its new nodes stand on the cache device by then: a crash finds the old tree, or, where
-/// the entry is durable, the new one. The tree, the leaves that go and the journal are in hand, and
-/// stay so; in memory the tree is as it was until the change is over.
+/// Seals the keys that wait into an entry that names a new root, with which a planned change of
+/// the tree begins. Its new nodes stand on the cache device by then: a crash finds the old tree,
+/// or, where the entry is durable, the new one. The tree, the leaves that go and the journal are
+/// in hand, and stay so; in memory the tree is as it was until the change is over.
 ///
 /// `Err` comes from want of memory, or names the device that halted the run; then nothing is done.
 pub fn seal_root<C: Disk + Drop, B: Disk + Drop, R: Wait>(

@@ -1,5 +1,5 @@
-use Rattle.std.proofs.Common.{◌≡◌, refl, sym, ap, ◌∙◌, subst}
-use Rattle.bc_entry.specs.bc_hand.Seats.{Works, world}
+use Rattle.std.proofs.Common.{refl, sym, ap, ◌∙◌, subst}
+use Rattle.bc_entry.specs.bc_hand.Seats.{Works}
 use Rattle.bc_entry.specs.bc_hand.declared.hand.Hand.{Hand}
 use Rattle.bc_entry.proofs.Sealing.{rest_is_entry}
 use Rattle.bc_entry.proofs.of_bc_deed.May.{did_nothing}
