@@ -325,6 +325,8 @@ module _ {C B : Type 0} (cache_facts : C → DiskFacts) (backing_facts : B → D
       full = h.full;
       same = h.same;
       did = did_between cache_facts backing_facts None u v w x still first h.did last seen told end;
+      stood = subst (AreBuckets old)
+          (sym (seen_alike (m cache_facts backing_facts) w x last.same seen)) h.stood;
     }
 
     pub let_go_between : (before : ℕ) (b : HeldBucket) (r : Bool) (old new : BucketsPart)

@@ -62,6 +62,7 @@ module _ {C B : Type 0} (cache_facts : C → DiskFacts) (backing_facts : B → D
     pub full : can_go b.purpose old.reserves ≡ false
     pub same : new ≡ old
     pub did : Did cache_facts backing_facts None v w
+    pub stood : AreBuckets old (world cache_facts backing_facts w)
 
   abbrev pub LetGoOr : ℕ → HeldBucket → Bool → BucketsPart → BucketsPart
       → View cache_facts backing_facts → View cache_facts backing_facts → Type 0
