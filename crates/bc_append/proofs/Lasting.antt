@@ -1,10 +1,14 @@
 -- What is durable of the journal stays so.
-use Rattle.std.proofs.Common.{◌≡◌, ◌≢◌, ℕ, ◌≤◌, List, [], ◌∷◌, Some, refl, sym, ap, ◌∙◌, subst, arith}
+use Rattle.std.proofs.Common.{◌≡◌, ◌≢◌, ℕ, ◌≤◌, List, [], ◌∷◌, refl, sym, ap, ◌∙◌, subst, arith}
 use Rattle.bc_disk.specs.Disk.{DiskFacts}
 use Rattle.bc_events.specs.Acts.{acts_of}
 use Rattle.bc_events.specs.Run.{acts_or_none}
+use Rattle.bc_events.specs.declared.event.Event.{Event}
+use Rattle.bc_parts.specs.Machine.{state_after}
+use Rattle.bc_parts.specs.Seat.{Run}
 use Rattle.bc_place.proofs.of_bc_hand.Knowing.{m}
-use Rattle.bc_place.specs.bc_hand.Seats.{by}
+use Rattle.bc_place.specs.bc_hand.Seats.{View, by, core, world}
+use Rattle.bc_place.specs.bc_machine.declared.part.CorePart.{CorePart}
 use Rattle.bc_place.specs.bc_machine.Standing.{origin_before}
 use Rattle.bc_place.specs.bc_machine.World.{FromEach, replay}
 use Rattle.bc_journal.specs.declared.place.Numbers.{Numbers}
@@ -91,6 +95,13 @@ law_told x j h o is course =
     let same = ap (λ (d : Numbers). d.seq) (h.stands o is course).durable in omega (arith, same)
 
 module _ {C B : Type 0} (cache_facts : C → DiskFacts) (backing_facts : B → DiskFacts) where
+  -- a seat of the same run that has seen the same events has seen the same state
+  pub world_same : (v w : View cache_facts backing_facts) → w.run ≡ v.run → w.seen ≡ v.seen
+      → world cache_facts backing_facts w ≡ world cache_facts backing_facts v
+  world_same v w run seen = ap (λ (r : Run (CorePart C B)).
+      state_after (core cache_facts backing_facts) r.start w.seen) run
+      ∙ ap (λ (es : List Event). state_after (core cache_facts backing_facts) v.run.start es) seen
+
   pub law_known : LawKnown {C = C} {B = B} cache_facts backing_facts
   law_known = record {
     waited = λ v w n waited h. lasts (m cache_facts backing_facts) v _

@@ -1,9 +1,9 @@
 -- The leaf in memory behind a further set, and behind one whose write failed.
-use Rattle.std.proofs.Common.{◌≡◌, ◌≢◌, inl, inr, ℕ, ◌+◌, ◌<◌, ◌≤◌, Bool, true, false, List, [], ◌∷◌, ◌++◌, Option, Some, None, refl, sym, ap, ◌∙◌, subst, arith}
+use Rattle.std.proofs.Common.{◌≡◌, inl, inr, ℕ, ◌<◌, ◌≤◌, true, false, List, [], ◌++◌, refl, sym, ap, ◌∙◌, subst, arith}
 use Rattle.bc_cache.proofs.Stands.{none_added}
 use Rattle.bc_disk.specs.declared.geometry.Geometry.{Geometry}
 use Rattle.bc_facts.specs.Layout.{IsLayoutOf}
-use Rattle.bc_place.specs.bc_machine.Containers.{AreEntriesOf, HasLists, HasSets, IsLeafFor, IsTreeLeaf, sets_len}
+use Rattle.bc_place.specs.bc_machine.Containers.{AreEntriesOf, HasSets, IsLeafFor, IsTreeLeaf, sets_len}
 use Rattle.bc_key.specs.declared.key.Key.{Key}
 use Rattle.bc_leaves.proofs.Pend.{append_both}
 use Rattle.bc_leaves.specs.After.{with_pending}
@@ -12,7 +12,7 @@ use Rattle.bc_leaves.specs.Parts.{keys_of}
 use Rattle.bc_meta.specs.Facts.{In}
 use Rattle.bc_meta.specs.Records.{Node, failed_node, sent_node}
 use Rattle.bc_meta.specs.Tree.{NodeSet, set_keys}
-use Rattle.bc_node.specs.Leaf.{AreLast, AreLastOfAll, IsAppended, Leaf, pending_set}
+use Rattle.bc_node.specs.Leaf.{AreLast, AreLastOfAll, IsAppended, Leaf}
 use Rattle.bc_shares.specs.Shares.{LeafShare, NodeShare, node_share, shape_of, written_sets}
 use Rattle.bc_whole.specs.State.{Opening}
 use Rattle.bc_append.proofs.Sets.{len_is, set_seen}

@@ -15,3 +15,4 @@ pub mod Sending
 pub mod Returned
 pub use Rattle.bc_place.proofs.of_bc_hand
 pub use Rattle.bc_place.proofs as of_bc_place
+pub use Rattle.bc_nodes_known.proofs as of_bc_nodes_known

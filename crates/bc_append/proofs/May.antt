@@ -1,13 +1,10 @@
 -- When a further set of a leaf in hand may be written.
-use Rattle.std.proofs.Common.{◌≡◌, ◌≢◌, inl, inr, ℕ, ◌+◌, ◌*◌, ◌-◌, ◌<◌, ◌≤◌, Bool, true, false, List, [], ◌∷◌, Option, Some, None, refl, sym, ap, ◌∙◌, subst, arith}
+use Rattle.std.proofs.Common.{◌≡◌, ◌≢◌, inr, ℕ, ◌*◌, ◌-◌, ◌≤◌, Bool, true, false, List, [], ◌∷◌, Option, Some, None, sym, ap, subst, arith}
 use Rattle.std.specs.Prelude.{length, slice_get}
 use Rattle.std.proofs.lemmas.Bool.{lt-ltb}
 use Rattle.bc_cache.specs.Slots.{IsSlotOf, NodeCache}
 use Rattle.bc_cache.specs.declared.slots.Cached.{Cached}
-use Rattle.bc_data.specs.Data as flow
 use Rattle.bc_disk.specs.Disk.{DiskFacts}
-use Rattle.bc_disk.specs.declared.geometry.Geometry.{Geometry}
-use Rattle.bc_events.specs.Run as core
 use Rattle.bc_events.specs.Run.{CanDo, IsSome}
 use Rattle.bc_events.specs.Writes.{map_some}
 use Rattle.bc_events.specs.declared.event.Deed.{Deed}
@@ -18,17 +15,14 @@ use Rattle.bc_place.proofs.Knowing.{may_each}
 use Rattle.bc_place.specs.bc_hand.Seats.{AtDeed, IsCoreSeat, MayDo, by, world}
 use Rattle.bc_place.specs.bc_machine.Containers.{AreEntriesOf, AreLeavesOf, IsLeafFor}
 use Rattle.bc_place.specs.bc_machine.World.{AreLeaves, FromEach, IsCourseOf, IsOrigin, Origin, World, are_plain, replay, seen_from}
-use Rattle.bc_place.specs.bc_machine.declared.part.CorePart.{CorePart}
 use Rattle.bc_place.specs.bc_machine.declared.part.CorePart.TheVariants as part
 use Rattle.bc_known.specs.Acts as known
 use Rattle.bc_known.specs.Acts.{FailCache, WriteCache}
 use Rattle.bc_leaves.specs.Parts.{AllUpTo, Free, Pending, leaf_owner, node_of}
 use Rattle.bc_leaves.specs.Parts as parts
-use Rattle.bc_meta.specs.Facts.{In}
-use Rattle.bc_meta.specs.Layout.{set_len}
 use Rattle.bc_meta.specs.Tree.{NodeSet}
 use Rattle.bc_model.specs.Sector.{Value}
-use Rattle.bc_node.specs.Leaf.{IsFull, Leaf}
+use Rattle.bc_node.specs.Leaf.{IsFull}
 use Rattle.bc_node.specs.declared.pending.Entries.{Entries}
 use Rattle.bc_nodes_known.proofs.Law.{law_append, law_still}
 use Rattle.bc_nodes_known.specs.Nodes.{IsDue, IsSetOf, MayAppend}

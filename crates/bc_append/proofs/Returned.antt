@@ -1,8 +1,7 @@
 -- The step between borrowing the cache device and returning it.
-use Rattle.std.proofs.Common.{◌≡◌, ℕ, ◌+◌, ◌<◌, ◌≤◌, Bool, true, false, List, [], ◌∷◌, Option, Some, None, inl, inr, refl, sym, ap, ◌∙◌, subst, arith}
+use Rattle.std.proofs.Common.{◌≡◌, ℕ, ◌+◌, ◌<◌, ◌≤◌, Bool, true, false, List, [], ◌∷◌, Option, Some, None, inl, inr, refl, sym, ap, ◌∙◌, arith}
 use Rattle.std.specs.Prelude.{◌↔◌, IsTrue, fold, if◌then◌else◌, is_none, is_some}
 use Rattle.std.proofs.lemmas.Bool.{cases_lt}
-use Rattle.bc_cache.specs.Slots.{with_slot}
 use Rattle.bc_cache.specs.declared.slots.Cached.{Cached}
 use Rattle.bc_disk.specs.Disk.{DiskFacts}
 use Rattle.bc_disk.specs.declared.disk.Device.TheVariants as which
@@ -16,15 +15,14 @@ use Rattle.bc_place.proofs.Storing.{kept_between}
 use Rattle.bc_place.proofs.of_bc_hand.Between.{did_between}
 use Rattle.bc_place.proofs.of_bc_hand.Knowing.{View, m}
 use Rattle.bc_place.specs.Written.{KeepsPlaces}
-use Rattle.bc_place.specs.bc_hand.Seats.{Did, IsCoreSeat, Kinds, kinds, part_of, world}
+use Rattle.bc_place.specs.bc_hand.Seats.{IsCoreSeat, Kinds, kinds, part_of, world}
 use Rattle.bc_place.specs.bc_hand.declared.hand.Hand.{Hand}
 use Rattle.bc_place.specs.bc_hand.declared.hand.LeafHand.{LeafHand}
-use Rattle.bc_place.specs.bc_machine.World.{FromEach, IsCache, Side, World, after, cache_among, called, counted, opening, same_device}
+use Rattle.bc_place.specs.bc_machine.World.{IsCache, Side, World, after, cache_among, called, counted, opening, same_device}
 use Rattle.bc_place.specs.bc_machine.declared.part.CorePart.{CorePart}
 use Rattle.bc_seats.specs.Seats.{Waited}
 use Rattle.bc_set.specs.Records.{set_sectors}
 use Rattle.bc_append.specs.Append.{CanAppend, HasAppended, HasLeafIn, HasLost, append_by, lost_by, with_behind}
-use Rattle.bc_append.specs.Durable.{IsDurableTo}
 
 -- ---- tests
 

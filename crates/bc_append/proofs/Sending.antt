@@ -1,19 +1,17 @@
 -- The step of a seat with the leaf and the cache device in hand.
-use Rattle.std.proofs.Common.{◌≡◌, ℕ, ◌+◌, ◌*◌, ◌-◌, ◌%◌, ◌≤◌, Bool, true, false, List, length, Option, Some, None, refl, sym, ap, ◌∙◌, subst, arith}
+use Rattle.std.proofs.Common.{◌≡◌, ℕ, ◌+◌, ◌*◌, ◌-◌, ◌%◌, ◌≤◌, true, false, List, length, Some, None, refl, sym, ap, ◌∙◌, subst}
 use Rattle.std.specs.Prelude.{Err, Ok, OnErr, OnOk, Result, slice_get, take}
 use Rattle.bc_cache.specs.Slots.{HasLeaf, IsSlotOf, NodeCache, with_slot}
 use Rattle.bc_cache.specs.declared.slots.Cached.{Cached}
 use Rattle.bc_disk.specs.Disk.{DiskFacts, IsCounted, IsFailedWrite, IsWritten}
 use Rattle.bc_disk.specs.declared.disk.Failed.{Failed}
 use Rattle.bc_disk.specs.declared.geometry.Geometry.{Geometry}
-use Rattle.bc_events.specs.declared.event.Deed.{Deed}
 use Rattle.bc_model.specs.Sector.{Value, values_of}
 use Rattle.bc_node.specs.Leaf.{Leaf, pending_set}
 use Rattle.bc_node.specs.Writing.{put_sectors}
-use Rattle.bc_node.specs.declared.pending.Entries.{Entries}
 use Rattle.bc_parts.specs.Seat.{Holds, PartsView, Run}
 use Rattle.bc_place.proofs.of_bc_hand.Knowing.{View, m}
-use Rattle.bc_place.specs.bc_hand.Seats.{Did, IsCoreSeat, MayDo, Works, by, world}
+use Rattle.bc_place.specs.bc_hand.Seats.{Did, MayDo, Works, by, world}
 use Rattle.bc_place.specs.bc_hand.declared.hand.Hand.{Hand}
 use Rattle.bc_place.specs.bc_hand.declared.hand.LeafHand.{LeafHand}
 use Rattle.bc_place.specs.bc_machine.World.{AreLeaves, FromEach, are_plain, changes}

@@ -1,6 +1,6 @@
 -- The set of what is pending of a leaf in memory, as the core sees it.
-use Rattle.std.proofs.Common.{◌≡◌, ◌≢◌, ℕ, ◌+◌, ◌*◌, ◌≤◌, Bool, true, false, List, Some, refl, sym, ap, ◌∙◌, arith, inl, inr}
-use Rattle.std.specs.Prelude.{◌==◌, if◌then◌else◌, length, reverse, take}
+use Rattle.std.proofs.Common.{◌≡◌, ◌≢◌, ℕ, ◌+◌, ◌*◌, ◌≤◌, true, List, refl, ap, ◌∙◌, arith, inl, inr}
+use Rattle.std.specs.Prelude.{if◌then◌else◌, length, take}
 use Rattle.std.proofs.lemmas.Bool.{cases_lt}
 use Rattle.std.proofs.lemmas.List.{length-take-le}
 use Rattle.std.proofs.lemmas.List.Elements.{All-weaker}
@@ -12,17 +12,13 @@ use Rattle.bc_facts.specs.Seen.{seen_set}
 use Rattle.bc_key.specs.Key.{IsExtent}
 use Rattle.bc_key.specs.Words.{ptr_word}
 use Rattle.bc_key.specs.declared.key.Key.{Key}
-use Rattle.bc_leaves.specs.Keys.{SaysSame, last_said}
-use Rattle.bc_leaves.specs.Parts.{keys_of, leaf_owner}
-use Rattle.bc_leaves.specs.Parts as parts
+use Rattle.bc_leaves.specs.Parts.{leaf_owner}
 use Rattle.bc_meta.proofs.Lists.{by_test}
 use Rattle.bc_meta.specs.Layout.{Layout, set_len}
 use Rattle.bc_meta.specs.Tree.{NodeSet, Owner}
 use Rattle.bc_model.specs.Sector.{Value, values_of}
 use Rattle.bc_node.specs.Leaf.{AreLastOfAll, IsFull, Leaf, pending_set}
-use Rattle.bc_node.specs.Writing.{put_values}
 use Rattle.bc_nodes_known.specs.Nodes.{IsSetOf}
-use Rattle.bc_record.specs.Sectors.{in_blocks}
 use Rattle.bc_set.specs.Records.{set_sectors}
 use Rattle.bc_set.specs.SetBytes.{AreSetKeys}
 use Rattle.bc_set.specs.declared.set.SetKind.TheVariants.{Extents}

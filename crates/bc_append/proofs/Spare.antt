@@ -1,5 +1,5 @@
 -- Where a set goes behind a leaf's others, nobody has data, and no chain is.
-use Rattle.std.proofs.Common.{◌≡◌, ◌≢◌, inl, inr, ℕ, ◌+◌, ◌<◌, ◌≤◌, Bool, true, false, List, Some, refl, sym, ap, ◌∙◌, subst, arith}
+use Rattle.std.proofs.Common.{◌≡◌, ◌≢◌, inl, inr, ℕ, ◌+◌, ◌<◌, ◌≤◌, Bool, true, false, List, refl, sym, ap, ◌∙◌, arith}
 use Rattle.std.specs.Prelude.{length}
 use Rattle.bc_books.specs.Invariant.{IsInOrder}
 use Rattle.bc_data.specs.Data as flow
@@ -14,10 +14,9 @@ use Rattle.bc_key.specs.declared.ptr.Ptr.{Ptr}
 use Rattle.bc_append.proofs.Course.{at_course, inv_course}
 use Rattle.bc_known.proofs.Law.{order_at}
 use Rattle.bc_known.specs.Acts as known
-use Rattle.bc_leaves.specs.Parts.{Coming, Draft, Free, Leaving, NoNode, Role, leaf_owner}
-use Rattle.bc_leaves.specs.Parts as parts
+use Rattle.bc_leaves.specs.Parts.{Coming, Draft, Free, Leaving, NoNode, Role}
 use Rattle.bc_meta.proofs.Place.{within_of}
-use Rattle.bc_meta.specs.Layout.{node_end, set_len}
+use Rattle.bc_meta.specs.Layout.{set_len}
 use Rattle.bc_meta.specs.Places.{Places}
 use Rattle.bc_meta.specs.Records.{Records}
 use Rattle.bc_meta.specs.Tree.{NodeSet, Owner}
@@ -26,7 +25,6 @@ use Rattle.bc_model.specs.Sector.{Value}
 use Rattle.bc_node.specs.Leaf.{Leaf}
 use Rattle.bc_nodes_known.proofs.Law.{law_nodes}
 use Rattle.bc_nodes_known.specs.Nodes.{MayAppend}
-use Rattle.bc_set.specs.declared.set.Set.{Set}
 use Rattle.bc_shares.specs.Shares.{books_of, leaf_share}
 use Rattle.bc_whole.specs.State as whole
 

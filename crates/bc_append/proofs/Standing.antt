@@ -1,5 +1,5 @@
 -- What stands behind a further set, and behind one whose write failed.
-use Rattle.std.proofs.Common.{◌≡◌, ◌≢◌, ℕ, ◌+◌, ◌-◌, ◌<◌, ◌≤◌, Bool, true, false, List, Option, Some, None, refl, sym, ap, ◌∙◌, subst}
+use Rattle.std.proofs.Common.{◌≡◌, ℕ, ◌-◌, ◌≤◌, Bool, true, false, List, Some, refl, sym, ap, subst}
 use Rattle.std.specs.Prelude.{slice_get}
 use Rattle.bc_cache.specs.Slots.{NodeCache, with_slot}
 use Rattle.bc_cache.specs.declared.slots.Cached.{Cached}

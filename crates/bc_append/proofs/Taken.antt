@@ -1,12 +1,10 @@
 -- A leaf of the tree has a set, so that none of its is the node's first one.
-use Rattle.std.proofs.Common.{◌≡◌, ◌≢◌, ℕ, ◌+◌, ◌<◌, Bool, false, List, [], ◌∷◌, refl, sym, ap, ◌∙◌, subst, arith}
-use Rattle.bc_disk.specs.declared.geometry.Geometry.{Geometry}
-use Rattle.bc_facts.specs.Layout.{IsLayoutOf}
+use Rattle.std.proofs.Common.{◌≡◌, ◌≢◌, ℕ, ◌<◌, false, List, [], ◌∷◌, refl, ap, ◌∙◌, arith}
 use Rattle.bc_place.specs.bc_machine.Containers.{IsInTree, IsLeafFor, sets_len}
 use Rattle.bc_place.specs.bc_machine.World.{IsCourseOf, IsOrigin, Origin, World, replay}
 use Rattle.bc_append.proofs.Course.{inv_course}
 use Rattle.bc_leaves.specs.Parts.{Coming, Draft, Free, IsLive, Leaving, NoNode, Role, node_of}
-use Rattle.bc_meta.specs.Layout.{Layout, set_len}
+use Rattle.bc_meta.specs.Layout.{Layout}
 use Rattle.bc_meta.specs.Tree.{NodeSet}
 use Rattle.bc_node.specs.Leaf.{Leaf}
 use Rattle.bc_shares.specs.Shares.{leaf_share}

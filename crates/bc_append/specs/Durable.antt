@@ -1,6 +1,6 @@
 -- Up to which entry the journal is durable, as a seat knows it. It is said from each opening of the
 -- core from which the run so far is one.
-use Rattle.std.specs.Prelude.{ℕ, ◌≤◌}
+use Rattle.std.specs.Prelude.{◌≡◌, ℕ, ◌≤◌}
 use Rattle.bc_disk.specs.Disk.{DiskFacts}
 use Rattle.bc_events.specs.Run.{State}
 use Rattle.bc_events.specs.declared.event.Event.{Event}
@@ -14,6 +14,12 @@ use Rattle.std.specs.Prelude.{Some}
 -- the entry of this number is durable, and so is each before it
 abbrev pub IsDurableTo : ℕ → Origin → State → Type 0
 IsDurableTo n o st = n ≤ st.machine.whole.parts.records.newest.number
+
+-- A journal that stood for the run was durable up to just this entry.
+pub record IsToldBy (n : ℕ) (x : World) : Type 0 where
+  pub journal : Journal
+  pub stood : IsJournal journal x
+  pub number_is : n ≡ journal.durable.seq
 
 -- What is durable stays so, whatever happens.
 abbrev pub LawLasts : Type 0

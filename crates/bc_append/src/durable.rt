@@ -1,6 +1,6 @@
 //! How far the journal is durable.
 ghost use Rattle.std.specs.Prelude.{◌≡◌, false, None};
-ghost use Rattle.bc_append.specs.Durable.{IsDurableTo};
+ghost use Rattle.bc_append.specs.Durable.{IsDurableTo, IsToldBy};
 ghost use Rattle.bc_place.specs.bc_hand.Seats.{HasNoneBehindJournal, Works, core, kinds, world};
 ghost use Rattle.bc_place.specs.bc_machine.World.{FromEach, are_plain};
 ghost use Rattle.bc_seats.specs.Seats.{Waited};
@@ -28,6 +28,7 @@ pub fn durable_entry<C: Disk + Drop, B: Disk + Drop, R: Wait>(
     ensures hand { kinds hand.new ≡ kinds hand.old }
     ensures rest { hand.new ≡ record hand.old { journal = hand.new.journal } }
     ensures knows { FromEach (world C.facts B.facts seat.new) (IsDurableTo result) }
+    ensures told { IsToldBy result (world C.facts B.facts seat.new) }
 {
     let (journal, taken) = borrow_journal(rt, parts, seat, hand);
     let number = journal.get().durable();

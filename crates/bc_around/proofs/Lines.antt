@@ -21,7 +21,6 @@ use Rattle.bc_flush.specs.bc_job.Asked.{IsFor, line_of}
 use Rattle.bc_flush.specs.bc_job.declared.job.Job.{Job}
 use Rattle.bc_flush.specs.bc_machine.Plain.{worker_of}
 use Rattle.bc_flush.specs.bc_machine.declared.part.CorePart.{CorePart}
-use Rattle.bc_journal.specs.declared.heads.Heads.{Heads}
 use Rattle.bc_model.specs.Pieces.{Piece, piece_in, piece_of}
 use Rattle.bc_model.specs.declared.values.Values.{Values}
 use Rattle.bc_parts.specs.Seat.{PartsView, Run}
@@ -49,23 +48,23 @@ module _ {C B : Type 0} (cache_facts : C → DiskFacts) (backing_facts : B → D
   pub for_still : (job : Job) (v w : View cache_facts backing_facts)
       → Gone cache_facts backing_facts v w → IsFor cache_facts backing_facts job v
       → IsFor cache_facts backing_facts job w
-  for_still job v w gone its = let same = gone.2.same in record {
+  for_still job v w gone its = let same = gone.1.same in record {
     worker = ap (λ n. worker_of n) same.first ∙ its.worker;
     size = its.size ∙ sym (ap (λ (r : Run (CorePart C B)).
         size_of cache_facts backing_facts r.start) same.run);
   }
 
-  module _ (p : PartsView (CorePart C B)) (job : Job) (values : Values) (heads : Heads) where
+  module _ (p : PartsView (CorePart C B)) (job : Job) (values : Values) where
     pub gone_passed : (o : Past) (q : Piece) (v w : View cache_facts backing_facts)
         → HasPassed cache_facts backing_facts o p job.force (line_of job) q.first
-        (piece_of job.first values q) heads v w → Gone cache_facts backing_facts v w
+        (piece_of job.first values q) v w → Gone cache_facts backing_facts v w
     gone_passed o q v w (inl h) = gone_tried cache_facts backing_facts p job.force (line_of job)
         q.first (piece_of job.first values q) o v w h.1
     gone_passed o q v w (inr (u, made, h)) = gone_both cache_facts backing_facts v u w
         (gone_both cache_facts backing_facts v made.at u
         (gone_tried cache_facts backing_facts p job.force (line_of job) q.first
         (piece_of job.first values q) past.Waiting v made.at made.waited)
-        (gone_synced cache_facts backing_facts heads made.at u made.synced))
+        (gone_synced cache_facts backing_facts made.at u made.synced))
         (gone_tried cache_facts backing_facts p job.force (line_of job) q.first
         (piece_of job.first values q) o u w h)
 
@@ -78,34 +77,34 @@ module _ {C B : Type 0} (cache_facts : C → DiskFacts) (backing_facts : B → D
 
       passed_at : (o : Past) (u w : View cache_facts backing_facts)
           → HasPassed cache_facts backing_facts o p job.force (line_of job) first
-          (take count (drop (first - job.first) values)) heads u w
-          → PiecePassed cache_facts backing_facts o p job values heads
+          (take count (drop (first - job.first) values)) u w
+          → PiecePassed cache_facts backing_facts o p job values
           (piece_at job (number - job.first / 256)) u w
       passed_at o u w = subst (λ (q : Piece).
-          PiecePassed cache_facts backing_facts o p job values heads q u w) its_piece
+          PiecePassed cache_facts backing_facts o p job values q u w) its_piece
 
       pub gone_passed_at : (o : Past) (u w : View cache_facts backing_facts)
           → HasPassed cache_facts backing_facts o p job.force (line_of job) first
-          (take count (drop (first - job.first) values)) heads u w
+          (take count (drop (first - job.first) values)) u w
           → Gone cache_facts backing_facts u w
       gone_passed_at o u w h = gone_passed o (piece_at job (number - job.first / 256)) u w
           (passed_at o u w h)
 
       pub one_more : (o : Past) (v u w : View cache_facts backing_facts) → o ≡ past.Written
-          → HasWrittenSome cache_facts backing_facts p job values heads
+          → HasWrittenSome cache_facts backing_facts p job values
           (number - job.first / 256) v u
           → HasPassed cache_facts backing_facts o p job.force (line_of job) first
-          (take count (drop (first - job.first) values)) heads u w
-          → HasWrittenSome cache_facts backing_facts p job values heads
+          (take count (drop (first - job.first) values)) u w
+          → HasWrittenSome cache_facts backing_facts p job values
           (number + 1 - job.first / 256) v w
       one_more o v u w is before passed =
           let next : suc (number - job.first / 256) ≡ number + 1 - job.first / 256 = omega arith in
-          subst (λ n. HasWrittenSome cache_facts backing_facts p job values heads n v w) next (
+          subst (λ n. HasWrittenSome cache_facts backing_facts p job values n v w) next (
             u,
             before,
             passed_at past.Written u w (subst (λ (x : Past).
                 HasPassed cache_facts backing_facts x p job.force (line_of job) first
-                (take count (drop (first - job.first) values)) heads u w) is passed),
+                (take count (drop (first - job.first) values)) u w) is passed),
           )
 
       module _ (high : number < (job.first + job.count + 255) / 256) where
@@ -115,11 +114,11 @@ module _ {C B : Type 0} (cache_facts : C → DiskFacts) (backing_facts : B → D
         pub stopped_at : (at : Stopped) (o q : Past) (v u w : View cache_facts backing_facts)
             → at.piece.first ≡ first → at.piece.count ≡ count → at.past ≡ o → o ≡ q
             → q ≢ past.Written
-            → HasWrittenSome cache_facts backing_facts p job values heads
+            → HasWrittenSome cache_facts backing_facts p job values
             (number - job.first / 256) v u
             → HasPassed cache_facts backing_facts o p job.force (line_of job) first
-            (take count (drop (first - job.first) values)) heads u w
-            → HasStoppedLine cache_facts backing_facts at p job values heads v w
+            (take count (drop (first - job.first) values)) u w
+            → HasStoppedLine cache_facts backing_facts at p job values v w
         stopped_at at o q v u w a b past_is is ne before passed = record {
           before = number - job.first / 256;
           few = fewer;
@@ -128,67 +127,67 @@ module _ {C B : Type 0} (cache_facts : C → DiskFacts) (backing_facts : B → D
           not_written = λ wrote. ne (sym is ∙ sym past_is ∙ wrote);
           reached = u;
           written = before;
-          stop = subst (λ (x : Past). PiecePassed cache_facts backing_facts x p job values heads
+          stop = subst (λ (x : Past). PiecePassed cache_facts backing_facts x p job values
               (piece_at job (number - job.first / 256)) u w) (sym past_is) (passed_at o u w passed);
         }
 
         pub refused_at : (e : PastError) (v u w : View cache_facts backing_facts)
-            → HasWrittenSome cache_facts backing_facts p job values heads
+            → HasWrittenSome cache_facts backing_facts p job values
             (number - job.first / 256) v u
             → HasNotPassed cache_facts backing_facts e p job.force (line_of job) first
-            (take count (drop (first - job.first) values)) heads u w
-            → HasNotWrittenLine cache_facts backing_facts (line.Piece e) p job values heads v w
+            (take count (drop (first - job.first) values)) u w
+            → HasNotWrittenLine cache_facts backing_facts (line.Piece e) p job values v w
         refused_at e v u w before stop = record {
           before = number - job.first / 256;
           few = fewer;
           reached = u;
           written = before;
           stop = subst (λ (q : Piece). HasNotPassed cache_facts backing_facts e p job.force
-              (line_of job) q.first (piece_of job.first values q) heads u w) its_piece stop;
+              (line_of job) q.first (piece_of job.first values q) u w) its_piece stop;
         }
 
     pub none_yet : (number : ℕ) (v : View cache_facts backing_facts)
         → number ≡ job.first / 256
-        → HasWrittenSome cache_facts backing_facts p job values heads
+        → HasWrittenSome cache_facts backing_facts p job values
         (number - job.first / 256) v v
     none_yet number v is = let none : 0 ≡ number - job.first / 256 = omega arith in
-        subst (λ n. HasWrittenSome cache_facts backing_facts p job values heads n v v) none refl
+        subst (λ n. HasWrittenSome cache_facts backing_facts p job values n v v) none refl
 
     pub all_of : (number end : ℕ) (v w : View cache_facts backing_facts)
         → end ≡ (job.first + job.count + 255) / 256 → number ≡ end
-        → HasWrittenSome cache_facts backing_facts p job values heads
+        → HasWrittenSome cache_facts backing_facts p job values
         (number - job.first / 256) v w
-        → HasWrittenSome cache_facts backing_facts p job values heads (pieces_in job) v w
+        → HasWrittenSome cache_facts backing_facts p job values (pieces_in job) v w
     all_of number end v w last is =
         let all : number - job.first / 256 ≡ pieces_in job = omega arith in
-        subst (λ n. HasWrittenSome cache_facts backing_facts p job values heads n v w) all
+        subst (λ n. HasWrittenSome cache_facts backing_facts p job values n v w) all
 
   pub no_part : (p : PartsView (CorePart C B)) (job : Job) (first : ℕ) (part : Values)
-      (heads : Heads) (v : View cache_facts backing_facts) → IsCoreSeat cache_facts backing_facts v
+      (v : View cache_facts backing_facts) → IsCoreSeat cache_facts backing_facts v
       → HasNotPassed cache_facts backing_facts (error.Claim step.Memory) p job.force (line_of job)
-      first part heads v v
-  no_part p job first part heads v seat =
+      first part v v
+  no_part p job first part v seat =
       inl (no_memory cache_facts backing_facts p job.force (line_of job) first part v seat)
 
   -- of the line and values that they are
   pub passed_with : (r : Result Past PastError) (p : PartsView (CorePart C B)) (force : Bool)
-      (first : ℕ) (heads : Heads) (v w : View cache_facts backing_facts) (of line : LineNumber)
+      (first : ℕ) (v w : View cache_facts backing_facts) (of line : LineNumber)
       → of ≡ line → (part values : Values) → part ≡ values
-      → IfOk r (λ o. HasPassed cache_facts backing_facts o p force of first part heads v w)
-      → IfOk r (λ o. HasPassed cache_facts backing_facts o p force line first values heads v w)
-  passed_with r p force first heads v w of line is part values same h =
+      → IfOk r (λ o. HasPassed cache_facts backing_facts o p force of first part v w)
+      → IfOk r (λ o. HasPassed cache_facts backing_facts o p force line first values v w)
+  passed_with r p force first v w of line is part values same h =
       subst (λ (l : Values). IfOk r (λ o.
-      HasPassed cache_facts backing_facts o p force line first l heads v w)) same
+      HasPassed cache_facts backing_facts o p force line first l v w)) same
       (subst (λ (n : LineNumber). IfOk r (λ o.
-      HasPassed cache_facts backing_facts o p force n first part heads v w)) is h)
+      HasPassed cache_facts backing_facts o p force n first part v w)) is h)
 
   pub not_with : (r : Result Past PastError) (p : PartsView (CorePart C B)) (force : Bool)
-      (first : ℕ) (heads : Heads) (v w : View cache_facts backing_facts) (of line : LineNumber)
+      (first : ℕ) (v w : View cache_facts backing_facts) (of line : LineNumber)
       → of ≡ line → (part values : Values) → part ≡ values
-      → IfErr r (λ e. HasNotPassed cache_facts backing_facts e p force of first part heads v w)
-      → IfErr r (λ e. HasNotPassed cache_facts backing_facts e p force line first values heads v w)
-  not_with r p force first heads v w of line is part values same h =
+      → IfErr r (λ e. HasNotPassed cache_facts backing_facts e p force of first part v w)
+      → IfErr r (λ e. HasNotPassed cache_facts backing_facts e p force line first values v w)
+  not_with r p force first v w of line is part values same h =
       subst (λ (l : Values). IfErr r (λ e.
-      HasNotPassed cache_facts backing_facts e p force line first l heads v w)) same
+      HasNotPassed cache_facts backing_facts e p force line first l v w)) same
       (subst (λ (n : LineNumber). IfErr r (λ e.
-      HasNotPassed cache_facts backing_facts e p force n first part heads v w)) is h)
+      HasNotPassed cache_facts backing_facts e p force n first part v w)) is h)

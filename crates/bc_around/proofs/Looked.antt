@@ -1,13 +1,9 @@
 -- What a seat knows of a claim that it looked up, none of whose sectors has a key.
 use Rattle.std.proofs.Common.{◌≡◌, inl, inr, ℕ, ◌+◌, ◌<◌, ◌≤◌, Bool, List, [], ◌∷◌, ◌++◌, Option, Some, None, refl, sym, ap, ◌∙◌, subst, arith}
-use Rattle.std.proofs.lemmas.List.Elements.{All-append, All-cons, All-nil}
 use Rattle.bc_disk.specs.declared.disk.Device.TheVariants.{Cache}
 use Rattle.bc_events.specs.declared.event.Failure.TheVariants as failure
-use Rattle.bc_flush.specs.Known.{StaysKnown}
-use Rattle.bc_flush.proofs.Staying.{IsQuiet, stays_done}
 use Rattle.bc_flush.specs.bc_machine.Note.{Note, note_after}
-use Rattle.bc_journal.specs.declared.heads.Heads.{Heads}
-use Rattle.std.specs.Prelude.{All, Err, IfErr, Ok, OnErr, OnOk, Result}
+use Rattle.std.specs.Prelude.{Err, IfErr, Ok, OnErr, OnOk, Result}
 use Rattle.bc_around.specs.Bare.{AreBare, AreBareUpTo}
 use Rattle.bc_around.specs.Look.{HasFoundKey, HasFreeLeaf, HasKeyedLeaf, HasLookedFree, IsHaltedAs, NotLooked, SeesNone}
 use Rattle.bc_around.proofs.Counting.{come_looked, keys_at}
@@ -388,18 +384,3 @@ module _ {C B : Type 0} (cache_facts : C → DiskFacts) (backing_facts : B → D
       done = h.done;
       then = done_both cache_facts backing_facts [] [] h.at w x h.then then;
     }
-
-    quiet_way : (ds : List Deed) → IsWay ds → All IsQuiet ds
-    quiet_way ds (inl none) = subst (All IsQuiet) (sym none) (All-nil IsQuiet)
-    quiet_way ds (inr one) = subst (All IsQuiet) (sym one.1)
-        (All-cons IsQuiet (node_read one.0) [] refl (All-nil IsQuiet))
-
-    pub known_looked : (heads : Heads) → IsCoreSeat cache_facts backing_facts w
-        → StaysKnown cache_facts backing_facts heads v
-        → StaysKnown cache_facts backing_facts heads w
-    known_looked heads seat known =
-        stays_done cache_facts backing_facts heads [] h.at w h.then seat (All-nil IsQuiet)
-        (stays_done cache_facts backing_facts heads (h.way ++ deed.Look h.number ∷ []) v h.at h.done
-        h.works.seat
-        (All-append IsQuiet h.way (deed.Look h.number ∷ []) (quiet_way h.way h.is_way)
-        (All-cons IsQuiet (deed.Look h.number) [] refl (All-nil IsQuiet))) known)

@@ -4,16 +4,12 @@ use Rattle.std.specs.Prelude.{MatchBool}
 use Rattle.bc_around.specs.Owed.{HasOwed, Owes, OwesNone}
 use Rattle.bc_disk.specs.Disk.{DiskFacts}
 use Rattle.bc_flush.specs.Durable.{AreDurable, HaveComeIn}
-use Rattle.bc_flush.specs.Known.{StaysKnown}
 use Rattle.bc_flush.proofs.Counting.{come_lasts, durable_lasts}
-use Rattle.bc_flush.proofs.Staying.{IsQuiet, stays_done}
 use Rattle.bc_flush.proofs.Syncing.{as_waited, none_owed}
 use Rattle.bc_flush.proofs.Walking.{lasts_done}
-use Rattle.std.proofs.lemmas.List.Elements.{All-nil}
 use Rattle.bc_flush.specs.bc_hand.Seats.{IsCoreSeat, world}
 use Rattle.bc_flush.proofs.of_bc_hand.Knowing.{View, m}
 use Rattle.bc_journal.specs.Journal.{Journal}
-use Rattle.bc_journal.specs.declared.heads.Heads.{Heads}
 use Rattle.bc_flush.specs.bc_machine.World.{FromEach, IsJournal, Origin, World}
 use Rattle.bc_seats.specs.Seats.{Waited}
 
@@ -34,16 +30,13 @@ module _ {C B : Type 0} (cache_facts : C → DiskFacts) (backing_facts : B → D
       (first : Waited (m cache_facts backing_facts) t u)
       (then : Waited (m cache_facts backing_facts) u v)
       (stands : IsJournal j (seen u)) where
-    pub all_durable : (heads : Heads) → IsCoreSeat cache_facts backing_facts u
-        → StaysKnown cache_facts backing_facts heads t → OwesNone j → (n : Origin → ℕ)
+    pub all_durable : IsCoreSeat cache_facts backing_facts u → OwesNone j → (n : Origin → ℕ)
         → FromEach (seen t) (HaveComeIn n) → FromEach (seen v) (AreDurable n)
-    all_durable heads seat known owes n come =
+    all_durable seat owes n come =
         let before = as_waited cache_facts backing_facts t u first in
         lasts_done cache_facts backing_facts (AreDurable n) (durable_lasts n) [] u v
         (as_waited cache_facts backing_facts u v then)
-        (none_owed cache_facts backing_facts heads u j stands
-        (stays_done cache_facts backing_facts heads [] t u before seat (All-nil IsQuiet) known)
-        owes.none owes.empty n
+        (none_owed cache_facts backing_facts u seat j stands owes.none owes.empty n
         (lasts_done cache_facts backing_facts (HaveComeIn n) (come_lasts n) [] t u before come))
 
     pub still_owed : Owes j → HasOwed cache_facts backing_facts t v

@@ -1,28 +1,25 @@
 -- A piece, from its claim to its release, and with an entry of the journal between two tries.
 use Rattle.std.specs.Prelude.{All, Result, Ok, Err, IfErr, IfOk, OnOk}
-use Rattle.std.proofs.Common.{◌≡◌, ◌≢◌, inl, inr, ℕ, Bool, true, List, [], ◌∷◌, length, None, Some, refl, sym, ap, ◌∙◌, subst, arith}
-use Rattle.std.proofs.lemmas.List.Elements.{All-cons, All-nil}
+use Rattle.std.proofs.Common.{◌≡◌, ◌≢◌, inl, inr, ℕ, Bool, true, List, [], ◌∷◌, length, None, Some, refl, ap, ◌∙◌, subst, arith}
+use Rattle.std.proofs.lemmas.List.Elements.{All-nil}
 use Rattle.bc_flush.proofs.of_bc_deed.May.{did_nothing}
 use Rattle.bc_around.specs.Past.{HasComeTo, HasMadeDurable, HasNotPassed, HasNotTried, HasPassed, HasStopped, HasTried}
 use Rattle.bc_around.specs.declared.past.Past.{Past}
 use Rattle.bc_around.specs.declared.past.Past.TheVariants as past
 use Rattle.bc_around.specs.declared.past.PastError.{PastError}
 use Rattle.bc_around.specs.declared.past.PastError.TheVariants as error
-use Rattle.bc_around.proofs.Going.{Gone, gone_come, gone_first, gone_not_tried, gone_tried, gone_under}
-use Rattle.bc_flush.specs.bc_deed.Asked.{IsClaim, IsHalted, IsHaltedOr, IsWithin, MayWrite}
+use Rattle.bc_flush.specs.bc_deed.Asked.{IsHalted, IsHaltedOr, IsWithin, MayWrite}
 use Rattle.bc_flush.specs.bc_deed.Flushed.{HasDone}
 use Rattle.bc_flush.proofs.of_bc_deed.Sequence.{done_both, done_first}
 use Rattle.bc_disk.specs.Disk.{DiskFacts}
 use Rattle.bc_events.specs.declared.event.Deed.{Deed}
 use Rattle.bc_events.specs.declared.event.Deed.TheVariants as deed
 use Rattle.bc_events.specs.declared.event.LineNumber.{LineNumber}
-use Rattle.bc_flight.specs.declared.claim.Claim.{Claim}
 use Rattle.bc_flight.specs.declared.claim.Share.TheVariants.{Exclusive}
-use Rattle.bc_flush.specs.Known.{StaysKnown}
 use Rattle.bc_flush.specs.Sync.{HasNotSynced, HasSynced}
 use Rattle.bc_flush.specs.declared.error.FlushError.{FlushError}
 use Rattle.bc_flush.proofs.Flushing.{IsUnnoted, all_sync_cut, note_still, synced_unnoted}
-use Rattle.bc_flush.proofs.Staying.{IsQuiet, stays_done}
+use Rattle.bc_flush.proofs.Syncing.{cut_on, entry_on}
 use Rattle.bc_flush.specs.bc_hand.Seats.{Did, IsCoreSeat, Works, by, empty, note}
 use Rattle.bc_flush.specs.bc_hand.declared.error.StepError.{StepError}
 use Rattle.bc_flush.specs.bc_hand.declared.error.StepError.TheVariants as step
@@ -30,7 +27,6 @@ use Rattle.bc_flush.specs.bc_hand.declared.hand.Hand.{Hand}
 use Rattle.bc_flush.specs.bc_request.Asked.{IsIdle}
 use Rattle.bc_events.specs.declared.event.Event.{Event}
 use Rattle.bc_flush.proofs.of_bc_hand.Knowing.{View, note_committed_is}
-use Rattle.bc_journal.specs.declared.heads.Heads.{Heads}
 use Rattle.bc_flush.specs.bc_machine.Frame.{Range}
 use Rattle.bc_flush.specs.bc_machine.Note.{Note}
 use Rattle.bc_flush.specs.bc_machine.World.{cache_among}
@@ -71,17 +67,6 @@ module _ {C B : Type 0} (cache_facts : C → DiskFacts) (backing_facts : B → D
         (note_done cache_facts backing_facts (deed.Claim first count Exclusive ∷ []) v w done);
     covered = within_itself (note cache_facts backing_facts w).range first count range;
   }
-
-  pub known_claimed : (heads : Heads) (t u w : View cache_facts backing_facts) (first count : ℕ)
-      → HasDone cache_facts backing_facts [] t u
-      → HasDone cache_facts backing_facts (deed.Claim first count Exclusive ∷ []) u w
-      → IsCoreSeat cache_facts backing_facts w → StaysKnown cache_facts backing_facts heads t
-      → StaysKnown cache_facts backing_facts heads w
-  known_claimed heads t u w first count before claim seat known =
-      stays_done cache_facts backing_facts heads (deed.Claim first count Exclusive ∷ []) t w
-      (done_both cache_facts backing_facts [] (deed.Claim first count Exclusive ∷ []) t u w before
-      claim) seat (All-cons IsQuiet (deed.Claim first count Exclusive) [] refl (All-nil IsQuiet))
-      known
 
   pub not_claimed : (p : PartsView (CorePart C B)) (force : Bool) (of : LineNumber) (first : ℕ)
       (values : Values) (e : StepError) (t u w : View cache_facts backing_facts)
@@ -167,28 +152,7 @@ module _ {C B : Type 0} (cache_facts : C → DiskFacts) (backing_facts : B → D
       released = released;
     })
 
-  pub first_tried : (r : Result Past PastError) (p : PartsView (CorePart C B)) (force : Bool)
-      (of : LineNumber) (first : ℕ) (values : Values) (v x : View cache_facts backing_facts)
-      → IfOk r (λ o. HasComeTo cache_facts backing_facts o p force of first values v x)
-      → IfErr r (λ e. HasStopped cache_facts backing_facts e p force of first values v x)
-      → x.first ≡ v.first
-  first_tried (Ok o) p force of first values v x come stop =
-      gone_first cache_facts backing_facts v x
-      (gone_come cache_facts backing_facts p force of first values o v x come)
-  first_tried (Err e) p force of first values v x come stop = gone_first cache_facts backing_facts
-      v x (gone_under cache_facts backing_facts p force of first values e v x stop)
-
   -- ---- idle seats
-
-  pub claim_still : (c : Claim) (v w : View cache_facts backing_facts) → w.first ≡ v.first
-      → (note cache_facts backing_facts w).range ≡ (note cache_facts backing_facts v).range
-      → IsClaim c v.first (note cache_facts backing_facts v).range
-      → IsClaim c w.first (note cache_facts backing_facts w).range
-  claim_still c v w seat range is = record {
-    its_seat = is.its_seat ∙ sym seat;
-    some = is.some;
-    range = range ∙ is.range;
-  }
 
   idle_with : (p : PartsView (CorePart C B)) (v w : View cache_facts backing_facts) (h : Hand C B)
       → IsIdle cache_facts backing_facts p v → h ≡ empty → Works cache_facts backing_facts p w h
@@ -200,12 +164,6 @@ module _ {C B : Type 0} (cache_facts : C → DiskFacts) (backing_facts : B → D
     unclaimed = none;
   }
 
-  pub idle_still : (p : PartsView (CorePart C B)) (v w : View cache_facts backing_facts)
-      (h : Hand C B) → IsIdle cache_facts backing_facts p v → h ≡ empty
-      → Works cache_facts backing_facts p w h
-      → (note cache_facts backing_facts w).range.count ≡ 0 → IsIdle cache_facts backing_facts p w
-  idle_still p v w h idle is works none = idle_with p v w h idle is works none
-
   pub idle_again : (p : PartsView (CorePart C B)) (u v w : View cache_facts backing_facts)
       (h : Hand C B) → IsIdle cache_facts backing_facts p u → h ≡ empty
       → Works cache_facts backing_facts p w h
@@ -216,31 +174,27 @@ module _ {C B : Type 0} (cache_facts : C → DiskFacts) (backing_facts : B → D
 
   -- ---- an entry
 
-  pub known_promised : (heads : Heads) (t u : View cache_facts backing_facts)
-      → HasDone cache_facts backing_facts [] t u → IsCoreSeat cache_facts backing_facts u
-      → StaysKnown cache_facts backing_facts heads t → StaysKnown cache_facts backing_facts heads u
-  known_promised heads t u done seat known =
-      stays_done cache_facts backing_facts heads [] t u done seat (All-nil IsQuiet) known
-
-  pub synced_behind : {A E : Type 0} (r : Result A E) (heads : Heads)
+  pub synced_behind : {A E : Type 0} (r : Result A E)
       (t u w : View cache_facts backing_facts) → HasDone cache_facts backing_facts [] t u
-      → OnOk r (HasSynced cache_facts backing_facts heads u w)
-      → OnOk r (HasSynced cache_facts backing_facts heads t w)
-  synced_behind (Ok a) heads t u w before h = record {
+      → OnOk r (HasSynced cache_facts backing_facts u w)
+      → OnOk r (HasSynced cache_facts backing_facts t w)
+  synced_behind (Ok a) t u w before h = record {
     deeds = h.deeds;
     are = h.are;
+    stood = entry_on cache_facts backing_facts [] t u before h.deeds h.are h.stood;
     done = done_both cache_facts backing_facts [] h.deeds t u w before h.done;
   }
-  synced_behind (Err e) heads t u w before h = tt
+  synced_behind (Err e) t u w before h = tt
 
-  pub not_synced_behind : {A : Type 0} (r : Result A FlushError) (sectors : ℕ) (heads : Heads)
+  pub not_synced_behind : {A : Type 0} (r : Result A FlushError) (sectors : ℕ)
       (t u w : View cache_facts backing_facts) → HasDone cache_facts backing_facts [] t u
-      → IfErr r (λ e. HasNotSynced cache_facts backing_facts sectors e heads u w)
-      → IfErr r (λ e. HasNotSynced cache_facts backing_facts sectors e heads t w)
-  not_synced_behind (Ok a) sectors heads t u w before h = tt
-  not_synced_behind (Err e) sectors heads t u w before h = record {
+      → IfErr r (λ e. HasNotSynced cache_facts backing_facts sectors e u w)
+      → IfErr r (λ e. HasNotSynced cache_facts backing_facts sectors e t w)
+  not_synced_behind (Ok a) sectors t u w before h = tt
+  not_synced_behind (Err e) sectors t u w before h = record {
     deeds = h.deeds;
     cut = h.cut;
+    stood = cut_on cache_facts backing_facts [] t u before sectors e h.deeds h.cut h.stood;
     halt = h.halt;
     done = done_both cache_facts backing_facts [] h.deeds t u w before h.done;
   }
@@ -254,28 +208,28 @@ module _ {C B : Type 0} (cache_facts : C → DiskFacts) (backing_facts : B → D
       ∙ note_still cache_facts backing_facts [] t u before (All-nil IsUnnoted)) ∙ none
 
   pub idle_synced : {A : Type 0} (r : Result A FlushError) (p : PartsView (CorePart C B))
-      (sectors : ℕ) (heads : Heads) (t u w : View cache_facts backing_facts)
+      (sectors : ℕ) (t u w : View cache_facts backing_facts)
       → IsIdle cache_facts backing_facts p t → HasDone cache_facts backing_facts [] t u
       → Works cache_facts backing_facts p w empty
-      → OnOk r (HasSynced cache_facts backing_facts heads u w)
-      → IfErr r (λ e. HasNotSynced cache_facts backing_facts sectors e heads u w)
+      → OnOk r (HasSynced cache_facts backing_facts u w)
+      → IfErr r (λ e. HasNotSynced cache_facts backing_facts sectors e u w)
       → IsIdle cache_facts backing_facts p w
-  idle_synced (Ok a) p sectors heads t u w idle before works ok err =
+  idle_synced (Ok a) p sectors t u w idle before works ok err =
       idle_with p t w empty idle refl works (count_still t u w ok.deeds before ok.done
-      (synced_unnoted heads ok.deeds ok.are) idle.unclaimed)
-  idle_synced (Err e) p sectors heads t u w idle before works ok err =
+      (synced_unnoted ok.deeds ok.are) idle.unclaimed)
+  idle_synced (Err e) p sectors t u w idle before works ok err =
       idle_with p t w empty idle refl works (count_still t u w err.deeds before err.done
       (all_sync_cut IsUnnoted (λ low bucket rest plain o. refl) (λ plain o. refl)
-      (λ s values plain o. refl) (λ s values plain o. refl) (λ plain o. refl) sectors e heads
+      (λ s values plain o. refl) (λ s values plain o. refl) (λ plain o. refl) sectors e
       err.deeds err.cut) idle.unclaimed)
 
   -- ---- two tries
 
   module _ (p : PartsView (CorePart C B)) (force : Bool) (of : LineNumber) (first : ℕ)
-      (values : Values) (heads : Heads) where
+      (values : Values) where
     pub passed_first : (o q : Past) (v w : View cache_facts backing_facts) → o ≡ q
         → q ≢ past.Waiting → HasTried cache_facts backing_facts o p force of first values v w
-        → HasPassed cache_facts backing_facts q p force of first values heads v w
+        → HasPassed cache_facts backing_facts q p force of first values v w
     passed_first o q v w is ne tried = inl (
       ne,
       subst (λ (x : Past). HasTried cache_facts backing_facts x p force of first values v w) is
@@ -299,8 +253,8 @@ module _ {C B : Type 0} (cache_facts : C → DiskFacts) (backing_facts : B → D
 
     pub not_durable : (e : FlushError) (v u w : View cache_facts backing_facts)
         → HasTried cache_facts backing_facts past.Waiting p force of first values v u
-        → HasNotSynced cache_facts backing_facts Sectors e heads u w
-        → HasNotPassed cache_facts backing_facts (error.Journal e) p force of first values heads v w
+        → HasNotSynced cache_facts backing_facts Sectors e u w
+        → HasNotPassed cache_facts backing_facts (error.Journal e) p force of first values v w
     not_durable e v u w waited refused = inr (inl (record {
       cause = e;
       is = refl;
@@ -311,29 +265,19 @@ module _ {C B : Type 0} (cache_facts : C → DiskFacts) (backing_facts : B → D
 
     module _ (v u x w : View cache_facts backing_facts)
         (waited : HasTried cache_facts backing_facts past.Waiting p force of first values v u)
-        (synced : HasSynced cache_facts backing_facts heads u x) where
-      made : HasMadeDurable cache_facts backing_facts p force of first values heads v x
+        (synced : HasSynced cache_facts backing_facts u x) where
+      made : HasMadeDurable cache_facts backing_facts p force of first values v x
       made = record { at = u; waited = waited; synced = synced }
 
       pub passed_then : (r : Result Past PastError)
           → IfOk r (λ o. HasTried cache_facts backing_facts o p force of first values x w)
-          → IfOk r (λ o. HasPassed cache_facts backing_facts o p force of first values heads v w)
+          → IfOk r (λ o. HasPassed cache_facts backing_facts o p force of first values v w)
       passed_then (Ok o) tried = inr (x, made, tried)
       passed_then (Err e) tried = tt
 
       pub stopped_then : (r : Result Past PastError)
           → IfErr r (λ e. HasNotTried cache_facts backing_facts e p force of first values x w)
-          → IfErr r (λ e. HasNotPassed cache_facts backing_facts e p force of first values heads
+          → IfErr r (λ e. HasNotPassed cache_facts backing_facts e p force of first values
           v w)
       stopped_then (Ok o) stop = tt
       stopped_then (Err e) stop = inr (inr (x, made, stop))
-
-    -- whatever came of the last try
-    pub gone_either : (r : Result Past PastError) (v w : View cache_facts backing_facts)
-        → IfOk r (λ o. HasTried cache_facts backing_facts o p force of first values v w)
-        → IfErr r (λ e. HasNotTried cache_facts backing_facts e p force of first values v w)
-        → Gone cache_facts backing_facts v w
-    gone_either (Ok o) v w tried stop =
-        gone_tried cache_facts backing_facts p force of first values o v w tried
-    gone_either (Err e) v w tried stop =
-        gone_not_tried cache_facts backing_facts p force of first values e v w stop

@@ -2,5 +2,4 @@ pub mod Bare
 pub mod Look
 pub mod Owed
 pub mod Past
-pub mod Alone
 pub mod Line

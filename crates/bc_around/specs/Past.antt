@@ -15,7 +15,6 @@ use Rattle.bc_flush.specs.bc_hand.declared.error.StepError.{StepError}
 use Rattle.bc_flush.specs.bc_hand.declared.error.StepError.TheVariants as step
 use Rattle.bc_flush.specs.bc_job.Deeds.{written}
 use Rattle.bc_flush.specs.bc_job.Pieces.{FailedUnder, HaltedUnder}
-use Rattle.bc_journal.specs.declared.heads.Heads.{Heads}
 use Rattle.bc_flush.specs.bc_machine.World.{cache_among}
 use Rattle.bc_flush.specs.bc_machine.declared.part.CorePart.{CorePart}
 use Rattle.bc_model.specs.Sector.{Value}
@@ -121,38 +120,38 @@ module _ {C B : Type 0} (cache_facts : C → DiskFacts) (backing_facts : B → D
 
   -- Keys waited at the first try, and were put into an entry.
   pub record HasMadeDurable (p : PartsView (CorePart C B)) (force : Bool) (of : LineNumber)
-      (first : ℕ) (values : List Value) (heads : Heads) (v w : View cache_facts backing_facts)
+      (first : ℕ) (values : List Value) (v w : View cache_facts backing_facts)
       : Type 0 where
     pub at : View cache_facts backing_facts
     pub waited : HasTried past.Waiting p force of first values v at
-    pub synced : HasSynced cache_facts backing_facts heads at w
+    pub synced : HasSynced cache_facts backing_facts at w
 
   -- the piece came to this at its first try, or at its second behind an entry
   abbrev pub HasPassed : Past → PartsView (CorePart C B) → Bool → LineNumber → ℕ → List Value
-      → Heads → View cache_facts backing_facts → View cache_facts backing_facts → Type 0
-  HasPassed o p force of first values heads v w =
+      → View cache_facts backing_facts → View cache_facts backing_facts → Type 0
+  HasPassed o p force of first values v w =
       ((o ≢ past.Waiting) × HasTried o p force of first values v w)
       ⊎ ((u : View cache_facts backing_facts)
-      × HasMadeDurable p force of first values heads v u
+      × HasMadeDurable p force of first values v u
       × HasTried o p force of first values u w)
 
   -- keys waited at the first try, and the entry was refused
   pub record HasNotMadeDurable (e : PastError) (p : PartsView (CorePart C B)) (force : Bool)
-      (of : LineNumber) (first : ℕ) (values : List Value) (heads : Heads)
+      (of : LineNumber) (first : ℕ) (values : List Value)
       (v w : View cache_facts backing_facts) : Type 0 where
     pub cause : FlushError
     pub is : e ≡ error.Journal cause
     pub at : View cache_facts backing_facts
     pub waited : HasTried past.Waiting p force of first values v at
     pub refused : HasNotSynced cache_facts backing_facts
-        (cache_among cache_facts backing_facts p.run.start).sectors cause heads at w
+        (cache_among cache_facts backing_facts p.run.start).sectors cause at w
 
   -- the first try was stopped, or the entry, or the try behind it
   abbrev pub HasNotPassed : PastError → PartsView (CorePart C B) → Bool → LineNumber → ℕ
-      → List Value → Heads → View cache_facts backing_facts → View cache_facts backing_facts
+      → List Value → View cache_facts backing_facts → View cache_facts backing_facts
       → Type 0
-  HasNotPassed e p force of first values heads v w = HasNotTried e p force of first values v w
-      ⊎ (HasNotMadeDurable e p force of first values heads v w
+  HasNotPassed e p force of first values v w = HasNotTried e p force of first values v w
+      ⊎ (HasNotMadeDurable e p force of first values v w
       ⊎ ((u : View cache_facts backing_facts)
-      × HasMadeDurable p force of first values heads v u
+      × HasMadeDurable p force of first values v u
       × HasNotTried e p force of first values u w))

@@ -1,11 +1,9 @@
 //! A line that is written past the cache, piece by piece.
 ghost use Rattle.std.specs.Prelude.{◌≡◌, ◌+◌, ◌-◌, ◌≤◌, length, take, drop, MatchOption, IfOk, IfErr};
-ghost use Rattle.bc_around.specs.Alone.{KnowsAlone};
 ghost use Rattle.bc_around.specs.Line.{HasNotWrittenLine, HasStoppedLine, HasWrittenSome, pieces_in};
 ghost use Rattle.bc_around.specs.Past.{HasNotPassed, HasPassed};
 ghost use Rattle.bc_flush.specs.bc_job.Asked.{IsFor, IsRange, line_of};
 ghost use Rattle.bc_flush.specs.bc_request.Asked.{IsIdle};
-ghost use Rattle.bc_jset.specs.EntryBytes.{IsLevel};
 
 use crate::past::{Past, PastError};
 use crate::piece::write_piece;
@@ -13,7 +11,6 @@ use bc_disk::disk::Disk;
 use bc_flush::bc_hand::error::StepError;
 use bc_flush::bc_job::job::{Job, Piece};
 use bc_flush::bc_machine::machine::{CoreParts, CoreSeat};
-use bc_journal::Heads;
 use bc_model::values::Values;
 use bc_worker::gate::Gate;
 use std::alloc::Global;
@@ -44,7 +41,6 @@ fn write_at<C: Disk + Drop, B: Disk + Drop, R: Wait, G: Gate>(
     job: &Job,
     values: &Values,
     piece: Piece,
-    heads: &Heads,
     gate: &G,
 ) -> Result<Past, PastError>
     requires idle { IsIdle C.facts B.facts parts.now seat.old }
@@ -54,17 +50,14 @@ fn write_at<C: Disk + Drop, B: Disk + Drop, R: Wait, G: Gate>(
     requires values { length values.now ≡ job.now.count }
     requires piece { (1 ≤ piece.count) × (job.now.first ≤ piece.first)
         × (piece.first + piece.count ≤ job.now.first + job.now.count) }
-    requires level { IsLevel heads.now.level }
-    requires known { KnowsAlone C.facts B.facts heads.now seat.old }
     ensures idle { IsIdle C.facts B.facts parts.now seat.new }
-    ensures known { KnowsAlone C.facts B.facts heads.now seat.new }
     ensures ok { IfOk result (λ past. HasPassed C.facts B.facts past parts.now job.now.force
         (line_of job.now) piece.first
-        (take piece.count (drop (piece.first - job.now.first) values.now)) heads.now seat.old
+        (take piece.count (drop (piece.first - job.now.first) values.now)) seat.old
         seat.new) }
     ensures err { IfErr result (λ error. HasNotPassed C.facts B.facts error parts.now job.now.force
         (line_of job.now) piece.first
-        (take piece.count (drop (piece.first - job.now.first) values.now)) heads.now seat.old
+        (take piece.count (drop (piece.first - job.now.first) values.now)) seat.old
         seat.new) }
 {
     let of = job.of();
@@ -83,7 +76,6 @@ fn write_at<C: Disk + Drop, B: Disk + Drop, R: Wait, G: Gate>(
         piece.first,
         &part,
         job.force,
-        heads,
         gate,
     )
 }
@@ -102,31 +94,27 @@ pub fn write<C: Disk + Drop, B: Disk + Drop, R: Wait, G: Gate>(
     seat: &mut CoreSeat<C, B>,
     job: &Job,
     values: &Values,
-    heads: &Heads,
     gate: &G,
 ) -> Result<Option<Stopped>, LineError>
     requires idle { IsIdle C.facts B.facts parts.now seat.old }
     requires its { IsFor C.facts B.facts job.now seat.old }
     requires range { IsRange job.now }
     requires values { length values.now ≡ job.now.count }
-    requires level { IsLevel heads.now.level }
-    requires known { KnowsAlone C.facts B.facts heads.now seat.old }
     ensures idle { IsIdle C.facts B.facts parts.now seat.new }
-    ensures known { KnowsAlone C.facts B.facts heads.now seat.new }
     ensures ok { IfOk result (λ stopped. MatchOption stopped
-        (HasWrittenSome C.facts B.facts parts.now job.now values.now heads.now
+        (HasWrittenSome C.facts B.facts parts.now job.now values.now
         (pieces_in job.now) seat.old seat.new)
-        (λ at. HasStoppedLine C.facts B.facts at parts.now job.now values.now heads.now seat.old
+        (λ at. HasStoppedLine C.facts B.facts at parts.now job.now values.now seat.old
         seat.new)) }
     ensures err { IfErr result (λ error. HasNotWrittenLine C.facts B.facts error parts.now job.now
-        values.now heads.now seat.old seat.new) }
+        values.now seat.old seat.new) }
 {
     if job.is_outside() {
         return Err(LineError::OutOfRange);
     }
     for number in job.first_piece()..job.end_piece() {
         let piece = job.piece(number);
-        let past = match write_at(rt, alloc, parts, seat, job, values, piece, heads, gate) {
+        let past = match write_at(rt, alloc, parts, seat, job, values, piece, gate) {
             Ok(past) => past,
             Err(error) => return Err(LineError::Piece(error)),
         };

@@ -2,9 +2,7 @@
 ghost use Rattle.std.specs.Prelude.{◌≡◌, ℕ, false, IsTrue, MatchBool};
 ghost use Rattle.bc_around.specs.Owed.{HasOwed, Owes, OwesNone};
 ghost use Rattle.bc_flush.specs.Durable.{AreDurable, HaveComeIn};
-ghost use Rattle.bc_flush.specs.Known.{StaysKnown};
 ghost use Rattle.bc_flush.specs.bc_hand.Seats.{Works, core, empty, world};
-ghost use Rattle.bc_journal.specs.declared.heads.Heads.{Heads};
 ghost use Rattle.bc_flush.specs.bc_machine.World.{FromEach, Origin, are_plain};
 ghost use Rattle.bc_seats.specs.Seats.{Waited};
 
@@ -36,7 +34,6 @@ pub(crate) fn is_durable<C: Disk + Drop, B: Disk + Drop, R: Wait>(
     requires works { Works C.facts B.facts parts.now seat.old hand.old }
     requires cached { are_plain C.facts B.facts parts.now.run.start ≡ false }
     requires empty { hand.old ≡ empty }
-    requires known { (heads : Heads) × StaysKnown C.facts B.facts heads seat.old }
     ensures works { Works C.facts B.facts parts.now seat.new hand.new }
     ensures empty { hand.new ≡ empty }
     ensures waited { Waited (core C.facts B.facts) seat.old seat.new }

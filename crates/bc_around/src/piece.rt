@@ -1,12 +1,8 @@
 //! A piece of a write past the cache, from its claim to its release.
 ghost use Rattle.std.specs.Prelude.{◌≡◌, ◌+◌, ◌<◌, ◌≤◌, ◌^◌, length, OnOk, IfOk, IfErr};
-ghost use Rattle.bc_around.specs.Alone.{KnowsAlone};
 ghost use Rattle.bc_around.specs.Past.{HasNotPassed, HasNotTried, HasPassed, HasTried};
 ghost use Rattle.bc_flush.specs.bc_deed.Asked.{size_of};
-ghost use Rattle.bc_flush.specs.Known.{StaysKnown};
 ghost use Rattle.bc_flush.specs.Sync.{HasNotSynced, HasSynced};
-ghost use Rattle.bc_journal.specs.declared.heads.Heads.{Heads};
-ghost use Rattle.bc_jset.specs.EntryBytes.{IsLevel};
 ghost use Rattle.bc_flush.specs.bc_machine.Plain.{worker_of};
 ghost use Rattle.bc_flush.specs.bc_machine.World.{cache_among};
 ghost use Rattle.bc_flush.specs.bc_request.Asked.{IsIdle};
@@ -25,7 +21,6 @@ use bc_flush::bc_job::claims::claim_range;
 use bc_flush::bc_machine::machine::{CoreParts, CoreSeat};
 use bc_flush::error::FlushError;
 use bc_flush::sync::sync_journal;
-use bc_journal::Heads;
 use bc_model::values::Values;
 use bc_worker::gate::Gate;
 use std::alloc::Global;
@@ -58,7 +53,6 @@ pub fn try_piece<C: Disk + Drop, B: Disk + Drop, R: Wait, G: Gate>(
     requires some { 1 ≤ length values.now }
     requires range { first + length values.now < 2 ^ 64 }
     requires inside { first + length values.now ≤ size_of C.facts B.facts seat.old.run.start }
-    requires known { (heads : Heads) × StaysKnown C.facts B.facts heads seat.old }
     ensures idle { IsIdle C.facts B.facts parts.now seat.new }
     ensures ok { IfOk result (λ past. HasTried C.facts B.facts past parts.now force of first
         values.now seat.old seat.new) }
@@ -94,29 +88,23 @@ fn make_durable<C: Disk + Drop, B: Disk + Drop, R: Wait>(
     alloc: Global,
     parts: &CoreParts<C, B>,
     seat: &mut CoreSeat<C, B>,
-    heads: &Heads,
 ) -> Result<(), FlushError>
     requires idle { IsIdle C.facts B.facts parts.now seat.old }
-    requires level { IsLevel heads.now.level }
-    requires known { StaysKnown C.facts B.facts heads.now seat.old }
     ensures idle { IsIdle C.facts B.facts parts.now seat.new }
-    ensures ok { OnOk result (HasSynced C.facts B.facts heads.now seat.old seat.new) }
+    ensures ok { OnOk result (HasSynced C.facts B.facts seat.old seat.new) }
     ensures err { IfErr result (λ error. HasNotSynced C.facts B.facts
-        (cache_among C.facts B.facts parts.now.run.start).sectors error heads.now seat.old
+        (cache_among C.facts B.facts parts.now.run.start).sectors error seat.old
         seat.new) }
 {
     let mut hand = Hand::empty();
     let Ok(()) = promise(rt, parts, seat, &mut hand, ENTRY) else {
         return Err(FlushError::Memory);
     };
-    sync_journal(rt, alloc, parts, seat, heads)
+    sync_journal(rt, alloc, parts, seat)
 }
 
 /// Writes a piece as `try_piece` does, and where keys wait puts them into an entry and tries once
 /// more. So `Waiting` says that keys came in behind that entry.
-///
-/// The caller tells what the newest entry of the journal names, which it names still behind this;
-/// and the seat has all numbers of the run.
 pub fn write_piece<C: Disk + Drop, B: Disk + Drop, R: Wait, G: Gate>(
     rt: &R,
     alloc: Global,
@@ -126,7 +114,6 @@ pub fn write_piece<C: Disk + Drop, B: Disk + Drop, R: Wait, G: Gate>(
     first: u64,
     values: &Values,
     force: bool,
-    heads: &Heads,
     gate: &G,
 ) -> Result<Past, PastError>
     requires idle { IsIdle C.facts B.facts parts.now seat.old }
@@ -134,14 +121,11 @@ pub fn write_piece<C: Disk + Drop, B: Disk + Drop, R: Wait, G: Gate>(
     requires some { 1 ≤ length values.now }
     requires range { first + length values.now < 2 ^ 64 }
     requires inside { first + length values.now ≤ size_of C.facts B.facts seat.old.run.start }
-    requires level { IsLevel heads.now.level }
-    requires known { KnowsAlone C.facts B.facts heads.now seat.old }
     ensures idle { IsIdle C.facts B.facts parts.now seat.new }
-    ensures known { KnowsAlone C.facts B.facts heads.now seat.new }
     ensures ok { IfOk result (λ past. HasPassed C.facts B.facts past parts.now force of first
-        values.now heads.now seat.old seat.new) }
+        values.now seat.old seat.new) }
     ensures err { IfErr result (λ error. HasNotPassed C.facts B.facts error parts.now force of first
-        values.now heads.now seat.old seat.new) }
+        values.now seat.old seat.new) }
 {
     let tried = match try_piece(rt, alloc, parts, seat, of, first, values, force, gate) {
         Ok(tried) => tried,
@@ -152,7 +136,7 @@ pub fn write_piece<C: Disk + Drop, B: Disk + Drop, R: Wait, G: Gate>(
         Past::Written => return Ok(Past::Written),
         Past::Cached => return Ok(Past::Cached),
     }
-    match make_durable(rt, alloc, parts, seat, heads) {
+    match make_durable(rt, alloc, parts, seat) {
         Ok(()) => {}
         Err(error) => return Err(PastError::Journal(error)),
     }

@@ -4,10 +4,8 @@ ghost use Rattle.bc_around.specs.Bare.{AreBare};
 ghost use Rattle.bc_around.specs.Past.{HasComeTo, HasStopped, NotWritten};
 ghost use Rattle.bc_flush.specs.bc_deed.Asked.{MayWrite, size_of};
 ghost use Rattle.bc_flush.specs.bc_deed.Flushed.{HasDone};
-ghost use Rattle.bc_flush.specs.Known.{StaysKnown};
 ghost use Rattle.bc_flush.specs.bc_hand.Seats.{Works, empty, note};
 ghost use Rattle.bc_flush.specs.bc_job.Deeds.{written};
-ghost use Rattle.bc_journal.specs.declared.heads.Heads.{Heads};
 ghost use Rattle.bc_flush.specs.bc_machine.Frame.{Range};
 ghost use Rattle.bc_flush.specs.bc_machine.Plain.{worker_of};
 ghost use Rattle.bc_flush.specs.bc_machine.World.{are_plain};
@@ -104,7 +102,6 @@ pub(crate) fn write_past<C: Disk + Drop, B: Disk + Drop, R: Wait, G: Gate>(
     requires few { first + length values < 2 ^ 64 }
     requires inside { first + length values ≤ size_of C.facts B.facts seat.old.run.start }
     requires bytes { (values_of bytes.now ≡ values) × (length bytes.now ≡ 512 * length values) }
-    requires known { (heads : Heads) × StaysKnown C.facts B.facts heads seat.old }
     requires may { MayWrite (note C.facts B.facts seat.old) first (length values) }
     requires long { (note C.facts B.facts seat.old).range.count ≡ length values }
     ensures works { Works C.facts B.facts parts.now seat.new hand.new }

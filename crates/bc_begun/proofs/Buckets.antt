@@ -6,7 +6,6 @@ use Rattle.bc_alloc.specs.Reserve.{Reserve, no_reserve, times}
 use Rattle.bc_alloc.specs.Reserves.{IsInOrder, Reserves, list_of}
 use Rattle.bc_alloc.specs.declared.purpose.Purpose as lists
 use Rattle.bc_alloc.specs.declared.purpose.Purpose.TheVariants as purposes
-use Rattle.bc_alloc.proofs.Times.{times-cons, times_other, times_same}
 use Rattle.bc_books.specs.Shelves.{Fresh, Moving, Plain, Priorities, Purpose, Spent, Tree, by_room}
 use Rattle.bc_bucket.specs.Buckets.{Buckets, bucket_of}
 use Rattle.bc_bucket.specs.declared.bucket.Mark.{Mark}
@@ -24,10 +23,9 @@ use Rattle.bc_image.specs.Pair.{Pair}
 use Rattle.bc_image.specs.Reading.{Reading, View}
 use Rattle.bc_image.specs.Shown.{generation_of}
 use Rattle.bc_leaves.specs.Parts as parts
-use Rattle.bc_machine.specs.Containers.{IsBucketFor, is_held, mark_of, pins_in, pins_of}
+use Rattle.bc_machine.specs.Containers.{IsBucketFor, IsChainOf, IsRoundOf, is_held, mark_of, pins_in, pins_of}
 use Rattle.bc_leaves.specs.After.{has}
 use Rattle.bc_meta.specs.Layout.{Layout}
-use Rattle.bc_model.proofs.Cases.{by_test}
 use Rattle.bc_opening.specs.Read.{version_at}
 use Rattle.bc_opening.proofs.Pointers.{byte_of, version_is}
 use Rattle.bc_events.specs.Acts.{purpose_of}
@@ -37,21 +35,9 @@ use Rattle.bc_shares.specs.Shares.{buckets_in, use_of}
 use Rattle.bc_whole.specs.State.{Opening}
 use Rattle.bc_begun.specs.Laws.{LawBuckets}
 use Rattle.bc_begun.specs.Opened.{AreBytes, IsOpenedWith}
+use Rattle.bc_begun.proofs.Chain.{before_read, chain_read, has_times, room_read, times_has, untraced}
 
 -- ---- the lists
-
-times_has : (k : ℕ) (ks : List ℕ) → 0 < times k ks → has ks k ≡ true
-times_has k [] some = absurd (let none : times k [] ≡ 0 = refl in omega (arith, none, some))
-times_has k (i ∷ ks) some = by_test k i (λ t. (if t then true else has ks k) ≡ true) (λ _. refl)
-    (λ ne. times_has k ks (let all = times-cons k i ks in let one = times_other k i (λ e. ne (sym e)) in
-    omega (arith, all, one, some)))
-
-has_times : (k : ℕ) (ks : List ℕ) → has ks k ≡ true → 0 < times k ks
-has_times k [] is = absurd (cc)
-has_times k (i ∷ ks) is = by_test k i (λ t. (if t then true else has ks k) ≡ true → 0 < times k (i ∷ ks))
-    (λ e _. (let all = times-cons k i ks in
-    let one = subst (λ n. times k (n ∷ []) ≡ 1) e (times_same k) in omega (arith, all, one)))
-    (λ ne on. (let all = times-cons k i ks in let rest = has_times k ks on in omega (arith, all, rest))) is
 
 none_has : (k : ℕ) (ks : List ℕ) → times k ks ≡ 0 → has ks k ≡ false
 none_has k ks none = go (has ks k) refl
@@ -244,7 +230,7 @@ module _ (p : Pair) (v : View) (layout : Layout) (x : Parts) (w : Opening) (st :
       })
 
 pub law_buckets : LawBuckets
-law_buckets p v layout x w st b h bytes same_buckets same_reserves none =
+law_buckets p v layout x w st b h bytes same_buckets same_reserves none same_chain calm round =
     let g = v.geometry in
     let order = subst (λ (r : Reserves). IsInOrder r) same_reserves b.order in record {
       cut = subst (λ (bs : Buckets). IsCutInto bs.size (length bs.records) w) (sym same_buckets)
@@ -270,4 +256,19 @@ law_buckets p v layout x w st b h bytes same_buckets same_reserves none =
           (law_begins w.flow.books w.before b.buckets.size x.reserves
           (λ p'. list_just p v layout x w st h order p')
           (ap (λ (r : Reserves). r.raised) h.read.reserves.filled)));
+      outside = λ n less. ap (λ (bs : Buckets). (bucket_of bs n).mark) same_buckets
+          ∙ before_read p v layout x w st h n less;
+      room = ap (λ (r : Reserves). (list_of purposes.Priorities r).room) same_reserves
+          ∙ room_read p v layout x w st h;
+      chain = subst (λ c. IsChainOf w.before w.flow.books.sets (opened w.flow.books).chains.of 0 0
+          b.chain.items c) (sym calm)
+          (subst (λ (ks : List ℕ). IsChainOf w.before w.flow.books.sets
+          (opened w.flow.books).chains.of 0 0 ks false) (sym same_chain)
+          (chain_read p v layout x w st h));
+      round = subst (λ (bs : Buckets). IsRoundOf w.flow.books w.before (length bs.records)
+          (opened w.flow.books).round bs.touched b.round) (sym same_buckets)
+          (subst (λ n. IsRoundOf w.flow.books w.before n (opened w.flow.books).round
+          x.buckets.touched b.round) (sym h.read.buckets.each)
+          (untraced w.flow.books w.before g.nbuckets x.buckets.touched b.round
+          h.read.buckets.touched round));
     }

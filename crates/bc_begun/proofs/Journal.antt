@@ -1,5 +1,5 @@
 -- The journal behind the entries that were read.
-use Rattle.std.proofs.Common.{◌≡◌, ℕ, ◌+◌, ◌-◌, List, [], ◌∷◌, ◌++◌, sym, ap, ◌∙◌, subst, arith}
+use Rattle.std.proofs.Common.{◌≡◌, ℕ, ◌+◌, ◌-◌, List, [], ◌∷◌, ◌++◌, refl, sym, ap, ◌∙◌, subst, arith}
 use Rattle.std.specs.Prelude.{map, reverse}
 use Rattle.std.proofs.lemmas.List.{map-append, reverse-append}
 use Rattle.bc_disk.specs.declared.geometry.Geometry.{Geometry}
@@ -38,8 +38,14 @@ law_journal p v layout x w st next_seq read j h sound found entries resumed =
     subst (λ (y : Journal). IsJournalOf w.machine (journal_share (start w st next_seq).machine) y)
     (sym resumed.is) (record {
       waiting = sym (ap (λ (y : Records). reverse y.waiting) records);
+      all_wait = λ none. omega arith;
       durable = seq_same resumed.newest.item.seq resumed.newest.item.last_seq
           ∙ ap numbers_in newest ∙ sym (ap (λ (y : Records). numbers_in y.newest) records);
+      heads = record {
+        entry = resumed.newest.item;
+        is = ap (λ (y : Records). y.newest) records ∙ sym newest;
+        heads_are = refl;
+      };
       sealed = sym (ap (λ (y : Records). sealed_numbers (entries_in y).sealed) records);
       ring = is_ring p v layout x w.machine st read j h sound found entries resumed;
     })

@@ -1,5 +1,6 @@
 pub mod Opened
 pub mod Spine
+pub mod Chain
 pub mod Buckets
 pub mod Ring
 pub mod Journal

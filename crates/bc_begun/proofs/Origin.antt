@@ -198,7 +198,8 @@ module _ {C B : Type 0} (cache_facts : C → DiskFacts) (backing_facts : B → D
     begun = record {
       read = read_tree p v layout x o.opening st h is next_seq;
       spine = law_spine p v layout x w st next_seq h;
-      buckets = law_buckets p v layout x w st k.buckets h on.bytes on.buckets on.reserves on.fill;
+      buckets = law_buckets p v layout x w st k.buckets h on.bytes on.buckets on.reserves on.fill
+          on.chain on.renewing on.round;
       journal = law_journal p v layout x o.opening st next_seq read k.journal h is
           on.found on.entries on.resumed;
       needs = law_needs p v layout x o.opening st h next_seq read k.journal on.entries on.resumed;

@@ -1,5 +1,6 @@
 -- The parts with which a run over a pair with a cache begins.
-use Rattle.std.specs.Prelude.{◌≡◌, ℕ, ◌+◌, ◌*◌, ◌%◌, ◌^◌, false, List, [], ◌∷◌, Some, map}
+use Rattle.std.specs.Prelude.{◌≡◌, ℕ, ◌+◌, ◌*◌, ◌%◌, ◌^◌, false, List, [], ◌∷◌, Some, map, replicate}
+use Rattle.bc_bucket.specs.Walk.{none_found}
 use Rattle.bc_cache.specs.Slots.{NodeCache}
 use Rattle.bc_chosen.specs.Parts.{Parts, choices_of}
 use Rattle.bc_disk.specs.Disk.{DiskFacts}
@@ -12,6 +13,7 @@ use Rattle.bc_machine.specs.World.{IsOrigin, IsSeenFrom, IsUntorn, Origin, World
 use Rattle.bc_machine.specs.declared.part.BackingPart.{BackingPart}
 use Rattle.bc_machine.specs.declared.part.BucketsPart.{BucketsPart}
 use Rattle.bc_machine.specs.declared.part.SpinePart.{SpinePart}
+use Rattle.bc_machine.specs.declared.part.Tracing.{Tracing}
 use Rattle.bc_machine.specs.declared.part.CorePart.{CorePart}
 use Rattle.bc_machine.specs.declared.part.CorePart.TheVariants as part
 use Rattle.bc_meta.specs.Layout.{Layout}
@@ -48,6 +50,12 @@ parts_of tree k = part.Spine (resting tree (first_seq k.journal))
     ∷ part.Journal k.journal ∷ part.Cache k.cache ∷ part.Backing k.backing
     ∷ map part.Leaves k.leaves
 
+-- no round is open, and none walked a leaf of a device of so many buckets
+pub record IsUntraced (count : ℕ) (t : Tracing) : Type 0 where
+  pub walk : t.walk ≡ replicate count none_found
+  pub going : t.going ≡ false
+  pub next : t.next ≡ 0
+
 -- The run begins with what was read of the pair, and nothing was written over that since. Beside
 -- the data the backing device may hold something else by now, as another state of its superblock.
 pub record BeginsOn {C B : Type 0} (cache_facts : C → DiskFacts) (backing_facts : B → DiskFacts)
@@ -65,6 +73,10 @@ pub record BeginsOn {C B : Type 0} (cache_facts : C → DiskFacts) (backing_fact
   pub buckets : k.buckets.buckets ≡ x.buckets
   pub reserves : k.buckets.reserves ≡ x.reserves
   pub fill : k.buckets.fill ≡ []
+  -- no chain is newer than the one that was read, and no round is open
+  pub chain : k.buckets.chain.items ≡ v.reading.gens.chain
+  pub renewing : k.buckets.renewing ≡ false
+  pub round : IsUntraced v.geometry.nbuckets k.buckets.round
   -- the journal goes on behind the entries that were read, which are all that the device has
   pub found : HasJournal v.geometry p.cache read
   pub entries : read.entries ≡ v.reading.entries

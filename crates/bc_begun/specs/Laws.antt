@@ -1,5 +1,5 @@
 -- What the parts of a pair that was read stand for, as a run begins.
-use Rattle.std.specs.Prelude.{◌≡◌, ℕ, ◌<◌, List, [], Some, slice_index_or}
+use Rattle.std.specs.Prelude.{◌≡◌, ℕ, ◌<◌, false, List, [], Some, slice_index_or}
 use Rattle.bc_books.specs.Books.{opened}
 use Rattle.bc_cache.specs.Slots.{NodeCache}
 use Rattle.bc_chosen.specs.Parts.{ArePartsOf, Parts}
@@ -22,7 +22,7 @@ use Rattle.bc_resume.specs.Resume.{IsResumed}
 use Rattle.bc_shares.specs.Shares.{journal_share}
 use Rattle.bc_slots.specs.Parts.{AreParts}
 use Rattle.bc_whole.specs.State as whole
-use Rattle.bc_begun.specs.Begin.{Beginning, BeginsOn, IsSeenAs, first_seq, parts_of, resting}
+use Rattle.bc_begun.specs.Begin.{Beginning, BeginsOn, IsSeenAs, IsUntraced, first_seq, parts_of, resting}
 use Rattle.bc_begun.specs.Opened.{AreBytes, IsOpenedWith}
 
 abbrev pub LawSpine : Type 0
@@ -30,11 +30,13 @@ LawSpine = (p : Pair) (v : View) (layout : Layout) (x : Parts) (w : whole.Openin
     (st : parts.State) (next_seq : ℕ) → IsOpenedWith p v layout x w st
     → IsSpinePartOf w (known.start w st next_seq) (resting x.tree next_seq)
 
--- no bucket is open yet
+-- no bucket is open yet, no chain is newer than the one that was read, and no round is open
 abbrev pub LawBuckets : Type 0
 LawBuckets = (p : Pair) (v : View) (layout : Layout) (x : Parts) (w : whole.Opening)
     (st : parts.State) (b : BucketsPart) → IsOpenedWith p v layout x w st
     → AreBytes x.buckets → b.buckets ≡ x.buckets → b.reserves ≡ x.reserves → b.fill ≡ []
+    → b.chain.items ≡ v.reading.gens.chain → b.renewing ≡ false
+    → IsUntraced v.geometry.nbuckets b.round
     → AreBucketsOf w (opened w.flow.books) b
 
 -- behind the entries that were read, which are all that the device has

@@ -102,7 +102,7 @@ law_teeth_near = record {
 }
 
 runs_chain : IsRun small (opened small) chain_run
-runs_chain = (inr refl, (record { none_waits = refl; order = λ b. (omega arith, omega arith); held = only_six; sets = ((λ j. 6), (λ i j x y e. omega arith), λ j lt. refl) }, tt))
+runs_chain = (inr (inl refl), (record { none_waits = refl; order = λ b. (omega arith, omega arith); held = only_six; sets = ((λ j. 6), (λ i j x y e. omega arith), λ j lt. refl) }, tt))
   where
     only_six : (b : ℕ) → (b == 6) ≡ true → ((after small (opened small) (Take 1 Priorities 6)).shelf b ≡ Held 1 Priorities) × ((after small (opened small) (Take 1 Priorities 6)).chains.of b ≡ None)
     only_six b = by_test b 6 (λ z. z ≡ true → ((after small (opened small) (Take 1 Priorities 6)).shelf b ≡ Held 1 Priorities) × ((after small (opened small) (Take 1 Priorities 6)).chains.of b ≡ None))

@@ -91,7 +91,7 @@ module _ (w : Setup) (k : Books) (f : IsInOrder w k) where
   }
 
   pub keep_dated : (x : Step) → CanStep w k x → IsDated (after w k x).generations (after w k x).shelf
-  keep_dated (Take i p b) on = dated_put b (taken_to i p) (calm_taken i p) (f.dated.settled b (λ e. elim on [ inl x ↦ absurd (cc) | inr x ↦ absurd (cc) ]))
+  keep_dated (Take i p b) on = dated_put b (taken_to i p) (calm_taken i p) (f.dated.settled b (λ e. elim on [ inl x ↦ absurd (cc) | inr (inl x) ↦ absurd (cc) | inr (inr x) ↦ (let y = x.1 in absurd (cc)) ]))
   keep_dated (Shut b) on = dated_put b Loose (λ e. cc) (f.dated.settled b (λ e. absurd (cc)))
   keep_dated (LetGo i b room) on = dated_put b (put_back room (k.shelf b)) (calm_back room (k.shelf b)) (f.dated.settled b (λ e. let x = on.0.1 in absurd (cc)))
   keep_dated (BeginNode i b) on = dated_put b (Held i Tree) (λ e. cc) (f.dated.settled b (λ e. elim on.0 [ inl x ↦ absurd (cc) | inr x ↦ absurd (cc) ]))

@@ -90,7 +90,7 @@ module _ (w : Setup) (k : Books) (f : IsInOrder w k) where
     no_chain = f.marked.no_chain;
     fresh = fresh_after (Put leaf keys) on;
   }
-  keep_marked (Take i p b) on = marked_put b (taken_to i p) (λ e. elim on [ inl x ↦ absurd (cc) | inr x ↦ absurd (cc) ])
+  keep_marked (Take i p b) on = marked_put b (taken_to i p) (λ e. elim on [ inl x ↦ absurd (cc) | inr (inl x) ↦ absurd (cc) | inr (inr x) ↦ (let y = x.1 in absurd (cc)) ])
   keep_marked (Shut b) on = marked_put b Loose (λ e. cc)
   keep_marked (LetGo i b room) on = marked_put b (put_back room (k.shelf b)) (λ e. let x = on.0.1 in cc)
   keep_marked (Pin i place count) on = marked_step (Pin i place count) on

@@ -78,7 +78,7 @@ module _ (w : Setup) (k : Books) (f : IsInOrder w k) where
         → k.shelf (w.bucket t) ≢ Raised) (λ _ p. absurd p) (λ _. f.placed.calm t);
     unwritten = kept_unwritten (Put leaf keys) on;
   }
-  keep_placed (Take i p b) on = placed_put b (taken_to i p) (calm_taken i p) (λ _. f.placed.unwritten b (elim on [ inl e ↦ listed_unwritten b Plain e | inr e ↦ listed_unwritten b p e ]))
+  keep_placed (Take i p b) on = placed_put b (taken_to i p) (calm_taken i p) (λ _. f.placed.unwritten b (elim on [ inl e ↦ listed_unwritten b Plain e | inr (inl e) ↦ listed_unwritten b p e | inr (inr e) ↦ listed_unwritten b Moving e.1 ]))
   keep_placed (Shut b) on = placed_put b Loose (λ e. cc) (λ u. absurd u)
   keep_placed (LetGo i b room) on = placed_put b (put_back room (k.shelf b)) (calm_back room (k.shelf b)) (λ u. f.placed.unwritten b (unwritten_back room (k.shelf b) u))
   keep_placed (Pin i place count) on = record {
@@ -168,7 +168,8 @@ module _ (w : Setup) (k : Books) (f : IsInOrder w k) where
   keep_chained (Put leaf keys) on = chained_step (Put leaf keys) on
   keep_chained (Take i p b) on = chained_put b (taken_to i p) (λ c e. elim on [
     | inl x ↦ chain_shelf b c ⊥ e (λ _ y. absurd (cc)) (λ j y. absurd (cc))
-    | inr x ↦ chain_shelf b c ⊥ e (λ _ y. absurd (cc)) (λ j y. absurd (cc))
+    | inr (inl x) ↦ chain_shelf b c ⊥ e (λ _ y. absurd (cc)) (λ j y. absurd (cc))
+    | inr (inr x) ↦ (let z = x.1 in chain_shelf b c ⊥ e (λ _ y. absurd (cc)) (λ j y. absurd (cc)))
   ])
   keep_chained (Shut b) on = chained_put b Loose (λ c e. chain_shelf b c ⊥ e (λ _ y. absurd (cc)) (λ j y. absurd (cc)))
   keep_chained (LetGo i b room) on = chained_put b (put_back room (k.shelf b)) (λ c e. let x = on.1 in absurd (cc))

@@ -38,7 +38,7 @@ runs_filling = (
 
 runs_moving : IsRun small (fold small (fold small k0 writing) filling) moving
 runs_moving = (
-  inr refl,
+  inr (inl refl),
   (pin_one _ _ 5 (inr refl) refl, (put_one small _ _ _ 0 0 Clean 5 (omega arith, refl) (inl (tt, refl)) tt, (((Moving, refl), refl), (put_gap small _ _ _ 0 1 (omega arith, refl) refl, (inl refl, (pin_one _ _ 8 (inl refl) refl, (each_one _ 8 WasPinned tt, (refl, (refl, tt))))))))),
 )
 
@@ -52,7 +52,7 @@ unpinned_zero owner a b t is = in_zero (λ t. IsPinned (owner t) → ⊥) a b t 
 
 runs_collecting : IsRun small (fold small k0 before) collecting
 runs_collecting = (
-  inr refl,
+  inr (inl refl),
   ((inr refl, λ t is. in_bucket (λ t. (fold small (fold small k0 before) (Take 1 Tree 4 ∷ [])).owner t ≡ Fresh) 4 t (omega arith) refl is), (refl, (refl, (refl, (refl, (record { later = λ s. omega arith; known = λ l. omega arith; waits = λ s e. omega arith; last_known = omega arith }, (record { going = refl; walked = λ s lt. refl; firm = omega arith }, ((record { unpinned = unpinned_zero _ (λ p. p) (λ p. p); not_held = ((λ e. cc), λ i h. let e = h.1 in cc); free = refl; near = omega arith }, refl), tt)))))))),
 )
 
@@ -70,7 +70,7 @@ only_six b = by_test b 6 (λ z. z ≡ true → (held_books.shelf b ≡ Held 1 Pr
 
 runs_reusing : IsRun small (fold small (fold small k0 before) collecting) reusing
 runs_reusing = (
-  inr refl,
+  inr (inl refl),
   (record { none_waits = refl; order = newer; held = only_six; sets = ((λ j. 6), (λ i j x y e. omega arith), λ j lt. refl) }, (refl, (omega arith, ((refl, refl), (refl, (refl, (inl refl, (pin_one _ _ 0 (inl refl) refl, tt)))))))),
 )
 

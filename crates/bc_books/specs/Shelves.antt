@@ -60,9 +60,10 @@ IsUnwritten (Held i Moving) = ⊥
 IsUnwritten (Held i Tree) = Unit {0}
 IsUnwritten (Held i Plain) = Unit {0}
 
--- a bucket is taken from the list none or from the list of its purpose
+-- A bucket is taken from the list none or from the list of its purpose. One for a node is taken from
+-- the list for moving, too: a node that is written anew asks there.
 abbrev pub IsFor : Purpose → Shelf → Type 0
-IsFor p x = (x ≡ Listed Plain) ⊎ (x ≡ Listed p)
+IsFor p x = (x ≡ Listed Plain) ⊎ (x ≡ Listed p) ⊎ ((p ≡ Tree) × (x ≡ Listed Moving))
 
 -- where it then stands
 abbrev pub taken_to : ℕ → Purpose → Shelf

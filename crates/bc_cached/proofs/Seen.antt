@@ -1,6 +1,7 @@
 -- A run that begins on a sound pair is seen from an opening.
 use Rattle.std.proofs.Common.{◌≡◌, inl, inr, ◌⊎◌, ℕ, ◌+◌, ◌<◌, false, ◌≤◌, List, ap, sym, ◌∙◌, subst, arith}
-use Rattle.std.specs.Prelude.{fold}
+use Rattle.std.specs.Prelude.{Vec, fold}
+use Rattle.std.specs.declared.alloc.Global.{Global}
 use Rattle.std.proofs.lemmas.Bool.{cases_lt}
 use Rattle.bc_alloc.specs.Reserves.{times_listed}
 use Rattle.bc_bucket.specs.Buckets.{bucket_of}
@@ -13,6 +14,7 @@ use Rattle.bc_resume.specs.Resume.{IsResumed}
 use Rattle.bc_begun.specs.bc_slots.Parts.{AreParts}
 use Rattle.bc_begun.specs.bc_machine.declared.part.BackingPart.{BackingPart}
 use Rattle.bc_begun.specs.bc_machine.declared.part.CorePart.{CorePart}
+use Rattle.bc_begun.specs.bc_machine.declared.part.Tracing.{Tracing}
 use Rattle.bc_begun.specs.bc_machine.World.{World, after, opening}
 use Rattle.bc_deed.specs.bc_hand.Seats as seats
 use Rattle.bc_begun.specs.Begin.{BeginsOn, IsSeenAs, first_seq, parts_of}
@@ -50,6 +52,13 @@ law_seen {C} {B} cache_facts backing_facts p v layout read pending count was rea
       buckets = made.buckets.buckets;
       reserves = made.buckets.reserves;
       fill = made.buckets.fill;
+      chain = ap (λ (c : Vec ℕ Global). c.items) made.buckets.chain_is ∙ on.chain;
+      renewing = made.buckets.renewing;
+      round = record {
+        walk = ap (λ (t : Tracing). t.walk) made.buckets.round ∙ on.walk;
+        going = ap (λ (t : Tracing). t.going) made.buckets.round;
+        next = ap (λ (t : Tracing). t.next) made.buckets.round;
+      };
       found = on.found;
       entries = on.entries;
       resumed = subst (IsResumed v.geometry read) (sym made.journal) on.resumed;

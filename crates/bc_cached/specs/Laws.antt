@@ -1,8 +1,9 @@
 -- A run that begins on a sound pair is seen from a sound opening.
-use Rattle.std.specs.Prelude.{◌≡◌, ℕ, ◌+◌, List, Some}
+use Rattle.std.specs.Prelude.{◌≡◌, ℕ, ◌+◌, List, Some, replicate}
 use Rattle.bc_alloc.specs.Buckets.{AreFor}
 use Rattle.bc_alloc.specs.Reserves.{IsInOrder, Reserves}
 use Rattle.bc_bucket.specs.Buckets.{Buckets}
+use Rattle.bc_bucket.specs.Walk.{none_found}
 use Rattle.bc_disk.specs.Disk.{DiskFacts}
 use Rattle.bc_disk.specs.declared.geometry.Geometry.{Geometry}
 use Rattle.bc_entries.specs.Journal.{HasJournal, Journal as Read}
@@ -56,6 +57,9 @@ pub record StandsOn {C B : Type 0} (cache_facts : C → DiskFacts) (backing_fact
   pub held : (s : ℕ) → image (ready.backing.offset + s) ≡ p.backing (v.backing.data_offset + s)
   pub size : ready.backing.size ≡ data_sectors p.backing_sectors v.backing
   pub bytes : AreBytes ready.buckets
+  pub chain : ready.chain.items ≡ v.reading.gens.chain
+  -- for each bucket a walk found nothing yet
+  pub walk : ready.walk ≡ replicate v.geometry.nbuckets none_found
   -- the journal goes on behind the entries that were read, which are all that the device has
   pub found : HasJournal v.geometry p.cache read
   pub entries : read.entries ≡ v.reading.entries

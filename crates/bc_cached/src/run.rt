@@ -15,10 +15,10 @@ ghost use Rattle.bc_cached.specs.Begun.{AreUnopened, HasBegun, HasDevices};
 
 use bc_alloc::Reserves;
 use bc_begun::bc_machine::machine::{CoreParts, CoreSeat};
-use bc_begun::bc_machine::part::{Apart, BackingPart, BucketsPart, CorePart, SpinePart};
+use bc_begun::bc_machine::part::{Apart, BackingPart, BucketsPart, CorePart, SpinePart, Tracing};
 use bc_book::book::Book;
 use bc_book::pass::Pass;
-use bc_bucket::Buckets;
+use bc_bucket::{Buckets, Walk};
 use bc_cache::NodeCache;
 use bc_deed::run::SEATS;
 use bc_disk::disk::Disk;
@@ -39,6 +39,10 @@ pub struct Ready<C, B> {
     pub buckets: Buckets,
     /// The buckets that are ready to be taken.
     pub reserves: Reserves,
+    /// The buckets of the chain of priority sets that was read, the first one first.
+    pub chain: Vec<u32>,
+    /// What a walk that saw no leaf found for each bucket.
+    pub walk: Walk,
     /// The journal, behind the entries that were read.
     pub journal: Journal,
     pub cache: C,
@@ -63,10 +67,10 @@ pub struct Ended<C, B> {
     pub pass: Pass,
 }
 
-// Buckets of which none is open for data.
-fn unopened(buckets: Buckets, reserves: Reserves) -> BucketsPart
+// Buckets of which none is open for data, of this chain.
+fn unopened(buckets: Buckets, reserves: Reserves, chain: Vec<u32>, walk: Walk) -> BucketsPart
     requires { AreFor reserves buckets }
-    ensures { AreUnopened buckets reserves result }
+    ensures { AreUnopened buckets reserves chain walk result }
 {
     // What the types of both say, holds once they are read.
     let _size = buckets.bucket_sectors();
@@ -75,6 +79,14 @@ fn unopened(buckets: Buckets, reserves: Reserves) -> BucketsPart
         buckets,
         reserves,
         fill: Fill::new(),
+        chain,
+        renewing: false,
+        round: Tracing {
+            walk,
+            going: false,
+            next: 0,
+        },
+        served: 0,
     }
 }
 
@@ -143,7 +155,8 @@ fn devices_in<C: Drop, B: Drop>(parts: Vec<CorePart<C, B>>) -> Devices<C, B>
 }
 
 /// Begins a run over both devices, of each of which a crash would leave exactly what it holds now.
-/// No bucket is open for data yet, nothing is claimed, and the one seat has all numbers.
+/// No bucket is open for data yet, no trace round is open, nothing is claimed, and the one seat has
+/// all numbers.
 ///
 /// `Err` comes from want of memory alone, and hands both devices back as they were.
 pub fn begin<C: Disk + Drop, B: Disk + Drop>(
@@ -164,6 +177,8 @@ pub fn begin<C: Disk + Drop, B: Disk + Drop>(
         tree,
         buckets,
         reserves,
+        chain,
+        walk,
         journal,
         cache,
         backing,
@@ -176,7 +191,7 @@ pub fn begin<C: Disk + Drop, B: Disk + Drop>(
         return Err(Devices { cache, backing });
     };
     let tree = at_rest(tree, &journal);
-    let buckets = unopened(buckets, reserves);
+    let buckets = unopened(buckets, reserves, chain, walk);
     let Ok(large) = set_apart(alloc, tree, buckets, journal) else {
         return Err(Devices { cache, backing });
     };

@@ -77,7 +77,7 @@ module _ {C B : Type 0} (cache_facts : C → DiskFacts) (backing_facts : B → D
 
   -- all that came into the index is durable: its entry took all keys
   pub is_durable : FromEach (world cache_facts backing_facts seat) AreAllDurable
-  is_durable = started_durable cache_facts backing_facts seat over.started.unsealed.journal
+  is_durable = started_durable cache_facts backing_facts seat over.started.unsealed
       over.started.next.sealed over.started.deeds over.started.put over.started.seen
 
   -- what it did so far put nothing into the history

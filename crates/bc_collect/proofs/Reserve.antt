@@ -53,7 +53,8 @@ module _ (w : Setup) (k : Books) (f : IsInOrder w k) (h : HasReserve w k) where
   pub near_step : (x : Step) → CanStep w k x → IsRoomy w k x → Many w.sets (λ b. IsForChain ((after w k x).shelf b))
   near_step (Take i p b) on roomy = near_put b (taken_to i p) (λ e. elim on [
     | inl x ↦ absurd (not_for_chain (k.shelf b) (Listed Plain) x (λ y. cc) (λ j y. cc) e)
-    | inr x ↦ for_taken i p (k.shelf b) x e
+    | inr (inl x) ↦ for_taken i p (k.shelf b) x e
+    | inr (inr x) ↦ absurd (not_for_chain (k.shelf b) (Listed Moving) x.1 (λ y. cc) (λ j y. cc) e)
   ])
   near_step (Shut b) on roomy = near_put b Loose (λ e. absurd (not_for_chain (k.shelf b) Open on (λ y. cc) (λ j y. cc) e))
   near_step (LetGo i b room) on roomy = elim roomy [

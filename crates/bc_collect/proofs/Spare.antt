@@ -130,7 +130,8 @@ module _ (w : Setup) (k : Books) (f : IsInOrder w k) (b : ℕ) where
   idle_step : (x : Step) → IsPlain x → CanStep w k x → k.chains.of b ≡ None → IsIdleAt k b → IsIdleAt (after w k x) b
   idle_step (Take i p c) plain on free h = put_cases k.shelf c b (taken_to i p) (λ y. IsIdle y (k.generations.sealed b) (k.generations.version b)) (λ _. h) (λ is. elim on [
     | inl e ↦ absurd (subst (λ y. IsIdle y (k.generations.sealed b) (k.generations.version b)) (ap k.shelf is ∙ e) h)
-    | inr e ↦ idle_taken i p (k.generations.sealed b) (k.generations.version b) (subst (λ y. IsIdle y (k.generations.sealed b) (k.generations.version b)) (ap k.shelf is ∙ e) h)
+    | inr (inl e) ↦ idle_taken i p (k.generations.sealed b) (k.generations.version b) (subst (λ y. IsIdle y (k.generations.sealed b) (k.generations.version b)) (ap k.shelf is ∙ e) h)
+    | inr (inr e) ↦ absurd (subst (λ y. IsIdle y (k.generations.sealed b) (k.generations.version b)) (ap k.shelf is ∙ e.1) h)
   ])
   idle_step (Shut c) plain on free h = put_cases k.shelf c b Loose (λ y. IsIdle y (k.generations.sealed b) (k.generations.version b)) (λ _. h) (λ _. tt)
   idle_step (LetGo i c room) plain on free h = put_cases k.shelf c b (put_back room (k.shelf c)) (λ y. IsIdle y (k.generations.sealed b) (k.generations.version b)) (λ _. h) (λ _. idle_back room (k.shelf c) (k.generations.sealed b) (k.generations.version b))

@@ -120,7 +120,7 @@ abbrev answer10 : State
 answer10 = after pair answer9 1 (Shelve (Raise 0))
 
 answer_on11 : IsEnabled pair answer10 1 (Shelve (Take 1 Priorities 6))
-answer_on11 = record { heard = refl; steps = (inr refl, tt); can = refl }
+answer_on11 = record { heard = refl; steps = (inr (inl refl), tt); can = refl }
 
 abbrev answer11 : State
 answer11 = after pair answer10 1 (Shelve (Take 1 Priorities 6))
@@ -252,7 +252,7 @@ abbrev answer22 : State
 answer22 = after pair answer21 1 (Learn (CacheRead 0 (zero_value ∷ [])))
 
 move_on0 : IsEnabled pair s27 1 (Shelve (Take 1 Moving 5))
-move_on0 = record { heard = refl; steps = (inr refl, tt); can = refl }
+move_on0 = record { heard = refl; steps = (inr (inl refl), tt); can = refl }
 
 abbrev move0 : State
 move0 = after pair s27 1 (Shelve (Take 1 Moving 5))

@@ -743,7 +743,7 @@ pub on51 : IsEnabled pair s51 1 Release
 on51 = record { heard = tt; steps = tt; can = tt }
 
 pub on52 : IsEnabled pair s52 1 (Shelve (Take 1 Moving 5))
-on52 = record { heard = refl; steps = (inr refl, tt); can = refl }
+on52 = record { heard = refl; steps = (inr (inl refl), tt); can = refl }
 
 pub on53 : IsEnabled pair s53 1 (PinPlaces 5 1)
 on53 = record { heard = refl; steps = (pin_one _ _ 5 (inr refl) refl, tt); can = tt }
@@ -848,7 +848,7 @@ pub on66 : IsEnabled pair s66 1 (Shelve Sealed)
 on66 = record { heard = refl; steps = (refl, tt); can = refl }
 
 pub on67 : IsEnabled pair s67 1 (Shelve (Take 1 Tree 4))
-on67 = record { heard = refl; steps = (inr refl, tt); can = refl }
+on67 = record { heard = refl; steps = (inr (inl refl), tt); can = refl }
 
 pub on68 : IsEnabled pair s68 1 (CacheWrite Metadata 4 (zero_value ∷ []))
 on68 = record {
@@ -921,7 +921,7 @@ on76 = record {
 }
 
 pub on77 : IsEnabled pair s77 1 (Shelve (Take 1 Priorities 6))
-on77 = record { heard = refl; steps = (inr refl, tt); can = refl }
+on77 = record { heard = refl; steps = (inr (inl refl), tt); can = refl }
 
 pub on78 : IsEnabled pair s78 1 (CacheWrite Metadata 6 (zero_value ∷ []))
 on78 = record {

@@ -15,18 +15,17 @@ use Rattle.bc_entries.specs.Journal.{Journal as Read}
 use Rattle.bc_entries.specs.Lists.{IsFit, last_numbers}
 use Rattle.bc_journal.specs.Journal.{HasRoom, IsSealed, Journal, entry_now, journal_at, number_of}
 use Rattle.bc_journal.specs.Ring.{following, sectors_for}
-use Rattle.bc_journal.specs.Sealed.{Sealed, sector_at}
+use Rattle.bc_journal.specs.Sealed.{Sealed, heads_of, sector_at}
 use Rattle.bc_journal.specs.declared.heads.Heads.{Heads}
 use Rattle.bc_journal.specs.declared.place.Place.{Place}
 use Rattle.bc_journal.proofs.Left.{Goes, goes}
 use Rattle.bc_journal.proofs.Sizes.{most_fit}
-use Rattle.bc_resume.specs.Resume.{IsResumed}
+use Rattle.bc_resume.specs.Resume.{HasNoLevel, IsResumed}
 use Rattle.bc_resume.proofs.Held.{newest_of}
 use Rattle.bc_enter.specs.Entry.{GoesTo, IsOpeningEntry, NeedsOldest}
 use Rattle.bc_enter.specs.Begun.{IsBegun, IsUnsealed}
 use Rattle.bc_enter.specs.Next.{IsNext, IsOdd}
 use Rattle.bc_enter.specs.declared.next.Next.{Next}
-use Rattle.bc_enter.specs.declared.next.Unsealed.{Unsealed}
 use Rattle.bc_enter.proofs.Low.{IsNeeded, IsReached}
 use Rattle.bc_enter.proofs.Rooms.{after_is, behind_last, free_greatest, greatest_free, in_front, one_block, one_next}
 
@@ -40,6 +39,10 @@ from_on all low next (e ∷ es) p =
 
 following_in : (g : Geometry) (k : ℕ) → k < g.journal → following g k < g.journal
 following_in g k inside = by_le (suc (k + 1)) g.journal (λ b. cond b (k + 1) 0 < g.journal) (λ up. up) (λ _. omega (arith, inside))
+
+-- one without a level is odd
+pub no_level_is_odd : (read : Read) → HasNoLevel read → IsOdd read
+no_level_is_odd read h = record { older = h.older; newest = h.newest; parts = h.parts; odd = inl h.level }
 
 module _ (g : Geometry) (read : Read) (fit : IsFit g read.all read.entries) (j : Journal) (r : IsResumed g read j) where
   newest_is : fit.newest ≡ r.newest
@@ -55,14 +58,14 @@ module _ (g : Geometry) (read : Read) (fit : IsFit g read.all read.entries) (j :
       let low = r.newest.item.last_seq in
       let number = r.newest.item.seq + 1 in
       subst (λ k. HasRoom k 0) (sym r.is) (elim room.room [
-        | inl behind ↦ behind_last g r.at r.numbers low number (
+        | inl behind ↦ behind_last g r.at r.numbers low number (heads_of r.newest.item) (
             let next = one_next g read.entries r.newest room.next r.next (subst (λ e. IsNextPlace g read.entries e room.next) newest_is room.place) r.place in
             let more = mul-add g.bucket (bucket_of g r.newest) 1 in
             let size = one_block g in
             let spot = r.is_at.sector_is in
             let fits : room.next + g.block ≤ g.bucket * (bucket_of g r.newest + 1) = subst (λ (e : FoundEntry). room.next + g.block ≤ g.bucket * (bucket_of g e + 1)) newest_is behind in
             omega (arith, next, more, size, spot, fits))
-        | inr free ↦ in_front g r.at r.numbers low number (
+        | inr free ↦ in_front g r.at r.numbers low number (heads_of r.newest.item) (
             let bucket : bucket_after g (bucket_of g r.newest) ≡ g.first_bucket + following g r.at.bucket =
             ap (bucket_after g) (sym r.is_at.bucket_is) ∙ after_is g r.at.bucket r.is_at.proper.bucket in
             let inside = following_in g r.at.bucket r.is_at.proper.bucket in
@@ -100,7 +103,7 @@ module _ (g : Geometry) (read : Read) (fit : IsFit g read.all read.entries) (j :
 
   module _ (low : ℕ) (old new : Journal) (heads : Heads) (s : Sealed) (is : old ≡ record j { needed = low }) (sealed : IsSealed old heads s new) where
     abbrev opened : Journal
-    opened = record (journal_at g r.at r.numbers r.newest.item.last_seq (r.newest.item.seq + 1)) { needed = low }
+    opened = record (journal_at g r.at r.numbers r.newest.item.last_seq (r.newest.item.seq + 1) (heads_of r.newest.item)) { needed = low }
 
     is_opened : old ≡ opened
     is_opened = is ∙ ap (λ (k : Journal). record k { needed = low }) r.is
@@ -112,7 +115,7 @@ module _ (g : Geometry) (read : Read) (fit : IsFit g read.all read.entries) (j :
     entry_is = so.entry
 
     follows : IsReached read.entries (number_of j) low → low ≤ number_of j → All (IsNeeded low) read.entries
-        → heads ≡ record { uuid_bucket = r.newest.item.uuid_bucket; root = r.newest.item.root; level = r.newest.item.level; prio = r.newest.item.prio }
+        → heads ≡ heads_of r.newest.item
         → IsOpeningEntry read.entries r.newest s.entry
     follows reached most needed names =
         let from = needs_later low reached in
@@ -178,7 +181,7 @@ module _ (g : Geometry) (read : Read) (fit : IsFit g read.all read.entries) (j :
     ]
 
     pub is_next : IsReached read.entries (number_of j) low → low ≤ number_of j → All (IsNeeded low) read.entries
-        → heads ≡ record { uuid_bucket = r.newest.item.uuid_bucket; root = r.newest.item.root; level = r.newest.item.level; prio = r.newest.item.prio }
+        → heads ≡ heads_of r.newest.item
         → IsNext g read s
     is_next reached most needed names = record {
       older = r.older;
@@ -204,15 +207,17 @@ module _ (g : Geometry) (read : Read) (fit : IsFit g read.all read.entries) (j :
       omega (arith, last, number)
 
 -- the entry that such a journal seals is the one that comes next
-pub sealed_next : (g : Geometry) (read : Read) → IsFit g read.all read.entries → (u : Unsealed) (n : Next)
-    → IsUnsealed g read u → IsSealed u.journal u.heads n.sealed n.journal → IsBegun g read n
-sealed_next g read fit u n h sealed =
-    let low : n.sealed.entry.last_seq ≡ h.low = ap (λ (e : JEntry). e.last_seq) sealed.entry ∙ ap (λ (j : Journal). j.needed) h.is in
+pub sealed_next : (g : Geometry) (read : Read) → IsFit g read.all read.entries → (j : Journal) (n : Next)
+    → IsUnsealed g read j → IsSealed j j.heads n.sealed n.journal → IsBegun g read n
+sealed_next g read fit j n h sealed =
+    let low : n.sealed.entry.last_seq ≡ h.low = ap (λ (e : JEntry). e.last_seq) sealed.entry ∙ ap (λ (k : Journal). k.needed) h.is in
+    let here : j.heads ≡ h.from.heads = ap (λ (k : Journal). k.heads) h.is in
     record {
-      entry = is_next g read fit h.from h.resumed h.low u.journal n.journal u.heads n.sealed h.is sealed h.needs.reached h.needs.most h.needs.needed h.heads;
+      entry = is_next g read fit h.from h.resumed h.low j n.journal j.heads n.sealed h.is sealed h.needs.reached h.needs.most h.needs.needed
+          (here ∙ ap (λ (k : Journal). k.heads) h.resumed.is);
       from = h.from;
       resumed = h.resumed;
-      heads = u.heads;
-      sealed = subst (λ (j : Journal). IsSealed j u.heads n.sealed n.journal)
-          (h.is ∙ ap (λ k. record h.from { needed = k }) (sym low)) sealed;
+      sealed = subst (λ (k : Journal). IsSealed k h.from.heads n.sealed n.journal)
+          (h.is ∙ ap (λ k. record h.from { needed = k }) (sym low))
+          (subst (λ (x : Heads). IsSealed j x n.sealed n.journal) here sealed);
     }

@@ -12,6 +12,7 @@ use Rattle.bc_jset.specs.Records.{entry_kind}
 use Rattle.bc_jset.specs.Ring.{IsNextPlace, bucket_after, bucket_of, greatest_in}
 use Rattle.bc_journal.specs.Journal.{HasRoom, journal_at}
 use Rattle.bc_journal.specs.Ring.{following, is_free, may_begin, sectors_for}
+use Rattle.bc_journal.specs.declared.heads.Heads.{Heads}
 use Rattle.bc_journal.specs.declared.place.Place.{Place}
 use Rattle.bc_resume.specs.Numbers.{number_in}
 
@@ -89,15 +90,15 @@ one_block g =
     let within = blocks_within g.block 240 1 some (omega (arith, some)) in
     omega (arith, within)
 
-module _ (g : Geometry) (at : Place) (numbers : List ℕ) (low seq : ℕ) where
-  pub behind_last : at.sector + sectors_for g 0 ≤ g.bucket → HasRoom (journal_at g at numbers low seq) 0
+module _ (g : Geometry) (at : Place) (numbers : List ℕ) (low seq : ℕ) (heads : Heads) where
+  pub behind_last : at.sector + sectors_for g 0 ≤ g.bucket → HasRoom (journal_at g at numbers low seq heads) 0
   behind_last fits = record {
     few = lit≤ tt;
     place = some_if (nat_le (at.sector + sectors_for g 0) g.bucket) (may_begin (record { geometry = g; next = at; newest = numbers }) low false (following g at.bucket)) at (record { bucket = following g at.bucket; sector = 0 })
         (inl (grind (arith, nat_tests)));
   }
 
-  pub in_front : slice_index numbers (following g at.bucket) < low → HasRoom (journal_at g at numbers low seq) 0
+  pub in_front : slice_index numbers (following g at.bucket) < low → HasRoom (journal_at g at numbers low seq heads) 0
   in_front free = record {
     few = lit≤ tt;
     place = some_if (nat_le (at.sector + sectors_for g 0) g.bucket) (may_begin (record { geometry = g; next = at; newest = numbers }) low false (following g at.bucket)) at (record { bucket = following g at.bucket; sector = 0 })

@@ -13,5 +13,5 @@ mod next;
 mod write;
 
 pub use needed::oldest_needed;
-pub use next::{Next, Unsealed, next_entry, next_journal};
+pub use next::{Next, next_entry, next_journal};
 pub use write::write_entry;

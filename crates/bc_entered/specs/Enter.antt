@@ -6,7 +6,7 @@ use Rattle.bc_disk.specs.Disk.{DiskFacts}
 use Rattle.bc_disk.specs.declared.geometry.Geometry.{Geometry}
 use Rattle.bc_entries.specs.Journal.{HasJournal, Journal as Read}
 use Rattle.bc_journal.specs.Journal.{Journal}
-use Rattle.bc_journal.specs.Sealed.{AreBytesOf, Sealed, numbers_of, sector_at}
+use Rattle.bc_journal.specs.Sealed.{AreBytesOf, Sealed, heads_of, numbers_of, sector_at}
 use Rattle.bc_super.specs.Writing.{IsStored, count_after}
 use Rattle.bc_image.specs.Pair.{Pair}
 use Rattle.bc_image.specs.Reading.{IsView, View}
@@ -30,8 +30,11 @@ pub record HasEntered (g : Geometry) (read : Read) (old new : DiskFacts) (journa
   pub stored : IsStored (sector_at g next.sealed.place) (values_of bytes) old new
   pub calls : new.calls ≡ count_after 3 old.calls
   pub faults : new.faults ≡ old.faults
-  pub goes_on : journal
-      ≡ record next.journal { durable = numbers_of next.sealed.entry; sealed = None }
+  pub goes_on : journal ≡ record next.journal {
+    durable = numbers_of next.sealed.entry;
+    heads = heads_of next.sealed.entry;
+    sealed = None;
+  }
 
 -- Why it isn't written: one of at most three calls failed, or none was made.
 abbrev pub IsEnterCause : {C : Type 0} → (C → DiskFacts) → Read → C → C → EnterError → Type 0

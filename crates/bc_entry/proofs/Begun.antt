@@ -1,5 +1,5 @@
 -- What the first seat of a run knows as the run begins.
-use Rattle.std.proofs.Common.{◌≡◌, ◌≤◌, List, [], ◌∷◌, refl, sym, ap, ◌∙◌, subst, arith}
+use Rattle.std.proofs.Common.{◌≡◌, ◌≤◌, List, [], ◌∷◌, refl, ◌∙◌, arith}
 use Rattle.std.specs.List.{All}
 use Rattle.std.proofs.lemmas.Bool.{ltb-true}
 use Rattle.std.proofs.lemmas.List.Elements.{All-head}
@@ -7,24 +7,11 @@ use Rattle.bc_disk.specs.Disk.{DiskFacts}
 use Rattle.bc_events.specs.declared.event.Event.{Event}
 use Rattle.bc_deed.specs.bc_hand.Seats.{world}
 use Rattle.bc_deed.proofs.of_bc_hand.Knowing.{View, m}
-use Rattle.bc_sealing.specs.bc_machine.World.{World, after, replay}
-use Rattle.bc_meta.specs.Records.{Records}
+use Rattle.bc_sealing.specs.bc_machine.World.{World, after}
 use Rattle.bc_parts.specs.Machine.{IsRun}
 use Rattle.bc_seats.specs.Seats.{Foreign}
-use Rattle.bc_sealing.proofs.Read.{law_read}
 use Rattle.std.specs.Prelude.{fold}
-use Rattle.bc_entry.specs.Laws.{LawAlone, LawNamed, heads_of}
-use Rattle.bc_entry.specs.Seal.{AreNamed, IsNamed}
-
-pub law_named : LawNamed
-law_named x j es a first has o is course =
-    let read = law_read x o j es a is has in
-    let newest = ap (λ (r : Records). r.newest) is.sound.whole.records in
-    let named : IsNamed j.ring.geometry (heads_of a.newest.item) o.parts.records.newest =
-    subst (IsNamed j.ring.geometry (heads_of a.newest.item)) (read.newest_is ∙ sym newest)
-    (record { root = refl; word = refl; level = refl; prio = refl }) in
-    subst (λ (log : List Event). AreNamed j.ring.geometry (heads_of a.newest.item) o (replay o log))
-    (sym first) named
+use Rattle.bc_entry.specs.Laws.{LawAlone}
 
 module _ {C B : Type 0} (cache_facts : C → DiskFacts) (backing_facts : B → DiskFacts) where
   none_else : (v : View cache_facts backing_facts) → v.first ≡ 0 → 320 ≤ v.end → (x : World)

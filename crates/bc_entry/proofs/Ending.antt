@@ -1,21 +1,25 @@
 -- What the end of an entry leaves of the journal.
-use Rattle.std.proofs.Common.{◌≡◌, ◌≢◌, ℕ, Bool, true, false, List, Option, Some, None, refl, sym, ap, ◌∙◌, subst}
-use Rattle.std.specs.Prelude.{◌==◌, if◌then◌else◌}
+use Rattle.std.proofs.Common.{◌≡◌, ◌≢◌, ℕ, ◌-◌, ◌/◌, Bool, true, false, List, Option, Some, None, refl, sym, ap, ◌∙◌, subst}
+use Rattle.std.specs.Prelude.{◌==◌, if◌then◌else◌, reverse}
 use Rattle.bc_disk.specs.Disk.{DiskFacts}
+use Rattle.bc_disk.specs.declared.geometry.Geometry.{Geometry}
 use Rattle.bc_parts.specs.Seat.{Holds, PartsView}
 use Rattle.bc_seats.specs.Seats.{Kept}
 use Rattle.bc_seats.proofs.Knowing.{held}
 use Rattle.bc_events.specs.Run as core
 use Rattle.bc_events.specs.declared.event.Deed.TheVariants as deed
 use Rattle.bc_events.specs.declared.event.Event.{Event}
-use Rattle.bc_facts.specs.Seen.{seen_entry}
+use Rattle.bc_facts.specs.Layout.{IsLayoutOf}
+use Rattle.bc_facts.specs.Seen.{bucket_of, counted, entry_rest, seen_entry, word_of}
 use Rattle.bc_deed.specs.bc_hand.Seats.{Did, IsCoreSeat, Works, by, world}
 use Rattle.bc_deed.specs.bc_hand.declared.hand.Hand.{Hand}
 use Rattle.bc_deed.proofs.of_bc_hand.Knowing.{View, framed, m}
 use Rattle.bc_deed.proofs.of_bc_hand.Lends.{works_journal}
 use Rattle.bc_deed.proofs.May.{other_number}
 use Rattle.bc_journal.specs.Journal.{Journal}
-use Rattle.bc_journal.specs.Sealed.{Sealed, numbers_of}
+use Rattle.bc_journal.specs.Sealed.{Sealed, heads_of, numbers_of}
+use Rattle.bc_key.specs.Key.{ptr_at}
+use Rattle.bc_jset.specs.declared.entry.JEntry.{JEntry}
 use Rattle.bc_known.specs.Laws.{IsSound}
 use Rattle.bc_sealing.specs.bc_machine.Containers.{IsJournalOf, numbers_in}
 use Rattle.bc_sealing.specs.bc_machine.Frame.{by_test}
@@ -25,6 +29,7 @@ use Rattle.bc_sealing.specs.bc_machine.declared.part.CorePart.TheVariants as par
 use Rattle.bc_sealing.proofs.Acts.{law_acts}
 use Rattle.bc_sealing.proofs.Ring.{law_ring}
 use Rattle.bc_shares.specs.Shares.{journal_share}
+use Rattle.bc_whole.specs.State.{Opening}
 use Rattle.bc_entry.specs.Entry.{IsNewestEntry, IsSafeEntry}
 use Rattle.bc_entry.proofs.Allowed.{sealed_is}
 use Rattle.bc_entry.proofs.Course.{inv_course}
@@ -54,7 +59,41 @@ journal_changed k = only 0 (λ is. cc) (only 1 (λ is. cc) (only 2 (λ is. cc) (
 
 -- the journal with the entry durable
 abbrev pub with_durable : Sealed → Journal → Journal
-with_durable s j = record j { durable = numbers_of s.entry; sealed = None }
+with_durable s j = record j {
+  durable = numbers_of s.entry;
+  heads = heads_of s.entry;
+  sealed = None;
+}
+
+-- an entry as one geometry has it, as another of the same layout does
+other_geometry : (w : Opening) (g k : Geometry) (e : JEntry) → IsLayoutOf g w.layout
+    → w.before ≡ g.first_bucket → IsLayoutOf k w.layout → w.before ≡ k.first_bucket
+    → seen_entry g e ≡ seen_entry k e
+other_geometry w g k e one at two there = λ i. record {
+  number = e.seq;
+  last_seq = e.last_seq;
+  root = root i;
+  word = word_of e.root;
+  level = e.level;
+  prio = prio i;
+  keys = reverse e.keys;
+  rest = entry_rest e;
+}
+  where
+    size : g.bucket ≡ k.bucket
+    size = sym one.bucket_sectors ∙ two.bucket_sectors
+
+    before : g.first_bucket ≡ k.first_bucket
+    before = sym at ∙ there
+
+    sector : ℕ
+    sector = (ptr_at e.root 0).offset
+
+    root : bucket_of g e.root ≡ bucket_of k e.root
+    root = ap (λ n. sector / n - g.first_bucket) size ∙ ap (λ n. sector / k.bucket - n) before
+
+    prio : counted g e.prio ≡ counted k e.prio
+    prio = ap (λ n. e.prio - n) before
 
 ends_in : (o : Origin) (es : List Event) (i : ℕ) (s : Sealed) (j : Journal)
     → IsSound o.opening.machine o.parts → IsCourseOf o es → IsSafeEntry s o (replay o es)
@@ -70,7 +109,14 @@ ends_in o es i s j sound on h is =
     h.sealed.entry in
     let ends = law_acts.ends w st i e (inv_course o sound es on).same h.sealed.entry in record {
       waiting = is.waiting;
+      all_wait = is.all_wait;
       durable = ap numbers_in (sym entry);
+      heads = record {
+        entry = s.entry;
+        is = entry ∙ other_geometry w s.geometry j.ring.geometry s.entry h.sealed.layout
+            h.sealed.before is.ring.layout is.ring.before;
+        heads_are = refl;
+      };
       sealed = refl;
       ring = law_ring.durable w (journal_share st)
           (journal_share (core.after o.opening (replay o es) (by i deed.Sealed)).machine) j.ring e

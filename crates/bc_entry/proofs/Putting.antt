@@ -2,11 +2,7 @@
 use Rattle.std.proofs.Common.{◌≡◌, inl, inr, true, List, [], ◌∷◌, Option, Some, None, refl, sym, ap, ◌∙◌, subst}
 use Rattle.std.specs.Prelude.{Result, Ok, Err, IfErr, OnErr, OnOk, is_some}
 use Rattle.bc_disk.specs.Disk.{DiskFacts}
-use Rattle.bc_disk.specs.declared.geometry.Geometry.{Geometry}
-use Rattle.bc_facts.specs.Seen.{seen_entry}
-use Rattle.bc_jset.specs.declared.entry.JEntry.{JEntry}
-use Rattle.bc_sealing.specs.bc_machine.World.{FromEach, World}
-use Rattle.bc_meta.specs.Entries.{Entry}
+use Rattle.bc_sealing.specs.bc_machine.World.{FromEach}
 use Rattle.bc_events.specs.declared.event.Deed.{Deed}
 use Rattle.bc_events.specs.declared.event.Deed.TheVariants as deed
 use Rattle.bc_events.specs.declared.event.Event.{Event}
@@ -19,12 +15,11 @@ use Rattle.bc_deed.specs.Asked.{IsHalted, IsHaltedOr}
 use Rattle.bc_deed.specs.Flushed.{HasDone}
 use Rattle.bc_deed.proofs.Sequence.{done_one, done_then}
 use Rattle.bc_journal.specs.Journal.{IsSealed, Journal}
-use Rattle.bc_journal.specs.Sealed.{Sealed, numbers_of}
-use Rattle.bc_journal.specs.declared.heads.Heads.{Heads}
+use Rattle.bc_journal.specs.Sealed.{Sealed, heads_of, numbers_of}
 use Rattle.bc_entry.specs.Entry.{HasJournalAndCache, IsNewestEntry}
 use Rattle.bc_entry.specs.Failed.{HasFailedAtCache, HasFailedToWrite, HasWritten}
 use Rattle.bc_entry.specs.Put.{GoesOn, HasCut, HasPut, IsCause, IsCutBehind, IsNoFault, failed_barrier, lost_by, seal_by, write_by}
-use Rattle.bc_entry.specs.Seal.{AreNamed, HasSealed, IsNamed}
+use Rattle.bc_entry.specs.Seal.{HasSealed}
 use Rattle.bc_entry.proofs.Ending.{with_durable}
 
 pub if_err : {A E : Type 0} {P Q : E → Type 0} (r : Result A E) → ((e : E) → P e → Q e)
@@ -54,9 +49,9 @@ pub kept_journal : {C B : Type 0} (h a b c d : Hand C B) (k : Journal)
 kept_journal h a b c d k sealed first second third = still_journal c d third
     ∙ still_journal b c second ∙ still_journal a b first ∙ ap (λ (x : Hand _ _). x.journal) sealed
 
-pub sealed_numbers_are : (j : Journal) (heads : Heads) (s : Sealed) (k : Journal)
-    → IsSealed j heads s k → k.sealed ≡ Some (numbers_of s.entry)
-sealed_numbers_are j heads s k is = ap (λ (x : Journal). x.sealed) is.journal
+pub sealed_numbers_are : (j : Journal) (s : Sealed) (k : Journal)
+    → IsSealed j j.heads s k → k.sealed ≡ Some (numbers_of s.entry)
+sealed_numbers_are j s k is = ap (λ (x : Journal). x.sealed) is.journal
 
 pub ended_hand : {C B E : Type 0} (r : Result (Unit {0}) E) (h new : Hand C B) (s : Sealed)
     (j : Journal) → h.journal ≡ Some j → is_some h.cache ≡ true
@@ -91,41 +86,31 @@ ended_kinds (Err e) h new s j is good bad = ap kinds bad
 
 -- ---- the journal behind it
 
-pub goes_on : (j : Journal) (heads : Heads) (s : Sealed) (k : Journal) → IsSealed j heads s k
-    → GoesOn j heads (with_durable s k)
-goes_on j heads s k is = record {
+pub goes_on : (j : Journal) (s : Sealed) (k : Journal) → IsSealed j j.heads s k
+    → GoesOn j (with_durable s k)
+goes_on j s k is = record {
   durable = ap numbers_of is.entry;
+  heads = ap heads_of is.entry;
   sealed = refl;
   waiting = ap (λ (x : Journal). x.waiting) is.journal;
   needed = ap (λ (x : Journal). x.needed) is.journal;
   geometry = ap (λ (x : Journal). x.ring.geometry) is.journal;
 }
 
-named_again : (j : Journal) (heads : Heads) (s : Sealed) (k : Journal) → IsSealed j heads s k
-    → (e : Entry) → e ≡ seen_entry s.geometry s.entry → IsNamed k.ring.geometry heads e
-named_again j heads s k is e e_is = subst (IsNamed k.ring.geometry heads) (sym e_is)
-    (subst (λ (g : Geometry). IsNamed k.ring.geometry heads (seen_entry g s.entry))
-    (ap (λ (x : Journal). x.ring.geometry) is.journal ∙ sym is.geometry)
-    (subst (λ (x : JEntry). IsNamed k.ring.geometry heads (seen_entry k.ring.geometry x))
-    (sym is.entry) (record { root = refl; word = refl; level = refl; prio = refl })))
-
-pub journal_put : {C B E : Type 0} (r : Result (Unit {0}) E) (h new : Hand C B) (w : World)
-    (first : Option Journal) (j : Journal) (heads : Heads) (s : Sealed) (k : Journal)
-    → first ≡ Some j → IsSealed j heads s k → h.journal ≡ Some k
+pub journal_put : {C B E : Type 0} (r : Result (Unit {0}) E) (h new : Hand C B)
+    (first : Option Journal) (j : Journal) (s : Sealed) (k : Journal)
+    → first ≡ Some j → IsSealed j j.heads s k → h.journal ≡ Some k
     → OnOk r ((j : Journal) → h.journal ≡ Some j
     → new ≡ record h { journal = Some (with_durable s j) })
-    → OnOk r (FromEach w (IsNewestEntry s.geometry s.entry))
-    → OnOk r ((j k : Journal) × (first ≡ Some j) × (new.journal ≡ Some k) × GoesOn j heads k
-    × FromEach w (AreNamed k.ring.geometry heads))
-journal_put (Ok u) h new w first j heads s k at is in_hand good knows = (
+    → OnOk r ((j k : Journal) × (first ≡ Some j) × (new.journal ≡ Some k) × GoesOn j k)
+journal_put (Ok u) h new first j s k at is in_hand good = (
   j,
   with_durable s k,
   at,
   ap (λ (x : Hand _ _). x.journal) (good k in_hand),
-  goes_on j heads s k is,
-  λ o origin course. named_again j heads s k is _ (knows o origin course),
+  goes_on j s k is,
 )
-journal_put (Err e) h new w first j heads s k at is in_hand good knows = tt
+journal_put (Err e) h new first j s k at is in_hand good = tt
 
 module _ {C B : Type 0} (cache_facts : C → DiskFacts) (backing_facts : B → DiskFacts) where
   -- ---- why it came no further
@@ -140,7 +125,7 @@ module _ {C B : Type 0} (cache_facts : C → DiskFacts) (backing_facts : B → D
       → HasFailedToWrite cache_facts backing_facts e s v w → IsCause e w.seen
   cause_write (error.Fault device) s v w h = h.0
   cause_write (error.Halted device) s v w h = h.0
-  cause_write error.Memory s v w h = tt
+  cause_write error.Memory s v w h = absurd h
 
   cause_halt : (e : StepError) (es : List Event) → IsHalted e es → IsCause e es
   cause_halt (error.Fault device) es h = absurd h
@@ -159,22 +144,22 @@ module _ {C B : Type 0} (cache_facts : C → DiskFacts) (backing_facts : B → D
   no_fault (error.Halted device) es h = tt
   no_fault error.Memory es h = tt
 
-  pub cut_seal : (e : StepError) (j : Journal) (heads : Heads)
-      (t u : View cache_facts backing_facts) → IsHaltedOr e u.seen
-      → Did cache_facts backing_facts None t u → HasCut cache_facts backing_facts e j heads t u
-  cut_seal e j heads t u halted h = record {
+  pub cut_seal : (e : StepError) (j : Journal) (t u : View cache_facts backing_facts)
+      → IsHaltedOr e u.seen → Did cache_facts backing_facts None t u
+      → HasCut cache_facts backing_facts e j t u
+  cut_seal e j t u halted h = record {
     deeds = [];
     cut = inl (no_fault e u.seen halted, refl);
     done = done_one cache_facts backing_facts None t u h;
   }
 
-  module _ (j : Journal) (heads : Heads) (s : Sealed) (k : Journal) (is : IsSealed j heads s k)
+  module _ (j : Journal) (s : Sealed) (k : Journal) (is : IsSealed j j.heads s k)
       (t u : View cache_facts backing_facts) (a : HasSealed cache_facts backing_facts j s t u) where
     abbrev seal : Deed
     seal = seal_by j s a.rest
 
     abbrev Cut : StepError → View cache_facts backing_facts → Type 0
-    Cut e x = HasCut cache_facts backing_facts e j heads t x
+    Cut e x = HasCut cache_facts backing_facts e j t x
 
     cut_at : (e : StepError) (more : List Deed) (x : View cache_facts backing_facts)
         → IsCutBehind e s more → HasDone cache_facts backing_facts (seal ∷ more) t x → Cut e x
@@ -225,8 +210,7 @@ module _ {C B : Type 0} (cache_facts : C → DiskFacts) (backing_facts : B → D
           h.1.2)
       cut_write (error.Halted device) w h = cut_at (error.Halted device) (deed.CacheBarrier ∷ []) w
           (inr (inl refl)) (none_more w h.1)
-      cut_write error.Memory w h = cut_at error.Memory (deed.CacheBarrier ∷ []) w refl
-          (none_more w h)
+      cut_write error.Memory w h = absurd h
 
       module _ (w : View cache_facts backing_facts)
           (d : HasWritten cache_facts backing_facts s v w) where
@@ -265,7 +249,7 @@ module _ {C B : Type 0} (cache_facts : C → DiskFacts) (backing_facts : B → D
               → OnOk r (Did cache_facts backing_facts (Some deed.Sealed) x y)
               → OnOk r (FromEach (world cache_facts backing_facts y)
               (IsNewestEntry s.geometry s.entry))
-              → OnOk r (HasPut cache_facts backing_facts j heads t y)
+              → OnOk r (HasPut cache_facts backing_facts j t y)
           all_done (Ok z) g knows = record {
             sealed = s;
             behind = k;

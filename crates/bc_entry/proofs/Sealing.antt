@@ -31,25 +31,24 @@ use Rattle.bc_known.specs.Acts.{BeginBucket, Seal, State, after}
 use Rattle.bc_known.specs.Run.{IsEnabled}
 use Rattle.bc_known.specs.Laws.{IsSound}
 use Rattle.bc_leaves.specs.Enabled.{CanSealNext}
-use Rattle.bc_sealing.specs.bc_machine.Containers.{IsJournalOf, IsRingOf, numbers_in, sealed_numbers}
+use Rattle.bc_sealing.specs.bc_machine.Containers.{IsJournalOf, IsNamed, IsRingOf, numbers_in, sealed_numbers}
 use Rattle.bc_sealing.specs.bc_machine.World.{CanFollow, FromEach, IsCourseOf, IsJournal, IsSeenFrom, Origin, World, are_plain, data_of, replay}
 use Rattle.bc_sealing.specs.bc_machine.declared.part.CorePart.TheVariants as part
 use Rattle.bc_meta.specs.Entries.{Entry}
 use Rattle.bc_meta.specs.Layout.{entry_len}
 use Rattle.bc_meta.specs.Records.{Fixed, Nothing, Ready, Records, Safe, Sent, Stage}
-use Rattle.bc_sealing.specs.Laws.{IsNew, Seals, front_of}
+use Rattle.bc_sealing.specs.Laws.{Begins, IsNew, Seals, front_of}
 use Rattle.bc_sealing.proofs.Acts.{law_acts}
 use Rattle.bc_sealing.proofs.Ring.{law_places, law_ring}
 use Rattle.bc_shares.specs.Shares.{JournalShare, if_sealed, journal_share}
-use Rattle.bc_shares.proofs.Law.{law_journal}
 use Rattle.bc_whole.specs.State as whole
-use Rattle.bc_whole.specs.State.{SameChain, SameRoot}
+use Rattle.bc_whole.specs.State.{Chain, NewRoot, Root, SameChain, SameRoot}
 use Rattle.bc_whole.specs.Together.{entry_of}
 use Rattle.bc_entry.specs.Entry.{IsFixedEntry, IsSealedAs}
 use Rattle.bc_needs.specs.Needs.{NeedsFrom, NeedsNone}
-use Rattle.bc_entry.specs.Seal.{AreNamed, CanSeal, HasSealed, IsNamed, begun_by, rest_of}
+use Rattle.bc_entry.specs.Seal.{CanSeal, HasSealed, begun_by, rest_of}
 use Rattle.bc_entry.proofs.Course.{is_sealed, nothing_course, waits_course}
-use Rattle.bc_entry.proofs.Holding.{IsKept, known_committed, known_since, needs_committed}
+use Rattle.bc_entry.proofs.Holding.{known_committed, needs_committed}
 
 never : (b : Bool) → b ≡ true → b ≡ false → ⊥
 never b is off = cc
@@ -108,6 +107,156 @@ pub has_place : (j : Journal) → CanSeal j
     → (p : Place) × (place_for j (waiting_words j) ≡ Some p)
 has_place j can = some_place (place_for j (waiting_words j))
     (subst (λ n. IsSome (place_for j n)) (omega arith) can.room.place)
+
+-- ---- what a seal leaves of the journal in memory, whatever the entry names
+
+-- what an entry has by the records, whatever root and chain it names
+pub record HasRest (r : Records) (low : ℕ) (others : List ℕ) (e : Entry) : Type 0 where
+  pub number : e.number ≡ suc r.newest.number
+  pub last_seq : e.last_seq ≡ low
+  pub keys : e.keys ≡ r.waiting
+  pub rest : e.rest ≡ others
+
+pub has_rest : (x : whole.State) (last_seq : ℕ) (rest : List ℕ) (root : Root) (chain : Chain)
+    → HasRest x.parts.records last_seq rest (entry_of x last_seq rest root chain)
+has_rest x last_seq rest SameRoot chain =
+    record { number = refl; last_seq = refl; keys = refl; rest = refl }
+has_rest x last_seq rest (NewRoot r) chain =
+    record { number = refl; last_seq = refl; keys = refl; rest = refl }
+
+-- it names this root and these priorities
+pub record Names (g : Geometry) (heads : Heads) (e : Entry) : Type 0 where
+  pub root : e.root ≡ bucket_of g heads.root
+  pub word : e.word ≡ word_of heads.root
+  pub level : e.level ≡ heads.level
+  pub prio : e.prio ≡ counted g heads.prio
+
+-- as one does that is known by the formats
+pub named_so : (g : Geometry) (heads : Heads) (e : Entry) → IsNamed g heads e → Names g heads e
+named_so g heads e n = record {
+  root = ap (λ (y : Entry). y.root) n.is
+      ∙ ap (λ (k : Heads). bucket_of g k.root) (sym n.heads_are);
+  word = ap (λ (y : Entry). y.word) n.is ∙ ap (λ (k : Heads). word_of k.root) (sym n.heads_are);
+  level = ap (λ (y : Entry). y.level) n.is ∙ ap (λ (k : Heads). k.level) (sym n.heads_are);
+  prio = ap (λ (y : Entry). y.prio) n.is
+      ∙ ap (λ (k : Heads). counted g k.prio) (sym n.heads_are);
+}
+
+none_numbers : (o : Option Entry) → sealed_numbers o ≡ None → o ≡ None
+none_numbers None is = refl
+none_numbers (Some e) is = absurd (cc)
+
+-- The journal stands for the share, and sealed an entry that names this.
+module _ (w : whole.Opening) (x : JournalShare) (j : Journal) (good : IsGoodJournal j)
+    (can : CanSeal j) (h : IsJournalOf w x j) (heads : Heads) (s : Sealed) (new : Journal)
+    (is : IsSealed j heads s new) where
+  abbrev g : Geometry
+  g = j.ring.geometry
+
+  abbrev e : Entry
+  e = seen_entry g s.entry
+
+  pub number_now : number_of j ≡ suc x.entries.newest.number
+  number_now =
+      let all = ap (λ n. newest_of j.durable n + 1) can.none in
+      let seq = ap (λ (n : Numbers). n.seq) h.durable in omega (arith, all, seq)
+
+  none_before : x.entries.sealed ≡ None
+  none_before = none_numbers x.entries.sealed (sym h.sealed ∙ can.none)
+
+  -- the machine's entry, of the same keys and names, is the one that was sealed
+  pub entry_is : (r : Records) → r.newest ≡ x.entries.newest → r.waiting ≡ x.entries.waiting
+      → (rest : List ℕ) → rest ≡ entry_rest s.entry → (d : Entry) → HasRest r j.needed rest d
+      → Names g heads d → d ≡ e
+  entry_is r newest waiting rest rest_is d has named =
+      let at = is.entry in
+      let number : d.number ≡ s.entry.seq =
+      let one = has.number in
+      let two = ap (λ (y : Entry). y.number) newest in
+      let all = number_now in
+      let same = ap (λ y. y.seq) at in omega (arith, one, two, all, same) in
+      let low = has.last_seq ∙ sym (ap (λ y. y.last_seq) at) in
+      let root = named.root ∙ sym (ap (λ y. bucket_of g y.root) at) in
+      let word = named.word ∙ sym (ap (λ y. word_of y.root) at) in
+      let level = named.level ∙ sym (ap (λ y. y.level) at) in
+      let prio = named.prio ∙ sym (ap (λ y. counted g y.prio) at) in
+      let keys : d.keys ≡ reverse s.entry.keys = has.keys ∙ waiting
+      ∙ sym (reverse-reverse x.entries.waiting)
+      ∙ ap (λ (ks : List Key). reverse ks) (sym h.waiting)
+      ∙ ap (λ y. reverse y.keys) (sym at) in
+      let others = has.rest ∙ rest_is in
+      λ i. record {
+        number = number i;
+        last_seq = low i;
+        root = root i;
+        word = word i;
+        level = level i;
+        prio = prio i;
+        keys = keys i;
+        rest = others i;
+      }
+
+  sectors_are : entry_sectors g s.entry ≡ entry_len w.layout e
+  sectors_are = sym (h.ring.layout.entries.long tt s.entry)
+
+  is_new : (b : ℕ) → b < g.journal → IsNew w j.ring b e (entry_sectors g s.entry)
+  is_new b in_ = record {
+    long = sectors_are;
+    within = let all = good.ring.buckets in omega (arith, in_, all);
+    number =
+        let all = good.ring.buckets in
+        let below : slice_index j.ring.newest b < number_of j =
+        All-get_or (λ n. n < number_of j) j.ring.newest b 0 (omega (arith, in_, all))
+        good.newest in
+        let same = ap (λ y. y.seq) is.entry in omega (arith, below, same);
+  }
+
+  -- of a share in which the ring has it at its place
+  module _ (y z : JournalShare) (newest : y.entries.newest ≡ x.entries.newest) (seals : Seals e y z)
+      (ring : IsRingOf w z (with_entry j.ring s.place (entry_sectors g s.entry) s.entry.seq))
+    where
+      journal_is : IsJournalOf w z new
+      journal_is = subst (IsJournalOf w z) (sym is.journal) (record {
+        waiting = ap (λ (ks : List Key). reverse ks) (sym seals.waiting);
+        all_wait = λ none. seals.count;
+        durable = h.durable ∙ ap numbers_in (sym (seals.newest ∙ newest));
+        heads = subst (IsNamed g j.heads) (sym (seals.newest ∙ newest)) h.heads;
+        sealed = ap sealed_numbers (sym seals.sealed);
+        ring = ring;
+      })
+
+      sealed_is_as : IsSealedAs s w z
+      sealed_is_as = record {
+        layout = subst (λ (k : Geometry). IsLayoutOf k w.layout) (sym is.geometry) h.ring.layout;
+        before = h.ring.before ∙ ap (λ (k : Geometry). k.first_bucket) (sym is.geometry);
+        entry = seals.sealed
+            ∙ ap (λ (k : Geometry). Some (seen_entry k s.entry)) (sym is.geometry);
+        bucket = sym ring.bucket;
+        next = law_places.place w z j.ring s.place e (entry_sectors g s.entry) ring seals.sealed
+            sectors_are
+            ∙ ap (λ (k : Geometry). sector_at k s.place) (sym is.geometry);
+      }
+
+  abbrev pub Leaves : JournalShare → Type 0
+  Leaves z = IsJournalOf w z new × IsSealedAs s w z
+
+  -- behind the last entry, and in front of a bucket
+  pub sealed_behind : (z : JournalShare) → Seals e x z → s.place ≡ j.ring.next → Leaves z
+  sealed_behind z seals place =
+      let ring = subst (λ (p : Place). IsRingOf w z
+      (with_entry j.ring p (entry_sectors g s.entry) s.entry.seq)) (sym place)
+      (law_ring.behind w x z j.ring e (entry_sectors g s.entry) h.ring none_before seals
+      (is_new j.ring.next.bucket good.ring.next.bucket)) in
+      (journal_is x z refl seals ring, sealed_is_as x z refl seals ring)
+
+  pub sealed_in_front : (b : ℕ) (y z : JournalShare) → Begins w b x y → Seals e y z
+      → b < g.journal → s.place ≡ front_of b → Leaves z
+  sealed_in_front b y z begins seals in_ place =
+      let ring = subst (λ (p : Place). IsRingOf w z
+      (with_entry j.ring p (entry_sectors g s.entry) s.entry.seq)) (sym place)
+      (law_ring.front w x y z j.ring b e (entry_sectors g s.entry) h.ring begins seals
+      (is_new b in_)) in
+      (journal_is y z begins.newest seals ring, sealed_is_as y z begins.newest seals ring)
 
 -- ---- in a state of a run
 
@@ -179,123 +328,45 @@ module _ (o : Origin) (sound : IsSound o.opening.machine o.parts) (es : List Eve
 
   -- ---- what it leaves
 
-  module _ (heads : Heads) (named : AreNamed j.ring.geometry heads o (replay o es)) (s : Sealed)
-      (new : Journal) (is : IsSealed j heads s new) (rest : List ℕ)
+  module _ (s : Sealed) (new : Journal) (is : IsSealed j j.heads s new) (rest : List ℕ)
       (rest_is : rest ≡ entry_rest s.entry) where
-    abbrev g : Geometry
-    g = j.ring.geometry
-
-    abbrev e : Entry
-    e = seen_entry g s.entry
-
-    entry_is : entry_of st.whole j.needed rest SameRoot SameChain ≡ e
-    entry_is =
-        let at = is.entry in
-        let number : suc r.newest.number ≡ s.entry.seq =
-        let seq = seq_is in
-        let all = number_is in
-        let same = ap (λ x. x.seq) at in omega (arith, seq, all, same) in
-        let low = sym (ap (λ x. x.last_seq) at) in
-        let root = named.root ∙ sym (ap (λ x. bucket_of g x.root) at) in
-        let word = named.word ∙ sym (ap (λ x. word_of x.root) at) in
-        let level = named.level ∙ sym (ap (λ x. x.level) at) in
-        let prio = named.prio ∙ sym (ap (λ x. counted g x.prio) at) in
-        let keys : r.waiting ≡ reverse s.entry.keys = sym (reverse-reverse r.waiting)
-        ∙ ap (λ (ks : List Key). reverse ks) (sym h.waiting)
-        ∙ ap (λ x. reverse x.keys) (sym at) in
-        λ i. record {
-          number = number i;
-          last_seq = low i;
-          root = root i;
-          word = word i;
-          level = level i;
-          prio = prio i;
-          keys = keys i;
-          rest = rest_is i;
-        }
-
     abbrev x : JournalShare
     x = journal_share st
 
-    none_before : x.entries.sealed ≡ None
-    none_before = ap (λ a. if_sealed a r.entry) idle
+    abbrev LeftIn : State → Type 0
+    LeftIn a = Leaves w x j good can h j.heads s new is (journal_share a)
 
-    sectors_are : entry_sectors g s.entry ≡ entry_len w.layout e
-    sectors_are = sym (h.ring.layout.entries.long tt s.entry)
-
-    is_new : (b : ℕ) → b < g.journal → IsNew w j.ring b e (entry_sectors g s.entry)
-    is_new b in_ = record {
-      long = sectors_are;
-      within = let all = good.ring.buckets in omega (arith, in_, all);
-      number =
-          let all = good.ring.buckets in
-          let below : slice_index j.ring.newest b < number_of j =
-          All-get_or (λ n. n < number_of j) j.ring.newest b 0 (omega (arith, in_, all))
-          good.newest in
-          let same = ap (λ y. y.seq) is.entry in omega (arith, below, same);
-    }
-
-    sealed_as : (i : ℕ) (before : State) → Seals (entry_of before.whole j.needed rest SameRoot
-        SameChain)
-        (journal_share before)
-        (journal_share (after w before i (Seal j.needed rest SameRoot SameChain)))
-    sealed_as i before = law_acts.seals w before i j.needed rest SameRoot SameChain
-
-    -- of a share in which the ring has it at its place
-    module _ (y : JournalShare) (sealed : y.entries.sealed ≡ Some e) (waiting : y.entries.waiting ≡
-        [])
-        (newest : y.entries.newest ≡ r.newest)
-        (ring : IsRingOf w y (with_entry j.ring s.place (entry_sectors g s.entry) s.entry.seq))
-      where
-        journal_is : IsJournalOf w y new
-        journal_is = subst (IsJournalOf w y) (sym is.journal) (record {
-          waiting = ap (λ (ks : List Key). reverse ks) (sym waiting);
-          durable = h.durable ∙ ap numbers_in (sym newest);
-          sealed = ap sealed_numbers (sym sealed);
-          ring = ring;
+    entry_same : entry_of st.whole j.needed rest SameRoot SameChain
+        ≡ seen_entry j.ring.geometry s.entry
+    entry_same = entry_is w x j good can h j.heads s new is r refl refl rest rest_is
+        (entry_of st.whole j.needed rest SameRoot SameChain)
+        (has_rest st.whole j.needed rest SameRoot SameChain) (record {
+          root = named.root;
+          word = named.word;
+          level = named.level;
+          prio = named.prio;
         })
-
-        sealed_is_as : IsSealedAs s w y
-        sealed_is_as = record {
-          layout = subst (λ (k : Geometry). IsLayoutOf k w.layout) (sym is.geometry) h.ring.layout;
-          entry = sealed ∙ ap (λ (k : Geometry). Some (seen_entry k s.entry)) (sym is.geometry);
-          bucket = sym ring.bucket;
-          next = law_places.place w y j.ring s.place e (entry_sectors g s.entry) ring sealed
-              sectors_are
-              ∙ ap (λ (k : Geometry). sector_at k s.place) (sym is.geometry);
-        }
-
-    -- behind the last entry, and in front of a bucket
-    abbrev Leaves : State → Type 0
-    Leaves a = IsJournalOf w (journal_share a) new × IsSealedAs s w (journal_share a)
+      where
+        named : Names j.ring.geometry j.heads r.newest
+        named = named_so j.ring.geometry j.heads r.newest h.heads
 
     leaves_behind : (i : ℕ) → s.place ≡ j.ring.next
-        → Leaves (after w st i (Seal j.needed rest SameRoot SameChain))
+        → LeftIn (after w st i (Seal j.needed rest SameRoot SameChain))
     leaves_behind i place =
-        let y = journal_share (after w st i (Seal j.needed rest SameRoot SameChain)) in
-        let seals = subst (λ (z : Entry). Seals z x y) entry_is (sealed_as i st) in
-        let ring = subst (λ (p : Place). IsRingOf w y
-        (with_entry j.ring p (entry_sectors g s.entry) s.entry.seq)) (sym place)
-        (law_ring.behind w x y j.ring e (entry_sectors g s.entry) h.ring none_before seals
-        (is_new j.ring.next.bucket good.ring.next.bucket)) in (
-          journal_is y seals.sealed refl refl ring,
-          sealed_is_as y seals.sealed refl refl ring,
-        )
+        let z = journal_share (after w st i (Seal j.needed rest SameRoot SameChain)) in
+        sealed_behind w x j good can h j.heads s new is z
+        (subst (λ (d : Entry). Seals d x z) entry_same
+        (law_acts.seals w st i j.needed rest SameRoot SameChain)) place
 
-    leaves_in_front : (i b : ℕ) → b < g.journal → s.place ≡ front_of b
-        → Leaves (after w (after w st i (BeginBucket b)) i (Seal j.needed rest SameRoot SameChain))
+    leaves_in_front : (i b : ℕ) → b < j.ring.geometry.journal → s.place ≡ front_of b
+        → LeftIn (after w (after w st i (BeginBucket b)) i (Seal j.needed rest SameRoot SameChain))
     leaves_in_front i b in_ place =
         let before = after w st i (BeginBucket b) in
         let y = journal_share before in
         let z = journal_share (after w before i (Seal j.needed rest SameRoot SameChain)) in
-        let seals = subst (λ (d : Entry). Seals d y z) entry_is (sealed_as i before) in
-        let ring = subst (λ (p : Place). IsRingOf w z
-        (with_entry j.ring p (entry_sectors g s.entry) s.entry.seq)) (sym place)
-        (law_ring.front w x y z j.ring b e (entry_sectors g s.entry) h.ring
-        (law_acts.begins w st i b) seals (is_new b in_)) in (
-          journal_is z seals.sealed refl refl ring,
-          sealed_is_as z seals.sealed refl refl ring,
-        )
+        sealed_in_front w x j good can h j.heads s new is b y z (law_acts.begins w st i b)
+        (subst (λ (d : Entry). Seals d y z) entry_same
+        (law_acts.seals w before i j.needed rest SameRoot SameChain)) in_ place
 
 -- ---- as a deed
 
@@ -332,29 +403,22 @@ module _ (o : Origin) (sound : IsSound o.opening.machine o.parts)
         plain = λ plain. absurd (never o.opening.machine.flow.plain plain not_plain);
       })
 
-  module _ (heads : Heads) (named : AreNamed j.ring.geometry heads o (replay o es)) (s : Sealed)
-      (new : Journal) (is : IsSealed j heads s new) (rest_is : rest.items ≡ entry_rest s.entry)
-    where
-      abbrev Left : Option ℕ → Type 0
-      Left begun =
-          let a = core.after o.opening (replay o es) (by i (sealing j begun rest)) in
-          IsJournalOf o.opening.machine (journal_share a.machine) new × IsFixedEntry s o a
+  module _ (s : Sealed) (new : Journal) (is : IsSealed j j.heads s new)
+      (rest_is : rest.items ≡ entry_rest s.entry) where
+    abbrev Left : Option ℕ → Type 0
+    Left begun =
+        let a = core.after o.opening (replay o es) (by i (sealing j begun rest)) in
+        IsJournalOf o.opening.machine (journal_share a.machine) new × IsFixedEntry s o a
 
-      left : (begun : Option ℕ) → GoesTo j s.place begun → Left begun
-      left begun (inl (none, place)) = subst Left (sym none)
-          (let both = leaves_behind o sound es on j good can h heads named s new is rest.items
-          rest_is i
-          place in (both.0, record { sealed = both.1; stage = tt }))
-      left begun (inr (b, some, place, in_, free)) = subst Left (sym some)
-          (let both = leaves_in_front o sound es on j good can h heads named s new is rest.items
-          rest_is
-          i b in_ place in (both.0, record { sealed = both.1; stage = tt }))
+    left : (begun : Option ℕ) → GoesTo j s.place begun → Left begun
+    left begun (inl (none, place)) = subst Left (sym none)
+        (let both = leaves_behind o sound es on j good can h s new is rest.items rest_is i place in
+        (both.0, record { sealed = both.1; stage = tt }))
+    left begun (inr (b, some, place, in_, free)) = subst Left (sym some)
+        (let both = leaves_in_front o sound es on j good can h s new is rest.items rest_is i b in_
+        place in (both.0, record { sealed = both.1; stage = tt }))
 
 -- ---- of a seat
-
-named_kept : (g : Geometry) (heads : Heads) → IsKept (AreNamed g heads)
-named_kept g heads o st e on off h = subst (λ (x : JournalShare). IsNamed g heads x.entries.newest)
-    (sym (law_journal o.opening st e on off)) h
 
 module _ {C B : Type 0} (cache_facts : C → DiskFacts) (backing_facts : B → DiskFacts) where
   module _ (v : View cache_facts backing_facts) (seat : IsCoreSeat cache_facts backing_facts v)
@@ -387,9 +451,8 @@ module _ {C B : Type 0} (cache_facts : C → DiskFacts) (backing_facts : B → D
               number = tt;
             })
 
-    module _ (w : View cache_facts backing_facts) (heads : Heads)
-        (named : FromEach (world cache_facts backing_facts v) (AreNamed j.ring.geometry heads))
-        (s : Sealed) (new : Journal) (is : IsSealed j heads s new) (rest : Vec ℕ Global)
+    module _ (w : View cache_facts backing_facts) (s : Sealed) (new : Journal)
+        (is : IsSealed j j.heads s new) (rest : Vec ℕ Global)
         (rest_is : rest.items ≡ entry_rest s.entry)
         (did : Did cache_facts backing_facts (Some (sealing j (begun_by j) rest)) v w) where
       both_left : FromEach (world cache_facts backing_facts w) (λ o a.
@@ -399,10 +462,7 @@ module _ {C B : Type 0} (cache_facts : C → DiskFacts) (backing_facts : B → D
           (λ o a. IsJournalOf o.opening.machine (journal_share a.machine) new × IsFixedEntry s o a)
           did
           (λ o origin course on h. left o origin.sound origin.cached did.is.before.log course j good
-          can h v.first rest heads
-          (known_since cache_facts backing_facts v did.is.before (AreNamed j.ring.geometry heads)
-          journal (named_kept j.ring.geometry heads) did.is.since named o origin course) s new is
-          rest_is (begun_by j) (goes_to j s.place good is.place))
+          can h v.first rest s new is rest_is (begun_by j) (goes_to j s.place good is.place))
           (journal_since did.is.before did.is.since).stands
 
       pub journal_sealed : IsJournal new (world cache_facts backing_facts w)
@@ -451,6 +511,11 @@ pub rest_is_entry : (j : Journal) (heads : Heads) (s : Sealed) (new : Journal) (
     → rest ≡ entry_rest s.entry
 rest_is_entry j heads s new keys rest is rest_is keys_are =
     rest_is ∙ ap (rest_of heads) keys_are ∙ sym (ap entry_rest is.entry)
+
+-- of what the newest entry names
+pub same_heads : (j : Journal) (heads : Heads) (s : Sealed) (new : Journal) → heads ≡ j.heads
+    → IsSealed j heads s new → IsSealed j j.heads s new
+same_heads j heads s new same is = subst (λ (h : Heads). IsSealed j h s new) same is
 
 -- ---- of the journal in hand
 

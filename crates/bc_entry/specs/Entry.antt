@@ -21,6 +21,7 @@ use Rattle.bc_whole.specs.State.{Opening}
 -- The journal has sealed this entry, which goes to this place.
 pub record IsSealedAs (s : Sealed) (w : Opening) (x : JournalShare) : Type 0 where
   pub layout : IsLayoutOf s.geometry w.layout
+  pub before : w.before ≡ s.geometry.first_bucket
   pub entry : x.entries.sealed ≡ Some (seen_entry s.geometry s.entry)
   pub bucket : x.entries.bucket ≡ s.place.bucket
   pub next : x.next x.entries.bucket ≡ sector_at s.geometry s.place

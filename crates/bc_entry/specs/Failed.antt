@@ -38,11 +38,10 @@ module _ {C B : Type 0} (cache_facts : C → DiskFacts) (backing_facts : B → D
       (Some (deed.DeviceFault
       (failure.CacheWrite (sector_at s.geometry s.place) written.Entry values))) v w
 
-  -- A step that was to write it committed that, or only waited: for want of memory, or behind a
-  -- halt.
+  -- A step that was to write it committed that, or only waited behind a halt.
   abbrev pub HasFailedToWrite : StepError → Sealed → View cache_facts backing_facts
       → View cache_facts backing_facts → Type 0
   HasFailedToWrite (error.Fault device) s v w = (device ≡ Cache) × HasLostEntry s v w
   HasFailedToWrite (error.Halted device) s v w =
       (halt_of w.seen ≡ Some device) × Did cache_facts backing_facts None v w
-  HasFailedToWrite error.Memory s v w = Did cache_facts backing_facts None v w
+  HasFailedToWrite error.Memory s v w = ⊥

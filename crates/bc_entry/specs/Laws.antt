@@ -5,30 +5,9 @@ use Rattle.bc_cache.specs.declared.slots.Cached.{Cached}
 use Rattle.bc_disk.specs.Disk.{DiskFacts}
 use Rattle.bc_deed.specs.bc_hand.Seats.{View, core, world}
 use Rattle.bc_journal.specs.Journal.{Journal}
-use Rattle.bc_journal.specs.declared.heads.Heads.{Heads}
-use Rattle.bc_jset.specs.Entries.{AreEntries, FoundEntry}
-use Rattle.bc_jset.specs.declared.entry.JEntry.{JEntry}
 use Rattle.bc_sealing.specs.bc_machine.World.{Begun, FromEach, World}
 use Rattle.bc_seats.specs.Seats.{Waited}
 use Rattle.bc_needs.specs.Needs.{NeedsFrom}
-use Rattle.bc_entry.specs.Seal.{AreNamed}
-
--- what an entry names
-abbrev pub heads_of : JEntry → Heads
-heads_of e = record {
-  uuid_bucket = e.uuid_bucket;
-  root = e.root;
-  level = e.level;
-  prio = e.prio;
-}
-
--- Before its first event a run's newest entry is the one that a reader finds in what the cache
--- device held as it began.
-abbrev pub LawNamed : Type 0
-LawNamed = (x : World) (j : Journal) (es : List FoundEntry)
-    (a : AreEntries j.ring.geometry x.opening.machine.flow.cache es) → x.log ≡ []
-    → x.begun.journal ≡ Some j
-    → FromEach x (AreNamed j.ring.geometry (heads_of a.newest.item))
 
 -- A seat that has all numbers is alone: while it waits nothing happens.
 abbrev pub LawAlone : {C B : Type 0} → (C → DiskFacts) → (B → DiskFacts) → Type 0

@@ -17,7 +17,6 @@ use Rattle.bc_deed.specs.bc_hand.declared.error.StepError.{StepError}
 use Rattle.bc_deed.specs.bc_hand.declared.error.StepError.TheVariants as error
 use Rattle.bc_journal.specs.Journal.{IsSealed, Journal, entry_now}
 use Rattle.bc_journal.specs.Sealed.{Sealed, numbers_of, sector_at}
-use Rattle.bc_journal.specs.declared.heads.Heads.{Heads}
 use Rattle.bc_sealing.specs.bc_machine.World.{FromEach}
 use Rattle.bc_entry.specs.Entry.{AreValuesOf, IsNewestEntry}
 use Rattle.bc_entry.specs.Seal.{begun_by}
@@ -66,22 +65,21 @@ HasStoppedBehind s deeds = (deeds ≡ []) ⊎ ((deeds ≡ deed.CacheBarrier ∷ 
     × ((deeds ≡ deed.CacheBarrier ∷ write_by s values ∷ [])
     ⊎ (deeds ≡ deed.CacheBarrier ∷ write_by s values ∷ deed.CacheBarrier ∷ []))))
 
--- A call failed exactly where that is the error; memory is missed before the seal or the write.
+-- A call failed exactly where that is the error. All memory is there before the seal.
 abbrev pub IsCutBehind : StepError → Sealed → List Deed → Type 0
 IsCutBehind (error.Fault device) s deeds = (device ≡ Cache) × HasFailedBehind s deeds
 IsCutBehind (error.Halted device) s deeds = HasStoppedBehind s deeds
-IsCutBehind error.Memory s deeds = deeds ≡ deed.CacheBarrier ∷ []
+IsCutBehind error.Memory s deeds = ⊥
 
 abbrev pub IsNoFault : StepError → Type 0
 IsNoFault (error.Fault device) = ⊥
 IsNoFault e = Unit {0}
 
 -- the entry that the journal gives was sealed, and no more than that came of it
-pub record IsCutAt (e : StepError) (j : Journal) (heads : Heads) (deeds : List Deed) :
-    Type 0 where
+pub record IsCutAt (e : StepError) (j : Journal) (deeds : List Deed) : Type 0 where
   pub sealed : Sealed
   pub behind : Journal
-  pub entry : IsSealed j heads sealed behind
+  pub entry : IsSealed j j.heads sealed behind
   pub rest : Vec ℕ Global
   pub rest_is : rest.items ≡ entry_rest sealed.entry
   pub more : List Deed
@@ -89,8 +87,8 @@ pub record IsCutAt (e : StepError) (j : Journal) (heads : Heads) (deeds : List D
   pub is : deeds ≡ seal_by j sealed rest ∷ more
 
 -- or not even that
-abbrev pub IsCut : StepError → Journal → Heads → List Deed → Type 0
-IsCut e j heads deeds = (IsNoFault e × (deeds ≡ [])) ⊎ IsCutAt e j heads deeds
+abbrev pub IsCut : StepError → Journal → List Deed → Type 0
+IsCut e j deeds = (IsNoFault e × (deeds ≡ [])) ⊎ IsCutAt e j deeds
 
 -- why it came no further
 abbrev pub IsCause : StepError → List Event → Type 0
@@ -98,9 +96,11 @@ IsCause (error.Fault device) es = device ≡ Cache
 IsCause (error.Halted device) es = halt_of es ≡ Some device
 IsCause error.Memory es = Unit {0}
 
--- the journal behind it: the keys that waited are durable, and it goes on behind the entry
-pub record GoesOn (j : Journal) (heads : Heads) (k : Journal) : Type 0 where
-  pub durable : k.durable ≡ numbers_of (entry_now j heads)
+-- The journal behind it: the keys that waited are durable, and it goes on behind the entry, which
+-- names what the one before it does.
+pub record GoesOn (j k : Journal) : Type 0 where
+  pub durable : k.durable ≡ numbers_of (entry_now j j.heads)
+  pub heads : k.heads ≡ j.heads
   pub sealed : k.sealed ≡ None
   pub waiting : k.waiting ≡ []
   pub needed : k.needed ≡ j.needed
@@ -109,11 +109,10 @@ pub record GoesOn (j : Journal) (heads : Heads) (k : Journal) : Type 0 where
 module _ {C B : Type 0} (cache_facts : C → DiskFacts) (backing_facts : B → DiskFacts) where
   -- The seat put the entry that the journal gives, by its own deeds and no others; from each opening
   -- that is the newest durable one.
-  pub record HasPut (j : Journal) (heads : Heads) (v w : View cache_facts backing_facts) :
-      Type 0 where
+  pub record HasPut (j : Journal) (v w : View cache_facts backing_facts) : Type 0 where
     pub sealed : Sealed
     pub behind : Journal
-    pub entry : IsSealed j heads sealed behind
+    pub entry : IsSealed j j.heads sealed behind
     pub deeds : List Deed
     pub put : IsPut j sealed deeds
     pub done : HasDone cache_facts backing_facts deeds v w
@@ -121,8 +120,8 @@ module _ {C B : Type 0} (cache_facts : C → DiskFacts) (backing_facts : B → D
         (IsNewestEntry sealed.geometry sealed.entry)
 
   -- it came so far, for this error
-  pub record HasCut (e : StepError) (j : Journal) (heads : Heads)
-      (v w : View cache_facts backing_facts) : Type 0 where
+  pub record HasCut (e : StepError) (j : Journal) (v w : View cache_facts backing_facts) :
+      Type 0 where
     pub deeds : List Deed
-    pub cut : IsCut e j heads deeds
+    pub cut : IsCut e j deeds
     pub done : HasDone cache_facts backing_facts deeds v w

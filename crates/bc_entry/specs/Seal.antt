@@ -1,11 +1,9 @@
--- An entry that a seat seals: what it has to know for it, and what it did.
+-- An entry that a seat seals: what has to hold for it, and what the seat did.
 use Rattle.std.specs.Prelude.{◌≡◌, ℕ, ◌+◌, ◌^◌, ◌<◌, List, [], ◌∷◌, length, nat_le, Option, Some, None, if◌then◌else◌, Vec}
 use Rattle.std.specs.declared.alloc.Global.{Global}
 use Rattle.bc_disk.specs.Disk.{DiskFacts}
-use Rattle.bc_disk.specs.declared.geometry.Geometry.{Geometry}
-use Rattle.bc_events.specs.Run.{State}
 use Rattle.bc_events.specs.declared.event.Deed.TheVariants as deed
-use Rattle.bc_facts.specs.Seen.{bucket_of, counted, entry_rest, word_of}
+use Rattle.bc_facts.specs.Seen.{entry_rest}
 use Rattle.bc_deed.specs.bc_hand.Seats.{Did, View}
 use Rattle.bc_journal.specs.Journal.{HasRoom, Journal, number_of, waiting_words}
 use Rattle.bc_journal.specs.Ring.{following, sectors_for}
@@ -13,25 +11,13 @@ use Rattle.bc_journal.specs.Sealed.{Sealed}
 use Rattle.bc_journal.specs.declared.heads.Heads.{Heads}
 use Rattle.bc_key.specs.declared.key.Key.{Key}
 use Rattle.bc_keys.specs.Spelling.{words_of_all}
-use Rattle.bc_sealing.specs.bc_machine.World.{Origin}
-use Rattle.bc_meta.specs.Entries.{Entry}
-use Rattle.bc_shares.specs.Shares.{journal_share}
+use Rattle.bc_entry.specs.declared.next.NextEntry.{NextEntry}
 
 -- no entry is being written, and the next one has a place in the ring and a number
 pub record CanSeal (j : Journal) : Type 0 where
   pub none : j.sealed ≡ None
   pub room : HasRoom j 0
   pub numbered : number_of j < 2 ^ 63
-
--- the newest durable entry names this root and these priorities
-pub record IsNamed (g : Geometry) (heads : Heads) (e : Entry) : Type 0 where
-  pub root : e.root ≡ bucket_of g heads.root
-  pub word : e.word ≡ word_of heads.root
-  pub level : e.level ≡ heads.level
-  pub prio : e.prio ≡ counted g heads.prio
-
-abbrev pub AreNamed : Geometry → Heads → Origin → State → Type 0
-AreNamed g heads o st = IsNamed g heads (journal_share st.machine).entries.newest
 
 -- the journal bucket that the next entry begins, where it has no room behind the last one
 abbrev pub begun_by : Journal → Option ℕ
@@ -43,6 +29,12 @@ begun_by j = if nat_le (j.ring.next.sector + sectors_for j.ring.geometry (waitin
 abbrev pub rest_of : Heads → List Key → List ℕ
 rest_of heads keys =
     length (words_of_all keys) ∷ heads.prio ∷ words_of_all (heads.uuid_bucket ∷ heads.root ∷ [])
+
+-- what the next entry is sealed with
+pub record IsNext (j : Journal) (heads : Heads) (next : NextEntry) : Type 0 where
+  pub last_seq : next.last_seq ≡ j.needed
+  pub bucket : next.bucket ≡ begun_by j
+  pub rest : next.rest.items ≡ rest_of heads j.waiting
 
 module _ {C B : Type 0} (cache_facts : C → DiskFacts) (backing_facts : B → DiskFacts) where
   -- The seat sealed this entry, of the same root and the same priorities as the one before.

@@ -1,5 +1,5 @@
 //! The step that makes a barrier on the cache device.
-ghost use Rattle.std.specs.Prelude.{◌≡◌, ◌<◌, ◌==◌, ℕ, true, false, None, Some, length, OnOk, IfErr};
+ghost use Rattle.std.specs.Prelude.{◌≡◌, ◌+◌, ◌<◌, ◌≤◌, ◌==◌, ℕ, true, false, None, Some, length, OnOk, IfErr};
 ghost use Rattle.bc_parts.specs.Seat.{Holds};
 ghost use Rattle.bc_seats.specs.Seats.{Kept};
 ghost use Rattle.bc_events.specs.Columns.{outlasts_halt};
@@ -61,6 +61,7 @@ pub fn cache_barrier<C: Disk + Drop, B: Disk + Drop, R: Wait>(
     requires promise { 0 < seat.old.promises }
     requires order { hand.old.cache ≡ None → HasNoneBehindCache hand.old }
     ensures works { Works C.facts B.facts parts.now seat.new hand.new }
+    ensures left { seat.old.promises ≤ seat.new.promises + 1 }
     ensures hand { kinds hand.new ≡ kinds hand.old }
     ensures rest { hand.new ≡ record hand.old { cache = hand.new.cache } }
     ensures ok { OnOk result (Did C.facts B.facts (Some Deed.CacheBarrier) seat.old seat.new) }
@@ -93,6 +94,7 @@ fn barrier_in<C: Disk, B: Disk, R: Wait>(
     requires holds { Holds seat.old.parts 4 }
     requires cache { IsCache C.facts B.facts cache.old (world C.facts B.facts seat.old) }
     ensures seat { IsCoreSeat C.facts B.facts seat.new }
+    ensures left { seat.old.promises ≤ seat.new.promises + 1 }
     ensures kept { Kept (core C.facts B.facts) seat.old seat.new (λ k. k == 4) }
     ensures cache { IsCache C.facts B.facts cache.new (world C.facts B.facts seat.new) }
     ensures ok { OnOk result (Did C.facts B.facts (Some Deed.CacheBarrier) seat.old seat.new) }

@@ -1,12 +1,7 @@
 //! What the first seat of a run knows as the run begins: each law is the contract of a function.
-ghost use Rattle.bc_entry.specs.Laws.{LawAlone, LawNamed, LawNeeds};
+ghost use Rattle.bc_entry.specs.Laws.{LawAlone, LawNeeds};
 
 use bc_disk::disk::Disk;
-
-/// The entry that a run begins behind names what a reader finds in the newest one of the device.
-pub fn law_named()
-    ensures { LawNamed }
-{}
 
 /// Nothing happens while a seat waits that has all numbers of its run.
 pub fn law_alone<C: Disk, B: Disk>()

@@ -13,7 +13,9 @@
 pub mod barrier;
 pub mod durable;
 pub mod laws;
+pub mod next;
 pub mod put;
+pub mod room;
 pub mod seal;
 pub mod write;
 

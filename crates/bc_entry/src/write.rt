@@ -1,5 +1,5 @@
 //! The step that writes a sealed entry to the cache device.
-ghost use Rattle.std.specs.Prelude.{◌≡◌, ◌+◌, ◌*◌, ◌<◌, ◌≤◌, ◌==◌, ℕ, List, false, None, Some, length, OnOk, IfErr, IfSome};
+ghost use Rattle.std.specs.Prelude.{◌≡◌, ◌+◌, ◌*◌, ◌<◌, ◌≤◌, ◌==◌, ℕ, List, false, None, Some, length, OnOk, IfErr};
 ghost use Rattle.bc_disk.specs.declared.disk.Device.{Device};
 ghost use Rattle.bc_entry.specs.Entry.{HasJournalAndCache, IsReadyEntry, IsWrittenEntry};
 ghost use Rattle.bc_entry.specs.Failed.{HasFailedToWrite, HasWritten};
@@ -13,6 +13,7 @@ ghost use Rattle.bc_parts.specs.Seat.{Holds};
 ghost use Rattle.bc_seats.specs.Seats.{Kept};
 
 use crate::barrier::called;
+use crate::room::EntryRoom;
 use bc_deed::bc_hand::error::StepError;
 use bc_deed::bc_hand::hand::Hand;
 use bc_disk::disk::{Device, Disk};
@@ -20,22 +21,21 @@ use bc_events::event::{Deed, Failure, Written};
 use bc_journal::Sealed;
 use bc_model::values::Values;
 use bc_sealing::bc_machine::machine::{CoreParts, CoreSeat};
-use std::alloc::Global;
 use std::sync::Wait;
 
 /// Writes the sealed entry to its place, once a barrier came behind the seal: what the entry names
 /// is durable then. The journal and the cache device are in hand, and stay so.
 ///
 /// `Fault` says that the write itself failed, which is committed then: the entry stands there in
-/// part, whole or not at all. `Halted` says that a device had halted the run before, `Memory` that
-/// there was none for the values; then nothing was done.
+/// part, whole or not at all. `Halted` says that a device had halted the run before; then nothing
+/// was done. The memory is there already, so there is never want of it.
 pub fn write_entry<C: Disk + Drop, B: Disk + Drop, R: Wait>(
     rt: &R,
-    alloc: Global,
     parts: &CoreParts<C, B>,
     seat: &mut CoreSeat<C, B>,
     hand: &mut Hand<C, B>,
     entry: &Sealed,
+    room: EntryRoom,
 ) -> Result<(), StepError>
     requires works { Works C.facts B.facts parts.now seat.old hand.old }
     requires cached { are_plain C.facts B.facts parts.now.run.start ≡ false }
@@ -45,6 +45,7 @@ pub fn write_entry<C: Disk + Drop, B: Disk + Drop, R: Wait>(
         ≤ (cache_among C.facts B.facts parts.now.run.start).sectors }
     requires ready { FromEach (world C.facts B.facts seat.old) (IsReadyEntry entry.now) }
     ensures works { Works C.facts B.facts parts.now seat.new hand.new }
+    ensures left { seat.old.promises ≤ seat.new.promises + 1 }
     ensures hand { HasJournalAndCache hand.new }
     ensures rest { hand.new ≡ record hand.old { cache = hand.new.cache } }
     ensures ok { OnOk result (HasWritten C.facts B.facts entry.now seat.old seat.new) }
@@ -57,9 +58,7 @@ pub fn write_entry<C: Disk + Drop, B: Disk + Drop, R: Wait>(
         return Err(StepError::Halted(device));
     }
     let bytes = entry.bytes();
-    let Some(values) = values_in(alloc, entry, bytes) else {
-        return Err(StepError::Memory);
-    };
+    let values = values_in(entry, bytes, room);
     let Some(mut cache) = hand.cache.take() else {
         unreachable!()
     };
@@ -68,14 +67,14 @@ pub fn write_entry<C: Disk + Drop, B: Disk + Drop, R: Wait>(
     done
 }
 
-// The values of an entry's bytes. It is no sector's pattern, so any number does for the first one.
-fn values_in(alloc: Global, entry: &Sealed, bytes: &[u8]) -> Option<Values>
-    requires { AreBytesOf entry.now.geometry entry.now.entry bytes.now }
-    ensures { IfSome result (λ values. values ≡ values_of bytes.now) }
+// The values of an entry's bytes, in the memory that was taken for them.
+fn values_in(entry: &Sealed, bytes: &[u8], room: EntryRoom) -> Values
+    requires bytes { AreBytesOf entry.now.geometry entry.now.entry bytes.now }
+    requires few { length bytes.now ≤ 32768 }
+    ensures { result ≡ values_of bytes.now }
 {
     let _sectors = entry.sectors();
-    let bytes = bytes.to_vec(alloc).ok()?;
-    Some(Values::from_sectors(0, bytes))
+    room.values(bytes)
 }
 
 // The same, of the device in hand, with the values of the entry's bytes.
@@ -101,6 +100,7 @@ fn write_in<C: Disk, B: Disk, R: Wait>(
     requires values { values ≡ values_of bytes.now }
     requires ready { FromEach (world C.facts B.facts seat.old) (IsReadyEntry entry.now) }
     ensures seat { IsCoreSeat C.facts B.facts seat.new }
+    ensures left { seat.old.promises ≤ seat.new.promises + 1 }
     ensures kept { Kept (core C.facts B.facts) seat.old seat.new (λ k. k == 4) }
     ensures cache { IsCache C.facts B.facts cache.new (world C.facts B.facts seat.new) }
     ensures ok { OnOk result (HasWritten C.facts B.facts entry.now seat.old seat.new) }

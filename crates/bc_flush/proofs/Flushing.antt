@@ -22,7 +22,6 @@ use Rattle.bc_entry.specs.bc_hand.declared.error.StepError.TheVariants as step
 use Rattle.bc_entry.proofs.of_bc_hand.Knowing.{View, m}
 use Rattle.bc_journal.specs.Journal.{Journal}
 use Rattle.bc_journal.specs.Sealed.{Sealed}
-use Rattle.bc_journal.specs.declared.heads.Heads.{Heads}
 use Rattle.bc_entry.specs.bc_machine.Frame.{Range, is_noted}
 use Rattle.bc_entry.specs.bc_machine.Note.{Note, no_note, note_after, note_by}
 use Rattle.bc_entry.specs.bc_machine.World.{FromEach, Origin, World, are_plain}
@@ -33,14 +32,12 @@ use Rattle.bc_request.specs.Asked.{IsIdle}
 use Rattle.bc_seats.specs.Seats.{own_events}
 use Rattle.bc_flush.specs.Flushed.{HasFlushed, HasNotEnded, HasNotFlushed, IsCutAtEnd, IsCutBefore, IsFlush, IsFlushCut}
 use Rattle.bc_flush.specs.Durable.{AreDurable, HaveComeIn, IsFlushed}
-use Rattle.bc_flush.specs.Known.{KeepsKnown, StaysKnown}
-use Rattle.bc_flush.specs.Laws.{LawFlushes}
 use Rattle.bc_flush.specs.Refusals.{refusal}
 use Rattle.bc_flush.specs.Sync.{AreSynced, HasNotSynced, HasSynced, IsSyncCut}
 use Rattle.bc_flush.specs.declared.error.FlushError.{FlushError}
 use Rattle.bc_flush.specs.declared.error.FlushError.TheVariants as flush
 use Rattle.bc_flush.proofs.Noting.{AreStill, IsStill, all_flushed, begun_with, flushed_done, keys_at, still_noted}
-use Rattle.bc_flush.proofs.Staying.{IsQuiet, stays_done}
+use Rattle.bc_flush.proofs.Syncing.{cut_on, entry_on}
 
 -- ---- what each of the deeds has, all of them have
 
@@ -66,9 +63,9 @@ module _ (P : Deed → Type 0)
         (All-cons P deed.CacheBarrier (write ∷ deed.CacheBarrier ∷ deed.Sealed ∷ []) of_barrier
         (three write deed.CacheBarrier deed.Sealed (of_write s put.values) of_barrier of_end)))
 
-    pub all_synced : (heads : Heads) (ds : List Deed) → AreSynced heads ds → All P ds
-    all_synced heads ds (inl none) = All-same P ds [] none (All-nil P)
-    all_synced heads ds (inr entry) = all_put entry.journal entry.sealed ds entry.put
+    pub all_synced : (ds : List Deed) → AreSynced ds → All P ds
+    all_synced ds (inl none) = All-same P ds [] none (All-nil P)
+    all_synced ds (inr entry) = all_put entry.journal entry.sealed ds entry.put
 
   module _ (of_lost : (s : Sealed) (values : List Value) → P (lost_by s values))
       (of_failed : P failed_barrier) where
@@ -100,27 +97,22 @@ module _ (P : Deed → Type 0)
     all_behind : (e : StepError) (s : Sealed) (ds : List Deed) → IsCutEntry e s ds → All P ds
     all_behind (step.Fault device) s ds cut = all_failed s ds cut.1
     all_behind (step.Halted device) s ds cut = all_stopped s ds cut
-    all_behind step.Memory s ds cut =
-        All-same P ds (deed.CacheBarrier ∷ []) cut (one deed.CacheBarrier of_barrier)
+    all_behind step.Memory s ds cut = absurd cut
 
-    all_cut : (e : StepError) (j : Journal) (heads : Heads) (ds : List Deed) → IsCut e j heads ds
-        → All P ds
-    all_cut e j heads ds (inl none) = All-same P ds [] none.1 (All-nil P)
-    all_cut e j heads ds (inr at) = All-same P ds (seal_by j at.sealed at.rest ∷ at.more) at.is
+    all_cut : (e : StepError) (j : Journal) (ds : List Deed) → IsCut e j ds → All P ds
+    all_cut e j ds (inl none) = All-same P ds [] none.1 (All-nil P)
+    all_cut e j ds (inr at) = All-same P ds (seal_by j at.sealed at.rest ∷ at.more) at.is
         (All-cons P (seal_by j at.sealed at.rest) at.more
         (of_seal at.sealed.entry.last_seq (begun_by j) at.rest)
         (all_behind e at.sealed at.more at.cut))
 
-    pub all_sync_cut : (sectors : ℕ) (e : FlushError) (heads : Heads) (ds : List Deed)
-        → IsSyncCut sectors e heads ds → All P ds
-    all_sync_cut sectors (flush.Fault device) heads ds cut =
-        all_cut (step.Fault device) cut.0 heads ds cut.1
-    all_sync_cut sectors (flush.Halted device) heads ds cut =
-        all_cut (step.Halted device) cut.0 heads ds cut.1
-    all_sync_cut sectors flush.Memory heads ds (inl none) = All-same P ds [] none (All-nil P)
-    all_sync_cut sectors flush.Memory heads ds (inr cut) =
-        all_cut step.Memory cut.0 heads ds cut.1
-    all_sync_cut sectors flush.Outside heads ds cut = All-same P ds [] cut.0 (All-nil P)
+    pub all_sync_cut : (sectors : ℕ) (e : FlushError) (ds : List Deed)
+        → IsSyncCut sectors e ds → All P ds
+    all_sync_cut sectors (flush.Fault device) ds cut = all_cut (step.Fault device) cut.0 ds cut.1
+    all_sync_cut sectors (flush.Halted device) ds cut =
+        all_cut (step.Halted device) cut.0 ds cut.1
+    all_sync_cut sectors flush.Memory ds none = All-same P ds [] none (All-nil P)
+    all_sync_cut sectors flush.Outside ds cut = All-same P ds [] cut.0 (All-nil P)
 
     module _ (of_end : P deed.Sealed) (of_begin : (of : LineNumber) → P (deed.FlushFrom of))
         (of_firm : P deed.BackingBarrier) (of_done : (of : LineNumber) → P (deed.FlushDone of))
@@ -130,12 +122,11 @@ module _ (P : Deed → Type 0)
       begun of entry more a b = All-cons P (deed.FlushFrom of) (entry ++ more) (of_begin of)
           (All-append P entry more a b)
 
-      pub all_flush : (of : LineNumber) (heads : Heads) (ds : List Deed) → IsFlush of heads ds
-          → All P ds
-      all_flush of heads ds is = All-same P ds
+      pub all_flush : (of : LineNumber) (ds : List Deed) → IsFlush of ds → All P ds
+      all_flush of ds is = All-same P ds
           (deed.FlushFrom of ∷ (is.entry ++ (deed.BackingBarrier ∷ deed.FlushDone of ∷ []))) is.is
           (begun of is.entry (deed.BackingBarrier ∷ deed.FlushDone of ∷ [])
-          (all_synced of_end heads is.entry is.synced)
+          (all_synced of_end is.entry is.synced)
           (two deed.BackingBarrier (deed.FlushDone of) of_firm (of_done of)))
 
       all_at_end : (e : FlushError) (ds : List Deed) → IsCutAtEnd e ds → All P ds
@@ -154,25 +145,17 @@ module _ (P : Deed → Type 0)
       all_before (flush.Fault device) ds cut = absurd cut
       all_before flush.Outside ds cut = absurd cut
 
-      pub all_flush_cut : (sectors : ℕ) (e : FlushError) (of : LineNumber) (heads : Heads)
-          (ds : List Deed) → IsFlushCut sectors e of heads ds → All P ds
-      all_flush_cut sectors e of heads ds (inl cut) = all_before e ds cut
-      all_flush_cut sectors e of heads ds (inr (inl with_)) = All-same P ds
+      pub all_flush_cut : (sectors : ℕ) (e : FlushError) (of : LineNumber) (ds : List Deed)
+          → IsFlushCut sectors e of ds → All P ds
+      all_flush_cut sectors e of ds (inl cut) = all_before e ds cut
+      all_flush_cut sectors e of ds (inr (inl with_)) = All-same P ds
           (deed.FlushFrom of ∷ with_.more) with_.is
           (All-cons P (deed.FlushFrom of) with_.more (of_begin of)
-          (all_sync_cut sectors e heads with_.more with_.cut))
-      all_flush_cut sectors e of heads ds (inr (inr behind)) = All-same P ds
+          (all_sync_cut sectors e with_.more with_.cut))
+      all_flush_cut sectors e of ds (inr (inr behind)) = All-same P ds
           (deed.FlushFrom of ∷ (behind.entry ++ behind.more)) behind.is
-          (begun of behind.entry behind.more (all_synced of_end heads behind.entry behind.synced)
+          (begun of behind.entry behind.more (all_synced of_end behind.entry behind.synced)
           (all_at_end e behind.more behind.cut))
-
-pub law_flushes : LawFlushes
-law_flushes = record {
-  done = all_flush KeepsKnown (λ low bucket rest. (refl, refl)) tt (λ s values. tt)
-      (λ s values. tt) tt tt (λ of. tt) tt (λ of. tt) tt;
-  cut = all_flush_cut KeepsKnown (λ low bucket rest. (refl, refl)) tt (λ s values. tt)
-      (λ s values. tt) tt tt (λ of. tt) tt (λ of. tt) tt;
-}
 
 -- ---- what is noted
 
@@ -184,11 +167,11 @@ IsUnnoted d = (plain : Bool) (o : Note) → note_after plain o d ≡ o
 abbrev pub KeepsRange : Deed → Type 0
 KeepsRange d = (plain : Bool) (o : Note) → (note_after plain o d).range ≡ o.range
 
-pub synced_unnoted : (heads : Heads) (ds : List Deed) → AreSynced heads ds → All IsUnnoted ds
+pub synced_unnoted : (ds : List Deed) → AreSynced ds → All IsUnnoted ds
 synced_unnoted = all_synced IsUnnoted (λ low bucket rest plain o. refl) (λ plain o. refl)
     (λ s values plain o. refl) (λ plain o. refl)
 
-pub synced_off : (heads : Heads) (ds : List Deed) → AreSynced heads ds
+pub synced_off : (ds : List Deed) → AreSynced ds
     → All (λ d. is_noted d ≡ false) ds
 synced_off = all_synced (λ d. is_noted d ≡ false) (λ low bucket rest. refl) refl
     (λ s values. refl) refl
@@ -250,60 +233,48 @@ module _ {C B : Type 0} (cache_facts : C → DiskFacts) (backing_facts : B → D
     unclaimed = ap (λ (r : Range). r.count) (range_still ds v w done all) ∙ idle.unclaimed;
   }
 
-  pub idle_flushed : (p : PartsView (CorePart C B)) (of : LineNumber) (heads : Heads)
+  pub idle_flushed : (p : PartsView (CorePart C B)) (of : LineNumber)
       (v w : View cache_facts backing_facts) → IsIdle cache_facts backing_facts p v
       → Works cache_facts backing_facts p w empty
-      → HasFlushed cache_facts backing_facts of heads v w → IsIdle cache_facts backing_facts p w
-  idle_flushed p of heads v w idle works h = idle_by p h.deeds v w idle h.done
+      → HasFlushed cache_facts backing_facts of v w → IsIdle cache_facts backing_facts p w
+  idle_flushed p of v w idle works h = idle_by p h.deeds v w idle h.done
       (all_flush KeepsRange (λ low bucket rest plain o. refl) (λ plain o. refl)
       (λ s values plain o. refl) (λ s values plain o. refl) (λ plain o. refl) (λ plain o. refl)
-      (λ of plain o. refl) (λ plain o. refl) (λ of plain o. refl) (λ plain o. refl) of heads
+      (λ of plain o. refl) (λ plain o. refl) (λ of plain o. refl) (λ plain o. refl) of
       h.deeds h.are) works
 
   pub idle_refused : (p : PartsView (CorePart C B)) (sectors : ℕ) (e : FlushError) (of : LineNumber)
-      (heads : Heads) (v w : View cache_facts backing_facts)
+      (v w : View cache_facts backing_facts)
       → IsIdle cache_facts backing_facts p v → Works cache_facts backing_facts p w empty
-      → HasNotFlushed cache_facts backing_facts sectors e of heads v w
+      → HasNotFlushed cache_facts backing_facts sectors e of v w
       → IsIdle cache_facts backing_facts p w
-  idle_refused p sectors e of heads v w idle works h = idle_by p h.deeds v w idle h.done
+  idle_refused p sectors e of v w idle works h = idle_by p h.deeds v w idle h.done
       (all_flush_cut KeepsRange (λ low bucket rest plain o. refl) (λ plain o. refl)
       (λ s values plain o. refl) (λ s values plain o. refl) (λ plain o. refl) (λ plain o. refl)
       (λ of plain o. refl) (λ plain o. refl) (λ of plain o. refl) (λ plain o. refl) sectors e of
-      heads h.deeds h.cut) works
+      h.deeds h.cut) works
 
   pub idle_either : {A : Type 0} (r : Result A FlushError) (p : PartsView (CorePart C B))
-      (sectors : ℕ) (of : LineNumber) (heads : Heads) (v w : View cache_facts backing_facts)
+      (sectors : ℕ) (of : LineNumber) (v w : View cache_facts backing_facts)
       → IsIdle cache_facts backing_facts p v → Works cache_facts backing_facts p w empty
-      → OnOk r (HasFlushed cache_facts backing_facts of heads v w)
-      → IfErr r (λ e. HasNotFlushed cache_facts backing_facts sectors e of heads v w)
+      → OnOk r (HasFlushed cache_facts backing_facts of v w)
+      → IfErr r (λ e. HasNotFlushed cache_facts backing_facts sectors e of v w)
       → IsIdle cache_facts backing_facts p w
-  idle_either (Ok a) p sectors of heads v w idle works ok err =
-      idle_flushed p of heads v w idle works ok
-  idle_either (Err e) p sectors of heads v w idle works ok err =
-      idle_refused p sectors e of heads v w idle works err
+  idle_either (Ok a) p sectors of v w idle works ok err =
+      idle_flushed p of v w idle works ok
+  idle_either (Err e) p sectors of v w idle works ok err =
+      idle_refused p sectors e of v w idle works err
 
   -- ---- what is known
 
-  quiet_none : All IsQuiet []
-  quiet_none = All-nil IsQuiet
-
-  quiet_begin : (of : LineNumber) → All IsQuiet (deed.FlushFrom of ∷ [])
-  quiet_begin of = All-cons IsQuiet (deed.FlushFrom of) [] refl quiet_none
-
   module _ (of : LineNumber) (t u v : View cache_facts backing_facts) (first : Done [] t u)
       (begins : Did cache_facts backing_facts (Some (deed.FlushFrom of)) u v) where
-    pub known_begun : (heads : Heads) → StaysKnown cache_facts backing_facts heads t
-        → StaysKnown cache_facts backing_facts heads v
-    known_begun heads known = stays_done cache_facts backing_facts heads
-        (deed.FlushFrom of ∷ []) t v (done_then cache_facts backing_facts [] (Some (deed.FlushFrom of)) t u v first begins)
-        begins.seat (quiet_begin of) known
-
-    module _ (heads : Heads) (w : View cache_facts backing_facts)
-        (synced : HasSynced cache_facts backing_facts heads v w)
+    module _ (w : View cache_facts backing_facts)
+        (synced : HasSynced cache_facts backing_facts v w)
         (seat : IsCoreSeat cache_facts backing_facts u) where
       still : note cache_facts backing_facts w ≡ note cache_facts backing_facts v
       still = note_still synced.deeds v w synced.done
-          (synced_unnoted heads synced.deeds synced.are)
+          (synced_unnoted synced.deeds synced.are)
 
       pub still_going : (note cache_facts backing_facts w).flush.going ≡ true
       still_going = ap (λ (o : Note). o.flush.going) still
@@ -322,7 +293,7 @@ module _ {C B : Type 0} (cache_facts : C → DiskFacts) (backing_facts : B → D
           (durable (keys_at (seen v) u.first) (begun_with cache_facts backing_facts u v of begins))
           (subst (λ i. FromEach (seen w) (AreStill (seen v) i)) begins.is.same.first
           (still_noted cache_facts backing_facts (seen v) synced.deeds v w synced.done
-          (synced_off heads synced.deeds synced.are) (λ o is course. refl))))
+          (synced_off synced.deeds synced.are) (λ o is course. refl))))
 
   -- it is durable still behind deeds that note nothing, and behind a barrier
   pub flushed_waited : (t u : View cache_facts backing_facts) → Done [] t u
@@ -401,43 +372,46 @@ module _ {C B : Type 0} (cache_facts : C → DiskFacts) (backing_facts : B → D
 
   -- ---- all of it
 
-  pub flush_memory : (sectors : ℕ) (of : LineNumber) (heads : Heads)
+  pub flush_memory : (sectors : ℕ) (of : LineNumber)
       (v w : View cache_facts backing_facts) → Done [] v w
-      → HasNotFlushed cache_facts backing_facts sectors flush.Memory of heads v w
-  flush_memory sectors of heads v w done =
-      record { deeds = []; cut = inl refl; halt = tt; done = done }
+      → HasNotFlushed cache_facts backing_facts sectors flush.Memory of v w
+  flush_memory sectors of v w done =
+      record { deeds = []; cut = inl refl; stood = tt; halt = tt; done = done }
 
-  pub flush_halted : (sectors : ℕ) (e : StepError) (of : LineNumber) (heads : Heads)
+  pub flush_halted : (sectors : ℕ) (e : StepError) (of : LineNumber)
       (t u v : View cache_facts backing_facts) → Done [] t u → IsHalted e v.seen
       → Did cache_facts backing_facts None u v
-      → HasNotFlushed cache_facts backing_facts sectors (refusal e) of heads t v
-  flush_halted sectors (step.Fault device) of heads t u v first halted did = absurd halted
-  flush_halted sectors (step.Halted device) of heads t u v first halted did = record {
+      → HasNotFlushed cache_facts backing_facts sectors (refusal e) of t v
+  flush_halted sectors (step.Fault device) of t u v first halted did = absurd halted
+  flush_halted sectors (step.Halted device) of t u v first halted did = record {
     deeds = [];
     cut = inl refl;
+    stood = tt;
     halt = halted;
     done = done_then cache_facts backing_facts [] None t u v first did;
   }
-  flush_halted sectors step.Memory of heads t u v first halted did = absurd halted
+  flush_halted sectors step.Memory of t u v first halted did = absurd halted
 
-  module _ (sectors : ℕ) (of : LineNumber) (heads : Heads) (t u v : View cache_facts backing_facts)
+  module _ (sectors : ℕ) (of : LineNumber) (t u v : View cache_facts backing_facts)
       (first : Done [] t u)
       (begins : Did cache_facts backing_facts (Some (deed.FlushFrom of)) u v) where
     from : Done (deed.FlushFrom of ∷ []) t v
     from = done_then cache_facts backing_facts [] (Some (deed.FlushFrom of)) t u v first begins
 
     pub flush_synced : (e : FlushError) (w : View cache_facts backing_facts)
-        → HasNotSynced cache_facts backing_facts sectors e heads v w
-        → HasNotFlushed cache_facts backing_facts sectors e of heads t w
+        → HasNotSynced cache_facts backing_facts sectors e v w
+        → HasNotFlushed cache_facts backing_facts sectors e of t w
     flush_synced e w h = record {
       deeds = deed.FlushFrom of ∷ h.deeds;
       cut = inr (inl (record { more = h.deeds; cut = h.cut; is = refl }));
+      stood = cut_on cache_facts backing_facts (deed.FlushFrom of ∷ []) t v from sectors e h.deeds
+          h.cut h.stood;
       halt = h.halt;
       done = done_both cache_facts backing_facts (deed.FlushFrom of ∷ []) h.deeds t v w from h.done;
     }
 
     module _ (w : View cache_facts backing_facts)
-        (synced : HasSynced cache_facts backing_facts heads v w)
+        (synced : HasSynced cache_facts backing_facts v w)
         (x : View cache_facts backing_facts) where
       behind : (more : List Deed) → Done more w x
           → Done (deed.FlushFrom of ∷ (synced.deeds ++ more)) t x
@@ -447,18 +421,20 @@ module _ {C B : Type 0} (cache_facts : C → DiskFacts) (backing_facts : B → D
 
       pub flush_ended : {A E : Type 0} (r : Result A E)
           → OnOk r (Done (deed.BackingBarrier ∷ deed.FlushDone of ∷ []) w x)
-          → OnOk r (HasFlushed cache_facts backing_facts of heads t x)
+          → OnOk r (HasFlushed cache_facts backing_facts of t x)
       flush_ended (Ok a) done = record {
         deeds = deed.FlushFrom of
             ∷ (synced.deeds ++ (deed.BackingBarrier ∷ deed.FlushDone of ∷ []));
         are = record { entry = synced.deeds; synced = synced.are; is = refl };
+        stood = entry_on cache_facts backing_facts (deed.FlushFrom of ∷ []) t v from synced.deeds
+            synced.are synced.stood;
         done = behind (deed.BackingBarrier ∷ deed.FlushDone of ∷ []) done;
       }
       flush_ended (Err e) done = tt
 
       pub flush_not_ended : {A : Type 0} (r : Result A FlushError)
           → IfErr r (λ e. HasNotEnded cache_facts backing_facts e w x)
-          → IfErr r (λ e. HasNotFlushed cache_facts backing_facts sectors e of heads t x)
+          → IfErr r (λ e. HasNotFlushed cache_facts backing_facts sectors e of t x)
       flush_not_ended (Ok a) h = tt
       flush_not_ended (Err e) h = record {
         deeds = deed.FlushFrom of ∷ (synced.deeds ++ h.deeds);
@@ -469,6 +445,8 @@ module _ {C B : Type 0} (cache_facts : C → DiskFacts) (backing_facts : B → D
           cut = h.cut;
           is = refl;
         }));
+        stood = entry_on cache_facts backing_facts (deed.FlushFrom of ∷ []) t v from synced.deeds
+            synced.are synced.stood;
         halt = h.halt;
         done = behind h.deeds h.done;
       }

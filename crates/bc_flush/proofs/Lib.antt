@@ -1,8 +1,6 @@
 pub mod Counting
 pub mod Walking
 pub mod Putting
-pub mod Staying
-pub mod Serving
 pub mod Noting
 pub mod Hands
 pub mod Syncing

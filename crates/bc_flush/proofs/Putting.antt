@@ -63,7 +63,7 @@ module _ (n : Origin → ℕ) (i : ℕ) where
 
 module _ {C B : Type 0} (cache_facts : C → DiskFacts) (backing_facts : B → DiskFacts) where
   pub law_put : LawPut {C = C} {B = B} cache_facts backing_facts
-  law_put j heads v w n put h =
+  law_put j v w n put h =
       let way = behind cache_facts backing_facts put.deeds v w put.done in
       subst (λ x. FromEach x (AreDurable n)) (sym way.state)
       (put_durable n v.first (world cache_facts backing_facts v) way.more j put.sealed

@@ -1,15 +1,14 @@
 -- What the journal in hand tells of the entry that is owed, and what was done about it.
-use Rattle.std.proofs.Common.{◌≡◌, ◌≢◌, inl, inr, ℕ, ◌+◌, ◌<◌, ◌≤◌, false, List, [], ◌∷◌, length, Option, Some, None, refl, sym, ap, ◌∙◌, subst, arith}
+use Rattle.std.proofs.Common.{◌≡◌, ◌≢◌, inl, inr, ℕ, ◌+◌, ◌<◌, ◌≤◌, false, List, [], ◌∷◌, ◌++◌, length, Option, Some, None, refl, sym, ap, ◌∙◌, subst, arith}
 use Rattle.std.specs.Prelude.{IfErr, IsSome, OnOk, Ok, Err, Result, reverse}
 use Rattle.std.proofs.lemmas.List.{append-nil, reverse-reverse}
-use Rattle.std.proofs.lemmas.List.Elements.{All-nil}
 use Rattle.bc_entry.proofs.of_bc_deed.May.{did_nothing}
 use Rattle.bc_entry.proofs.of_bc_deed.Sequence.{done_both, done_one}
 use Rattle.bc_entry.specs.bc_deed.Flushed.{HasDone}
 use Rattle.bc_disk.specs.Disk.{DiskFacts}
 use Rattle.bc_entry.proofs.Course.{is_sealed, nothing_course, waits_course}
-use Rattle.bc_entry.specs.Put.{HasCut, HasPut, IsCause}
-use Rattle.bc_entry.specs.Seal.{AreNamed, CanSeal}
+use Rattle.bc_entry.specs.Put.{HasCut, HasPut, IsCause, IsCut}
+use Rattle.bc_entry.specs.Seal.{CanSeal}
 use Rattle.bc_events.specs.declared.event.Deed.{Deed}
 use Rattle.bc_entry.specs.bc_hand.Seats.{IsCoreSeat, world}
 use Rattle.bc_entry.specs.bc_hand.declared.error.StepError.{StepError}
@@ -17,7 +16,6 @@ use Rattle.bc_entry.specs.bc_hand.declared.error.StepError.TheVariants as step
 use Rattle.bc_entry.proofs.of_bc_hand.Knowing.{View, m}
 use Rattle.bc_journal.proofs.Journals.{words_two}
 use Rattle.bc_journal.specs.Journal.{IsJournal as IsGoodJournal, Journal, place_for, waiting_words}
-use Rattle.bc_journal.specs.declared.heads.Heads.{Heads}
 use Rattle.bc_key.specs.declared.key.Key.{Key}
 use Rattle.bc_entry.specs.bc_machine.Containers.{sealed_numbers}
 use Rattle.bc_entry.specs.bc_machine.World.{FromEach, IsJournal, Origin, World, replay}
@@ -28,12 +26,11 @@ use Rattle.bc_seats.proofs.Knowing.{waited}
 use Rattle.bc_seats.specs.Seats.{Waited}
 use Rattle.bc_shares.specs.Shares.{books_of, if_sealed, journal_share}
 use Rattle.bc_flush.specs.Durable.{AreDurable, HaveComeIn}
-use Rattle.bc_flush.specs.Known.{StaysKnown}
 use Rattle.bc_flush.specs.Refusals.{refusal}
-use Rattle.bc_flush.specs.Sync.{HasNotSynced, HasSynced, IsHaltOf, IsSyncCut}
+use Rattle.bc_flush.specs.Sync.{AreSynced, HasNotSynced, HasSynced, IsHaltOf, IsSyncCut, OfCut, OfEntry, StoodBehind}
 use Rattle.bc_flush.specs.declared.error.FlushError.{FlushError}
+use Rattle.bc_flush.specs.declared.error.FlushError.TheVariants as flush
 use Rattle.bc_flush.proofs.Counting.{come_lasts, durable_lasts, turn_replay}
-use Rattle.bc_flush.proofs.Staying.{IsQuiet, leads_self, stays_done}
 use Rattle.bc_flush.proofs.Walking.{lasts_done}
 
 -- ---- where keys wait, an entry has its number and its place
@@ -84,16 +81,13 @@ module _ {C B : Type 0} (cache_facts : C → DiskFacts) (backing_facts : B → D
   abbrev seen : View cache_facts backing_facts → World
   seen v = world cache_facts backing_facts v
 
-  module _ (heads : Heads) (v : View cache_facts backing_facts) (j : Journal)
-      (stands : IsJournal j (seen v)) (known : StaysKnown cache_facts backing_facts heads v) where
-    pub named_now : FromEach (seen v) (AreNamed j.ring.geometry heads)
-    named_now o is course =
-        (known (seen v) (leads_self cache_facts backing_facts v) o is course).named
-        j.ring.geometry (record {
-          layout = (stands.stands o is course).ring.layout;
-          before = (stands.stands o is course).ring.before;
-        })
+  pub none_done : (v : View cache_facts backing_facts) → IsCoreSeat cache_facts backing_facts v
+      → HasDone cache_facts backing_facts [] v v
+  none_done v seat = done_one cache_facts backing_facts None v v
+      (did_nothing cache_facts backing_facts v seat)
 
+  module _ (v : View cache_facts backing_facts) (seat : IsCoreSeat cache_facts backing_facts v)
+      (j : Journal) (stands : IsJournal j (seen v)) where
     pub none_owed : j.sealed ≡ None → j.waiting ≡ [] → (n : Origin → ℕ)
         → FromEach (seen v) (HaveComeIn n) → FromEach (seen v) (AreDurable n)
     none_owed none empty_ n come o is course =
@@ -105,10 +99,18 @@ module _ {C B : Type 0} (cache_facts : C → DiskFacts) (backing_facts : B → D
         let idle : (books_of st.machine).journal.waiting ≡ false =
         waits_course o is.sound (seen v).log course
         ∙ ap is_sealed (nothing_course o is.sound (seen v).log course stage) in
-        let all = (known (seen v) (leads_self cache_facts backing_facts v) o is course).all_wait
-        (none_turned x.entries.waiting (sym empty_ ∙ on.waiting)) in
+        let all = on.all_wait (none_turned x.entries.waiting (sym empty_ ∙ on.waiting)) in
         all_through (n o) x.counts.count x.counts.journal.sealed x.counts.journal.durable
         (come o is course) all ((turn_replay o (seen v).log).settled idle)
+
+    -- it stands for what the seat sees
+    pub stood_here : StoodBehind cache_facts backing_facts v j
+    stood_here = record {
+      at = v;
+      before = [];
+      went = none_done v seat;
+      stands = stands;
+    }
 
   -- ---- what was done
 
@@ -123,13 +125,6 @@ module _ {C B : Type 0} (cache_facts : C → DiskFacts) (backing_facts : B → D
   taken_done t u v first then =
       done_both cache_facts backing_facts [] [] t u v (as_waited t u first) (as_waited u v then)
 
-  pub known_taken : (heads : Heads) (t u v : View cache_facts backing_facts)
-      → Waited (m cache_facts backing_facts) t u → Waited (m cache_facts backing_facts) u v
-      → IsCoreSeat cache_facts backing_facts v → StaysKnown cache_facts backing_facts heads t
-      → StaysKnown cache_facts backing_facts heads v
-  known_taken heads t u v first then seat known = stays_done cache_facts backing_facts heads [] t v
-      (taken_done t u v first then) seat (All-nil IsQuiet) known
-
   done_around : (ds : List Deed) (t u v w : View cache_facts backing_facts)
       → HasDone cache_facts backing_facts [] t u → HasDone cache_facts backing_facts ds u v
       → HasDone cache_facts backing_facts [] v w → HasDone cache_facts backing_facts ds t w
@@ -138,19 +133,15 @@ module _ {C B : Type 0} (cache_facts : C → DiskFacts) (backing_facts : B → D
       (done_both cache_facts backing_facts ds [] t v w
       (done_both cache_facts backing_facts [] ds t u v a b) c)
 
-  pub synced_none : (heads : Heads) (v : View cache_facts backing_facts)
-      → IsCoreSeat cache_facts backing_facts v → HasSynced cache_facts backing_facts heads v v
-  synced_none heads v seat = record {
-    deeds = [];
-    are = inl refl;
-    done = done_one cache_facts backing_facts None v v
-        (did_nothing cache_facts backing_facts v seat);
-  }
+  pub synced_none : (v : View cache_facts backing_facts)
+      → IsCoreSeat cache_facts backing_facts v → HasSynced cache_facts backing_facts v v
+  synced_none v seat =
+      record { deeds = []; are = inl refl; stood = tt; done = none_done v seat }
 
-  pub synced_put : (j : Journal) (heads : Heads) (v w : View cache_facts backing_facts)
-      → j.waiting ≢ [] → HasPut cache_facts backing_facts j heads v w
-      → HasSynced cache_facts backing_facts heads v w
-  synced_put j heads v w waits put = record {
+  pub synced_put : (j : Journal) (v w : View cache_facts backing_facts)
+      → IsCoreSeat cache_facts backing_facts v → IsJournal j (seen v) → j.waiting ≢ []
+      → HasPut cache_facts backing_facts j v w → HasSynced cache_facts backing_facts v w
+  synced_put j v w seat stands waits put = record {
     deeds = put.deeds;
     are = inr (record {
       journal = j;
@@ -160,43 +151,94 @@ module _ {C B : Type 0} (cache_facts : C → DiskFacts) (backing_facts : B → D
       entry = put.entry;
       put = put.put;
     });
+    stood = stood_here v seat j stands;
     done = put.done;
   }
 
-  pub refused_none : (sectors : ℕ) (e : FlushError) (heads : Heads)
-      (v : View cache_facts backing_facts) → IsCoreSeat cache_facts backing_facts v
-      → IsSyncCut sectors e heads [] → IsHaltOf e v.seen
-      → HasNotSynced cache_facts backing_facts sectors e heads v v
-  refused_none sectors e heads v seat cut halt = record {
+  pub refused_none : (sectors : ℕ) (e : FlushError) (v : View cache_facts backing_facts)
+      → IsCoreSeat cache_facts backing_facts v → (cut : IsSyncCut sectors e [])
+      → OfCut sectors e [] cut (StoodBehind cache_facts backing_facts v) → IsHaltOf e v.seen
+      → HasNotSynced cache_facts backing_facts sectors e v v
+  refused_none sectors e v seat cut stood halt = record {
     deeds = [];
     cut = cut;
+    stood = stood;
     halt = halt;
-    done = done_one cache_facts backing_facts None v v
-        (did_nothing cache_facts backing_facts v seat);
+    done = none_done v seat;
   }
 
-  pub refused_put : (sectors : ℕ) (e : StepError) (j : Journal) (heads : Heads)
-      (v w : View cache_facts backing_facts) → HasCut cache_facts backing_facts e j heads v w
+  none_cut : (j : Journal) (ds : List Deed) → IsCut step.Memory j ds → ds ≡ []
+  none_cut j ds (inl none) = none.1
+  none_cut j ds (inr at) = absurd at.cut
+
+  pub refused_put : (sectors : ℕ) (e : StepError) (j : Journal)
+      (v w : View cache_facts backing_facts) → IsCoreSeat cache_facts backing_facts v
+      → IsJournal j (seen v) → HasCut cache_facts backing_facts e j v w
       → IsCause e w.seen
-      → HasNotSynced cache_facts backing_facts sectors (refusal e) heads v w
-  refused_put sectors (step.Fault device) j heads v w cut cause =
-      record { deeds = cut.deeds; cut = (j, cut.cut); halt = tt; done = cut.done }
-  refused_put sectors (step.Halted device) j heads v w cut cause =
-      record { deeds = cut.deeds; cut = (j, cut.cut); halt = cause; done = cut.done }
-  refused_put sectors step.Memory j heads v w cut cause =
-      record { deeds = cut.deeds; cut = inr (j, cut.cut); halt = tt; done = cut.done }
+      → HasNotSynced cache_facts backing_facts sectors (refusal e) v w
+  refused_put sectors (step.Fault device) j v w seat stands cut cause = record {
+    deeds = cut.deeds;
+    cut = (j, cut.cut);
+    stood = stood_here v seat j stands;
+    halt = tt;
+    done = cut.done;
+  }
+  refused_put sectors (step.Halted device) j v w seat stands cut cause = record {
+    deeds = cut.deeds;
+    cut = (j, cut.cut);
+    stood = stood_here v seat j stands;
+    halt = cause;
+    done = cut.done;
+  }
+  refused_put sectors step.Memory j v w seat stands cut cause = record {
+    deeds = cut.deeds;
+    cut = none_cut j cut.deeds cut.cut;
+    stood = tt;
+    halt = tt;
+    done = cut.done;
+  }
+
+  -- ---- what stood behind some deeds more
+
+  pub stood_on : (ds : List Deed) (t u : View cache_facts backing_facts)
+      → HasDone cache_facts backing_facts ds t u → (j : Journal)
+      → StoodBehind cache_facts backing_facts u j → StoodBehind cache_facts backing_facts t j
+  stood_on ds t u first j h = record {
+    at = h.at;
+    before = ds ++ h.before;
+    went = done_both cache_facts backing_facts ds h.before t u h.at first h.went;
+    stands = h.stands;
+  }
+
+  pub entry_on : (ds : List Deed) (t u : View cache_facts backing_facts)
+      → HasDone cache_facts backing_facts ds t u → (es : List Deed) (are : AreSynced es)
+      → OfEntry es are (StoodBehind cache_facts backing_facts u)
+      → OfEntry es are (StoodBehind cache_facts backing_facts t)
+  entry_on ds t u first es (inl none) h = tt
+  entry_on ds t u first es (inr entry) h = stood_on ds t u first entry.journal h
+
+  pub cut_on : (ds : List Deed) (t u : View cache_facts backing_facts)
+      → HasDone cache_facts backing_facts ds t u → (sectors : ℕ) (e : FlushError)
+      (es : List Deed) (cut : IsSyncCut sectors e es)
+      → OfCut sectors e es cut (StoodBehind cache_facts backing_facts u)
+      → OfCut sectors e es cut (StoodBehind cache_facts backing_facts t)
+  cut_on ds t u first sectors (flush.Fault device) es cut h = stood_on ds t u first cut.0 h
+  cut_on ds t u first sectors (flush.Halted device) es cut h = stood_on ds t u first cut.0 h
+  cut_on ds t u first sectors flush.Memory es cut h = tt
+  cut_on ds t u first sectors flush.Outside es cut h = tt
 
   -- ---- between taking a part and giving it back
 
-  module _ (heads : Heads) (t u v w : View cache_facts backing_facts)
+  module _ (t u v w : View cache_facts backing_facts)
       (first : HasDone cache_facts backing_facts [] t u)
       (last : HasDone cache_facts backing_facts [] v w) where
     pub synced_around : {A E : Type 0} (r : Result A E)
-        → OnOk r (HasSynced cache_facts backing_facts heads u v)
-        → OnOk r (HasSynced cache_facts backing_facts heads t w)
+        → OnOk r (HasSynced cache_facts backing_facts u v)
+        → OnOk r (HasSynced cache_facts backing_facts t w)
     synced_around (Ok a) h = record {
       deeds = h.deeds;
       are = h.are;
+      stood = entry_on [] t u first h.deeds h.are h.stood;
       done = done_around h.deeds t u v w first h.done last;
     }
     synced_around (Err e) h = tt
@@ -212,12 +254,13 @@ module _ {C B : Type 0} (cache_facts : C → DiskFacts) (backing_facts : B → D
     durable_around (Err e) h = tt
 
     pub refused_around : {A : Type 0} (sectors : ℕ) (r : Result A FlushError) → w.seen ≡ v.seen
-        → IfErr r (λ e. HasNotSynced cache_facts backing_facts sectors e heads u v)
-        → IfErr r (λ e. HasNotSynced cache_facts backing_facts sectors e heads t w)
+        → IfErr r (λ e. HasNotSynced cache_facts backing_facts sectors e u v)
+        → IfErr r (λ e. HasNotSynced cache_facts backing_facts sectors e t w)
     refused_around sectors (Ok a) same h = tt
     refused_around sectors (Err e) same h = record {
       deeds = h.deeds;
       cut = h.cut;
+      stood = cut_on [] t u first sectors e h.deeds h.cut h.stood;
       halt = subst (IsHaltOf e) (sym same) h.halt;
       done = done_around h.deeds t u v w first h.done last;
     }

@@ -8,15 +8,16 @@ use Rattle.bc_events.specs.declared.event.Deed.TheVariants as deed
 use Rattle.bc_events.specs.declared.event.Failure.TheVariants as failure
 use Rattle.bc_events.specs.declared.event.LineNumber.{LineNumber}
 use Rattle.bc_entry.specs.bc_hand.Seats.{View}
-use Rattle.bc_journal.specs.declared.heads.Heads.{Heads}
-use Rattle.bc_flush.specs.Sync.{AreSynced, IsHaltOf, IsSyncCut}
+use Rattle.bc_flush.specs.Sync.{AreSynced, IsHaltOf, IsSyncCut, OfCut, OfEntry, StoodBehind}
+use Rattle.bc_journal.specs.Journal.{Journal}
+use Rattle.std.proofs.Common.{inl, inr}
 use Rattle.bc_flush.specs.declared.error.FlushError.{FlushError}
 use Rattle.bc_flush.specs.declared.error.FlushError.TheVariants as flush
 
 -- It begins; an entry is put where keys wait; a barrier of the backing device; it is acknowledged.
-pub record IsFlush (of : LineNumber) (heads : Heads) (ds : List Deed) : Type 0 where
+pub record IsFlush (of : LineNumber) (ds : List Deed) : Type 0 where
   pub entry : List Deed
-  pub synced : AreSynced heads entry
+  pub synced : AreSynced entry
   pub is : ds ≡ deed.FlushFrom of ∷ (entry ++ (deed.BackingBarrier ∷ deed.FlushDone of ∷ []))
 
 -- ---- where it came no further
@@ -37,37 +38,44 @@ IsCutAtEnd flush.Memory ds = ds ≡ []
 IsCutAtEnd flush.Outside ds = ⊥
 
 -- with the entry, or behind it
-pub record IsCutWith (sectors : ℕ) (e : FlushError) (of : LineNumber) (heads : Heads)
-    (ds : List Deed) : Type 0 where
+pub record IsCutWith (sectors : ℕ) (e : FlushError) (of : LineNumber) (ds : List Deed) :
+    Type 0 where
   pub more : List Deed
-  pub cut : IsSyncCut sectors e heads more
+  pub cut : IsSyncCut sectors e more
   pub is : ds ≡ deed.FlushFrom of ∷ more
 
-pub record IsCutBehind (e : FlushError) (of : LineNumber) (heads : Heads) (ds : List Deed) :
-    Type 0 where
+pub record IsCutBehind (e : FlushError) (of : LineNumber) (ds : List Deed) : Type 0 where
   pub entry : List Deed
-  pub synced : AreSynced heads entry
+  pub synced : AreSynced entry
   pub more : List Deed
   pub cut : IsCutAtEnd e more
   pub is : ds ≡ deed.FlushFrom of ∷ (entry ++ more)
 
-abbrev pub IsFlushCut : ℕ → FlushError → LineNumber → Heads → List Deed → Type 0
-IsFlushCut sectors e of heads ds =
-    IsCutBefore e ds ⊎ (IsCutWith sectors e of heads ds ⊎ IsCutBehind e of heads ds)
+abbrev pub IsFlushCut : ℕ → FlushError → LineNumber → List Deed → Type 0
+IsFlushCut sectors e of ds =
+    IsCutBefore e ds ⊎ (IsCutWith sectors e of ds ⊎ IsCutBehind e of ds)
+
+-- of the journal that gave the entry, or what was cut off of it
+abbrev pub OfFlushCut : (sectors : ℕ) (e : FlushError) (of : LineNumber) (ds : List Deed)
+    → IsFlushCut sectors e of ds → (Journal → Type 0) → Type 0
+OfFlushCut sectors e of ds (inl before) P = Unit {0}
+OfFlushCut sectors e of ds (inr (inl with_)) P = OfCut sectors e with_.more with_.cut P
+OfFlushCut sectors e of ds (inr (inr behind)) P = OfEntry behind.entry behind.synced P
 
 module _ {C B : Type 0} (cache_facts : C → DiskFacts) (backing_facts : B → DiskFacts) where
   -- the flush was acknowledged
-  pub record HasFlushed (of : LineNumber) (heads : Heads) (v w : View cache_facts backing_facts) :
-      Type 0 where
+  pub record HasFlushed (of : LineNumber) (v w : View cache_facts backing_facts) : Type 0 where
     pub deeds : List Deed
-    pub are : IsFlush of heads deeds
+    pub are : IsFlush of deeds
+    pub stood : OfEntry are.entry are.synced (StoodBehind cache_facts backing_facts v)
     pub done : HasDone cache_facts backing_facts deeds v w
 
   -- it wasn't
-  pub record HasNotFlushed (sectors : ℕ) (e : FlushError) (of : LineNumber) (heads : Heads)
+  pub record HasNotFlushed (sectors : ℕ) (e : FlushError) (of : LineNumber)
       (v w : View cache_facts backing_facts) : Type 0 where
     pub deeds : List Deed
-    pub cut : IsFlushCut sectors e of heads deeds
+    pub cut : IsFlushCut sectors e of deeds
+    pub stood : OfFlushCut sectors e of deeds cut (StoodBehind cache_facts backing_facts v)
     pub halt : IsHaltOf e w.seen
     pub done : HasDone cache_facts backing_facts deeds v w
 

@@ -1,5 +1,4 @@
 pub mod Durable
-pub mod Known
 pub mod Refusals
 pub mod Sync
 pub mod Flushed

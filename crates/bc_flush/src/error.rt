@@ -12,8 +12,8 @@ pub enum FlushError {
     Fault(Device),
     /// A write or a barrier of this device had failed before, which halted the run.
     Halted(Device),
-    /// There was no memory, or there was none before for an entry that was sealed already: its keys
-    /// are in no entry that may still be written.
+    /// There was no memory; or an entry was sealed before that nobody writes any more, in a run that
+    /// a device has halted by then, whose keys are in no other entry.
     Memory,
     /// The journal ends behind the cache device. No sound pair has such a journal.
     Outside,

@@ -1,13 +1,11 @@
 //! Flushes of lines.
-ghost use Rattle.std.specs.Prelude.{◌≡◌, ◌∷◌, [], true, false, OnOk, IfErr};
+ghost use Rattle.std.specs.Prelude.{◌≡◌, ◌≤◌, ◌∷◌, [], true, false, OnOk, IfErr};
 ghost use Rattle.bc_entry.specs.bc_deed.Flushed.{HasDone};
 ghost use Rattle.bc_events.specs.declared.event.Deed.{Deed};
 ghost use Rattle.bc_flush.specs.Durable.{IsFlushed};
 ghost use Rattle.bc_flush.specs.Flushed.{HasFlushed, HasNotEnded, HasNotFlushed};
-ghost use Rattle.bc_flush.specs.Known.{StaysKnown};
 ghost use Rattle.bc_entry.specs.bc_hand.Seats.{Works, empty, note, world};
 ghost use Rattle.bc_request.specs.bc_job.Asked.{line_of};
-ghost use Rattle.bc_jset.specs.EntryBytes.{IsLevel};
 ghost use Rattle.bc_entry.specs.bc_machine.Plain.{worker_of};
 ghost use Rattle.bc_entry.specs.bc_machine.World.{FromEach, are_plain, cache_among};
 ghost use Rattle.bc_request.specs.Asked.{IsIdle};
@@ -22,7 +20,6 @@ use bc_entry::bc_deed::said::flush_from;
 use bc_entry::bc_hand::hand::Hand;
 use bc_entry::bc_machine::machine::{CoreParts, CoreSeat};
 use bc_events::event::LineNumber;
-use bc_journal::Heads;
 use bc_request::bc_job::job::Job;
 use bc_worker::gate::Gate;
 use std::alloc::Global;
@@ -37,30 +34,28 @@ const BEHIND: u32 = 2;
 /// whichever device it is. Where keys wait it puts one entry, and then it makes one barrier of the
 /// backing device.
 ///
-/// The caller tells what the newest entry of the journal names. At `Err` the flush isn't
-/// acknowledged, and the seat is idle again. `Fault` is a call of this flush that failed, of the
-/// entry or its barrier, which halted the run; `Halted` names the device that had halted it before.
-/// `Memory` may come before the flush begins, before the entry or its write, and before the
-/// barrier. `Outside` comes before the entry.
+/// At `Err` the flush isn't acknowledged, and the seat is idle again. `Fault` is a call of this flush
+/// that failed, of the entry or its barrier, which halted the run; `Halted` names the device that
+/// had halted it before. `Memory` may come before the flush begins, before the entry, and before the
+/// barrier. `Outside` comes before the entry. The seat has room for as many deeds as before, or
+/// more.
 pub fn flush<C: Disk + Drop, B: Disk + Drop, R: Wait, G: Gate>(
     rt: &R,
     alloc: Global,
     parts: &CoreParts<C, B>,
     seat: &mut CoreSeat<C, B>,
     job: &Job,
-    heads: &Heads,
     _gate: &G,
 ) -> Result<(), FlushError>
     requires idle { IsIdle C.facts B.facts parts.now seat.old }
     requires worker { worker_of seat.old.first ≡ job.now.worker }
-    requires level { IsLevel heads.now.level }
-    requires known { StaysKnown C.facts B.facts heads.now seat.old }
     ensures idle { IsIdle C.facts B.facts parts.now seat.new }
-    ensures ok { OnOk result (HasFlushed C.facts B.facts (line_of job.now) heads.now seat.old
+    ensures left { seat.old.promises ≤ seat.new.promises }
+    ensures ok { OnOk result (HasFlushed C.facts B.facts (line_of job.now) seat.old
         seat.new) }
     ensures err { IfErr result (λ error. HasNotFlushed C.facts B.facts
         (cache_among C.facts B.facts parts.now.run.start).sectors error (line_of job.now)
-        heads.now seat.old seat.new) }
+        seat.old seat.new) }
 {
     let mut hand = Hand::empty();
     let Ok(()) = promise(rt, parts, seat, &mut hand, BEFORE) else {
@@ -70,7 +65,7 @@ pub fn flush<C: Disk + Drop, B: Disk + Drop, R: Wait, G: Gate>(
         Ok(()) => {}
         Err(error) => return Err(refusal(error)),
     }
-    match sync_journal(rt, alloc, parts, seat, heads) {
+    match sync_journal(rt, alloc, parts, seat) {
         Ok(()) => {}
         Err(error) => return Err(error),
     }
@@ -91,6 +86,7 @@ fn end<C: Disk + Drop, B: Disk + Drop, R: Wait>(
     requires its { (note C.facts B.facts seat.old).flush.line ≡ of.line }
     requires flushed { FromEach (world C.facts B.facts seat.old) (IsFlushed seat.old.first) }
     ensures works { Works C.facts B.facts parts.now seat.new empty }
+    ensures left { seat.old.promises ≤ seat.new.promises }
     ensures ok { OnOk result (HasDone C.facts B.facts
         (Deed.BackingBarrier ∷ Deed.FlushDone of ∷ []) seat.old seat.new) }
     ensures err { IfErr result (λ error. HasNotEnded C.facts B.facts error seat.old seat.new) }

@@ -10,7 +10,10 @@
 //! index when the flush began stays there, and what is durable stays so: that much is certain, and
 //! it is all that a flush promises.
 //!
-//! Read `specs/` in this order: Durable, Known, Sync, Flushed, Laws.
+//! What an entry names, and that keys wait for each insertion that is in no entry, the journal in
+//! hand tells. So any seat may flush, whatever others do meanwhile.
+//!
+//! Read `specs/` in this order: Durable, Sync, Flushed, Laws.
 #![tactic(auto)]
 
 pub mod error;

@@ -1,13 +1,11 @@
 //! All that has come into the index is made durable.
-ghost use Rattle.std.specs.Prelude.{◌≡◌, ◌≢◌, ◌*◌, ◌≤◌, ℕ, nat_le, [], false, Some, OnOk, IfErr};
+ghost use Rattle.std.specs.Prelude.{◌≡◌, ◌≢◌, ◌+◌, ◌*◌, ◌≤◌, ℕ, nat_le, [], false, Some, OnOk, IfErr};
 ghost use Rattle.bc_entry.specs.Entry.{HasJournalAndCache};
-ghost use Rattle.bc_entry.specs.Seal.{AreNamed, CanSeal};
+ghost use Rattle.bc_entry.specs.Seal.{CanSeal};
 ghost use Rattle.bc_flush.specs.Durable.{AreDurable, HaveComeIn};
-ghost use Rattle.bc_flush.specs.Known.{StaysKnown};
 ghost use Rattle.bc_flush.specs.Sync.{HasNotSynced, HasSynced, journal_alone, journal_and_cache};
 ghost use Rattle.bc_entry.specs.bc_hand.Seats.{Works, empty, kinds, world};
 ghost use Rattle.bc_journal.specs.Journal.{Journal};
-ghost use Rattle.bc_jset.specs.EntryBytes.{IsLevel};
 ghost use Rattle.bc_entry.specs.bc_machine.World.{FromEach, Origin, are_plain, cache_among};
 
 use crate::error::{FlushError, refusal};
@@ -16,47 +14,43 @@ use bc_entry::bc_hand::hand::Hand;
 use bc_entry::bc_hand::lend::{borrow_cache, borrow_journal, return_cache, return_journal};
 use bc_entry::bc_machine::machine::{CoreParts, CoreSeat};
 use bc_entry::put::put_entry;
-use bc_journal::{Heads, Journal};
+use bc_journal::Journal;
 use std::alloc::Global;
 use std::sync::Wait;
 
 /// Makes durable all that had come into the index before the call: where keys wait, they are put
 /// into an entry of the journal, and else nothing is done. No part is in hand, before or after.
 ///
-/// The caller tells what the newest entry names, which the next one names too, and has promised
-/// room for five deeds. The journal always keeps a number and a place for keys that wait, so neither
-/// is ever missing here.
+/// The entry names what the newest one names. Room for five deeds is promised. The journal always
+/// keeps a number and a place for keys that wait, so neither is ever missing here.
 ///
 /// `Fault` is a write or a barrier of the entry that failed, which halted the run; `Halted` names
-/// the device that had halted it before. At `Memory` there was none for the entry, either before it
-/// was sealed or before its write. An entry that was sealed and not written refuses all later calls
-/// so. At `Outside` nothing was done.
+/// the device that had halted it before. At `Memory` there was none for the entry, and nothing was
+/// done; so is answered too where another entry was cut off behind its seal, and this seat hasn't
+/// heard of the halt yet. At `Outside` nothing was done.
 pub fn sync_journal<C: Disk + Drop, B: Disk + Drop, R: Wait>(
     rt: &R,
     alloc: Global,
     parts: &CoreParts<C, B>,
     seat: &mut CoreSeat<C, B>,
-    heads: &Heads,
 ) -> Result<(), FlushError>
     requires works { Works C.facts B.facts parts.now seat.old empty }
     requires cached { are_plain C.facts B.facts parts.now.run.start ≡ false }
     requires promise { 5 ≤ seat.old.promises }
-    requires level { IsLevel heads.now.level }
-    requires known { StaysKnown C.facts B.facts heads.now seat.old }
     ensures works { Works C.facts B.facts parts.now seat.new empty }
-    ensures ok { OnOk result (HasSynced C.facts B.facts heads.now seat.old seat.new) }
+    ensures left { seat.old.promises ≤ seat.new.promises + 5 }
+    ensures ok { OnOk result (HasSynced C.facts B.facts seat.old seat.new) }
     ensures durable { OnOk result ((n : Origin → ℕ)
         → FromEach (world C.facts B.facts seat.old) (HaveComeIn n)
         → FromEach (world C.facts B.facts seat.new) (AreDurable n)) }
     ensures err { IfErr result (λ error. HasNotSynced C.facts B.facts
-        (cache_among C.facts B.facts parts.now.run.start).sectors error heads.now seat.old
-        seat.new) }
+        (cache_among C.facts B.facts parts.now.run.start).sectors error seat.old seat.new) }
 {
     let mut hand = Hand::empty();
     let hand = &mut hand;
     let (journal, _) = borrow_journal(rt, parts, seat, hand);
     return_journal(parts, seat, hand, journal, false);
-    let done = sync_in(rt, alloc, parts, seat, hand, heads);
+    let done = sync_in(rt, alloc, parts, seat, hand);
     let Some(journal) = hand.journal.take() else {
         unreachable!()
     };
@@ -71,23 +65,20 @@ fn sync_in<C: Disk + Drop, B: Disk + Drop, R: Wait>(
     parts: &CoreParts<C, B>,
     seat: &mut CoreSeat<C, B>,
     hand: &mut Hand<C, B>,
-    heads: &Heads,
 ) -> Result<(), FlushError>
     requires works { Works C.facts B.facts parts.now seat.old hand.old }
     requires hand { kinds hand.old ≡ journal_alone }
     requires cached { are_plain C.facts B.facts parts.now.run.start ≡ false }
     requires promise { 5 ≤ seat.old.promises }
-    requires level { IsLevel heads.now.level }
-    requires known { StaysKnown C.facts B.facts heads.now seat.old }
     ensures works { Works C.facts B.facts parts.now seat.new hand.new }
+    ensures left { seat.old.promises ≤ seat.new.promises + 5 }
     ensures hand { kinds hand.new ≡ journal_alone }
-    ensures ok { OnOk result (HasSynced C.facts B.facts heads.now seat.old seat.new) }
+    ensures ok { OnOk result (HasSynced C.facts B.facts seat.old seat.new) }
     ensures durable { OnOk result ((n : Origin → ℕ)
         → FromEach (world C.facts B.facts seat.old) (HaveComeIn n)
         → FromEach (world C.facts B.facts seat.new) (AreDurable n)) }
     ensures err { IfErr result (λ error. HasNotSynced C.facts B.facts
-        (cache_among C.facts B.facts parts.now.run.start).sectors error heads.now seat.old
-        seat.new) }
+        (cache_among C.facts B.facts parts.now.run.start).sectors error seat.old seat.new) }
 {
     let Some(journal) = &hand.journal else {
         unreachable!()
@@ -101,7 +92,7 @@ fn sync_in<C: Disk + Drop, B: Disk + Drop, R: Wait>(
     if journal.get().waiting().is_empty() {
         return Ok(());
     }
-    put_waiting(rt, alloc, parts, seat, hand, heads)
+    put_waiting(rt, alloc, parts, seat, hand)
 }
 
 // Puts the keys that wait in the journal in hand.
@@ -111,29 +102,26 @@ fn put_waiting<C: Disk + Drop, B: Disk + Drop, R: Wait>(
     parts: &CoreParts<C, B>,
     seat: &mut CoreSeat<C, B>,
     hand: &mut Hand<C, B>,
-    heads: &Heads,
 ) -> Result<(), FlushError>
     requires works { Works C.facts B.facts parts.now seat.old hand.old }
     requires hand { kinds hand.old ≡ journal_alone }
     requires cached { are_plain C.facts B.facts parts.now.run.start ≡ false }
     requires promise { 5 ≤ seat.old.promises }
-    requires level { IsLevel heads.now.level }
-    requires known { StaysKnown C.facts B.facts heads.now seat.old }
     requires journal { (j : Journal) × (hand.old.journal ≡ Some j) × CanSeal j
         × (j.waiting ≢ []) }
     ensures works { Works C.facts B.facts parts.now seat.new hand.new }
+    ensures left { seat.old.promises ≤ seat.new.promises + 5 }
     ensures hand { kinds hand.new ≡ journal_alone }
-    ensures ok { OnOk result (HasSynced C.facts B.facts heads.now seat.old seat.new) }
+    ensures ok { OnOk result (HasSynced C.facts B.facts seat.old seat.new) }
     ensures durable { OnOk result ((n : Origin → ℕ)
         → FromEach (world C.facts B.facts seat.old) (HaveComeIn n)
         → FromEach (world C.facts B.facts seat.new) (AreDurable n)) }
     ensures err { IfErr result (λ error. HasNotSynced C.facts B.facts
-        (cache_among C.facts B.facts parts.now.run.start).sectors error heads.now seat.old
-        seat.new) }
+        (cache_among C.facts B.facts parts.now.run.start).sectors error seat.old seat.new) }
 {
     let (cache, _) = borrow_cache(rt, parts, seat, hand);
     return_cache(parts, seat, hand, cache, false);
-    let done = put_within(rt, alloc, parts, seat, hand, heads);
+    let done = put_within(rt, alloc, parts, seat, hand);
     let Some(cache) = hand.cache.take() else {
         unreachable!()
     };
@@ -148,30 +136,27 @@ fn put_within<C: Disk + Drop, B: Disk + Drop, R: Wait>(
     parts: &CoreParts<C, B>,
     seat: &mut CoreSeat<C, B>,
     hand: &mut Hand<C, B>,
-    heads: &Heads,
 ) -> Result<(), FlushError>
     requires works { Works C.facts B.facts parts.now seat.old hand.old }
     requires hand { kinds hand.old ≡ journal_and_cache }
     requires cached { are_plain C.facts B.facts parts.now.run.start ≡ false }
     requires promise { 5 ≤ seat.old.promises }
-    requires level { IsLevel heads.now.level }
     requires journal { (j : Journal) × (hand.old.journal ≡ Some j) × CanSeal j
-        × (j.waiting ≢ [])
-        × FromEach (world C.facts B.facts seat.old) (AreNamed j.ring.geometry heads.now) }
+        × (j.waiting ≢ []) }
     ensures works { Works C.facts B.facts parts.now seat.new hand.new }
+    ensures left { seat.old.promises ≤ seat.new.promises + 5 }
     ensures hand { kinds hand.new ≡ journal_and_cache }
-    ensures ok { OnOk result (HasSynced C.facts B.facts heads.now seat.old seat.new) }
+    ensures ok { OnOk result (HasSynced C.facts B.facts seat.old seat.new) }
     ensures durable { OnOk result ((n : Origin → ℕ)
         → FromEach (world C.facts B.facts seat.old) (HaveComeIn n)
         → FromEach (world C.facts B.facts seat.new) (AreDurable n)) }
     ensures err { IfErr result (λ error. HasNotSynced C.facts B.facts
-        (cache_among C.facts B.facts parts.now.run.start).sectors error heads.now seat.old
-        seat.new) }
+        (cache_among C.facts B.facts parts.now.run.start).sectors error seat.old seat.new) }
 {
     if !is_within(hand) {
         return Err(FlushError::Outside);
     }
-    match put_entry(rt, alloc, parts, seat, hand, heads) {
+    match put_entry(rt, alloc, parts, seat, hand) {
         Ok(()) => Ok(()),
         Err(error) => Err(refusal(error)),
     }

@@ -175,7 +175,8 @@ module _ (w : Setup) (k : Books) (j i : ℕ) (ne : j ≢ i) (q : ℕ) (p : Purpo
   bucket_shelved (Take h r b) stage can s chain = put_shelf k.shelf b (taken_to h r) q i p is
       (λ same. elim can [
         | inl e ↦ apart b (Listed Plain) e (held_listed (k.shelf q) i p Plain is) same
-        | inr e ↦ apart b (Listed r) e (held_listed (k.shelf q) i p r is) same
+        | inr (inl e) ↦ apart b (Listed r) e (held_listed (k.shelf q) i p r is) same
+        | inr (inr e) ↦ apart b (Listed Moving) e.1 (held_listed (k.shelf q) i p Moving is) same
       ])
   bucket_shelved (Shut b) stage can s chain = put_shelf k.shelf b Loose q i p is
       (apart b Open can (held_open (k.shelf q) i p is))

@@ -1,5 +1,5 @@
 -- What stands behind an event by which keys came into a leaf in hand.
-use Rattle.std.proofs.Common.{◌≡◌, ◌⊎◌, inl, inr, ℕ, ◌-◌, ◌≤◌, false, List, [], ◌++◌, length, Option, Some, None, refl, sym, ap, ◌∙◌, subst}
+use Rattle.std.proofs.Common.{◌≡◌, ◌≢◌, ◌⊎◌, inl, inr, ℕ, ◌-◌, ◌≤◌, false, List, [], ◌++◌, length, Option, Some, None, refl, sym, ap, ◌∙◌, subst}
 use Rattle.std.specs.Prelude.{IfSome, reverse}
 use Rattle.std.proofs.lemmas.List.{reverse-reverse}
 use Rattle.bc_cache.specs.Slots.{IsSlotOf, NodeCache}
@@ -58,6 +58,9 @@ over_part n (Some a) ks k holds = inr holds
 over_leaves : (o : Option LeafHand) (ks : List ℕ) (k : ℕ) → Holds ks k → Holds (with_leaves o ks) k
 over_leaves None ks k holds = holds
 over_leaves (Some l) ks k holds = inr holds
+
+some_turned : (keys : List Key) → keys ≢ [] → reverse keys ≢ []
+some_turned keys some none = some (sym (reverse-reverse keys) ∙ ap reverse none)
 
 module _ {C B : Type 0} (h : Hand C B) where
   -- what is in hand beside leaves, buckets and journal
@@ -194,9 +197,9 @@ module _ {C B : Type 0} (cache_facts : C → DiskFacts) (backing_facts : B → D
           added = subst (λ n. WereAdded keys n cached.leaf added.leaf) next added.added;
         })))))
 
-  journal_behind : IsJournal (record can.journal { waiting = can.journal.waiting ++ keys })
+  journal_behind : keys ≢ [] → IsJournal (record can.journal { waiting = can.journal.waiting ++ keys })
       (world cache_facts backing_facts w)
-  journal_behind = record {
+  journal_behind some = record {
     stands = behind (λ o st. IsJournalOf o.opening.machine (journal_share st.machine)
         (record can.journal { waiting = can.journal.waiting ++ keys })) (λ o origin course.
         made o (λ x. IsJournalOf o.opening.machine (journal_share x)
@@ -206,18 +209,19 @@ module _ {C B : Type 0} (cache_facts : C → DiskFacts) (backing_facts : B → D
         (Keyed (act o (before o).machine) number (reverse keys))))
         (record can.journal { waiting = can.journal.waiting ++ l })) (reverse-reverse keys)
         (law_journal o.opening.machine (before o).machine v.first (act o (before o).machine)
-        number (reverse keys) can.journal (journal_before.stands o origin course))));
+        number (reverse keys) can.journal (some_turned keys some)
+        (journal_before.stands o origin course))));
     needs = subst (λ x. FromEach x (λ o st. NeedsFrom can.journal.needed st)) (sym did.is.state)
         (needs_stay can.journal.needed did.is.before (by v.first d) journal_before.needs);
   }
 
   -- with the keys put in, and buckets that stand for the state too
-  pub works_behind : (between new : Hand C B) → HasPutIn h between slot cached keys
+  pub works_behind : keys ≢ [] → (between new : Hand C B) → HasPutIn h between slot cached keys
       → (b : BucketsPart) → new ≡ record between { buckets = Some b }
       → AreBuckets b (world cache_facts backing_facts w)
       → Kept (m cache_facts backing_facts) v w (changes (length v.run.start) (by v.first d))
       → Works cache_facts backing_facts p w new
-  works_behind between new put b new_is on kept =
+  works_behind some between new put b new_is on kept =
       subst (λ (x : Hand C B). Works cache_facts backing_facts p w x)
       (sym (new_is ∙ ap (λ (x : Hand C B). record x { buckets = Some b }) put.is)) (record {
         run = kept.same.run ∙ works.run;
@@ -241,7 +245,7 @@ module _ {C B : Type 0} (cache_facts : C → DiskFacts) (backing_facts : B → D
           flight = others.flight;
           buckets = on;
           journal = subst (λ (j : Journal). IsJournal (record j { waiting = j.waiting ++ keys })
-              (world cache_facts backing_facts w)) same_journal journal_behind;
+              (world cache_facts backing_facts w)) same_journal (journal_behind some);
           cache = others.cache;
           backing = others.backing;
         };

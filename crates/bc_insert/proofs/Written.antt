@@ -1,5 +1,5 @@
 -- What stands behind the keys of a write that came into a leaf in hand, and what the seat knows then.
-use Rattle.std.proofs.Common.{◌≡◌, ℕ, ◌+◌, ◌<◌, ◌≤◌, true, false, List, [], ◌∷◌, length, Option, Some, None, refl, sym, ap, ◌∙◌, subst}
+use Rattle.std.proofs.Common.{◌≡◌, ◌≢◌, ℕ, ◌+◌, ◌<◌, ◌≤◌, true, false, List, [], ◌∷◌, length, Option, Some, None, refl, sym, ap, ◌∙◌, subst, arith}
 use Rattle.std.specs.Prelude.{if◌then◌else◌, reverse}
 use Rattle.bc_model.specs.Sector.{Value, at_run}
 use Rattle.bc_books.proofs.Cases.{by_within, put_run_cases}
@@ -29,7 +29,7 @@ use Rattle.bc_place.specs.bc_machine.World.{AreBuckets, FromEach, Origin, change
 use Rattle.bc_place.specs.bc_machine.declared.part.BucketsPart.{BucketsPart}
 use Rattle.bc_place.specs.bc_machine.declared.part.CorePart.{CorePart}
 use Rattle.bc_parts.specs.Seat.{PartsView}
-use Rattle.bc_place.specs.Named.{AreKeysFor, IsApartFrom}
+use Rattle.bc_place.specs.Named.{AreKeysFor, IsApartFrom, sectors_of}
 use Rattle.bc_place.specs.Next.{HasNamed}
 use Rattle.bc_place.specs.Place.{IsOwn}
 use Rattle.bc_place.specs.Written.{HasWritten}
@@ -85,6 +85,13 @@ outside i (p ∷ ps) wrote t v = by_within p.ptr.offset p.count t
 put_own : (seats : ℕ → Seat) (i : ℕ) (x : Seat) → put_seat seats i x i ≡ x
 put_own seats i x =
     by_test i i (λ b. (if b then x else seats i) ≡ x) (λ is. refl) (λ ne. absurd (ne refl))
+
+-- places of some sectors have a key
+pub some_keys : (first : ℕ) (ps : List Placed) (keys : List Key) → AreKeysFor first ps keys
+    → 1 ≤ sectors_of ps → keys ≢ []
+some_keys first [] keys are some = absurd (omega (arith, some))
+some_keys first (p ∷ ps) [] are some = absurd are
+some_keys first (p ∷ ps) (key ∷ keys) are some = λ none. cc
 
 -- ---- what the event makes of them
 
@@ -186,12 +193,13 @@ module _ (number : ℕ) (keys : List Key) (of : LineNumber) (first : ℕ) (value
         (write_into number keys of first values) (act_of number keys of first values)
         (λ o st. refl) w did o origin course) named))
 
-    pub write_works : (new : Hand C B) → HasPutWrite h new slot cached keys ps
+    pub write_works : keys ≢ [] → (new : Hand C B) → HasPutWrite h new slot cached keys ps
         → Kept (m cache_facts backing_facts) v w (changes (length v.run.start) (by v.first d))
         → Works cache_facts backing_facts p w new
-    write_works new put kept = works_behind cache_facts backing_facts p v h works number slot cached
+    write_works some new put kept = works_behind cache_facts backing_facts p v h works number slot cached
         keys can only d (write_into number keys of first values)
-        (act_of number keys of first values) (λ o st. refl) w did put.between new put.put put.next
+        (act_of number keys of first values) (λ o st. refl) w did some put.between new put.put
+        put.next
         put.is (buckets_behind put.next
         (subst (λ (b : BucketsPart). HasNamed b ps put.next) same_part put.named)) kept
       where

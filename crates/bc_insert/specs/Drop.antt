@@ -1,5 +1,5 @@
 -- Keys that take away what their sectors have in the cache.
-use Rattle.std.specs.Prelude.{◌≡◌, ℕ, ◌+◌, ◌<◌, ◌≤◌, true, List, All}
+use Rattle.std.specs.Prelude.{◌≡◌, ◌≢◌, ℕ, ◌+◌, ◌<◌, ◌≤◌, true, List, [], All}
 use Rattle.bc_key.specs.Key.{Covers}
 use Rattle.bc_key.specs.declared.key.Key.{Key}
 use Rattle.bc_place.specs.bc_machine.Frame.{Range}
@@ -16,7 +16,9 @@ pub record IsGone (r : Range) (leaf : Leaf) (size : ℕ) (key : Key) : Type 0 wh
   pub to : key.end ≤ r.first + r.count
   pub backed : (s : ℕ) → Covers key s → IsOnBacking leaf s
 
--- the sectors are claimed for the seat alone
+-- The sectors are claimed for the seat alone. There is a key: the journal has each insertion by its
+-- keys.
 pub record MayDrop (r : Range) (leaf : Leaf) (size : ℕ) (keys : List Key) : Type 0 where
+  pub some : keys ≢ []
   pub alone : r.exclusive ≡ true
   pub gone : All (IsGone r leaf size) keys

@@ -23,8 +23,8 @@ use std::sync::Wait;
 
 /// Takes away what sectors of the seat's exclusive claim have in the cache, by keys without
 /// pointers that come into the leaf of this number. The backing device has what the sectors show;
-/// once an entry with the keys is durable, no crash leaves anything else there. Each key has no
-/// more sectors than a bucket.
+/// once an entry with the keys is durable, no crash leaves anything else there. There is a key, and
+/// each has no more sectors than a bucket.
 ///
 /// `Err` comes from want of memory, or names the device that halted the run; then nothing is done.
 pub fn drop_keys<C: Disk + Drop, B: Disk + Drop, R: Wait>(

@@ -8,10 +8,12 @@ use Rattle.std.proofs.lemmas.Grind.{flat_map-append}
 use Rattle.bc_key.specs.Key.{IsExtent}
 use Rattle.bc_key.specs.Words.{words_of}
 use Rattle.bc_key.specs.declared.key.Key.{Key}
+use Rattle.bc_jset.specs.EntryBytes.{IsLevel}
 use Rattle.bc_keys.specs.Spelling.{words_of_all}
 use Rattle.bc_keys.proofs.KeyLists.{length-words_of}
 use Rattle.bc_journal.specs.Ring.{Ring, IsRing, is_free, may_begin, following, place_of, with_entry, sectors_for}
 use Rattle.bc_journal.specs.Journal.{Journal, IsJournal, HasRoom, Follows, number_of, numbers_now, newest_of, waiting_words, place_for}
+use Rattle.bc_journal.specs.declared.heads.Heads.{Heads}
 use Rattle.bc_journal.specs.declared.place.Place.{Place}
 use Rattle.bc_journal.specs.declared.place.Numbers.{Numbers}
 
@@ -33,7 +35,7 @@ some_is : (a b : Numbers) → Some a ≡ Some b → a ≡ b
 some_is a b e = cc
 
 abbrev pub with_waiting : Journal → List Key → Journal
-with_waiting j keys = record { ring = j.ring; durable = j.durable; sealed = j.sealed; waiting = keys; needed = j.needed }
+with_waiting j keys = record { ring = j.ring; durable = j.durable; heads = j.heads; sealed = j.sealed; waiting = keys; needed = j.needed }
 
 pub added : (j : Journal) (more : List Key) → IsJournal j → HasRoom j (length (words_of_all more)) → All IsExtent more → number_of j < 2 ^ 63
     → IsJournal (with_waiting j (j.waiting ++ more))
@@ -43,6 +45,7 @@ added j more p room extents numbered =
       ring = p.ring;
       below = p.below;
       reaches = p.reaches;
+      level = p.level;
       sealed = p.sealed;
       needed_from = p.needed_from;
       needed_to = p.needed_to;
@@ -54,7 +57,7 @@ added j more p room extents numbered =
     }
 
 pub sealed_so : (j : Journal) (place : Place) (sectors : ℕ) → IsJournal j → j.sealed ≡ None → number_of j ≢ 2 ^ 63 → IsRing (with_entry j.ring place sectors (number_of j))
-    → IsJournal (record { ring = with_entry j.ring place sectors (number_of j); durable = j.durable; sealed = Some (numbers_now j); waiting = []; needed = j.needed })
+    → IsJournal (record { ring = with_entry j.ring place sectors (number_of j); durable = j.durable; heads = j.heads; sealed = Some (numbers_now j); waiting = []; needed = j.needed })
 sealed_so j place sectors p none not_end ring =
     let number : number_of j ≡ j.durable.seq + 1 = ap (λ (s : Option Numbers). newest_of j.durable s + 1) none in
     let below = p.below in
@@ -63,6 +66,7 @@ sealed_so j place sectors p none not_end ring =
       ring = ring;
       below = p.below;
       reaches = p.reaches;
+      level = p.level;
       sealed = λ s is. subst (Follows j.durable j.needed) (some_is (numbers_now j) s is) (record {
         next = number;
         below = omega (arith, number, below, not_end);
@@ -81,13 +85,13 @@ sealed_so j place sectors p none not_end ring =
 
 pub sealed_as : (j : Journal) (place : Place) (sectors number : ℕ) (ring : Ring) (keys : List Key) → IsJournal j → j.sealed ≡ None → number ≡ number_of j → number ≢ 2 ^ 63
     → ring ≡ with_entry j.ring place sectors number → IsRing ring → keys ≡ []
-    → IsJournal (record { ring = ring; durable = j.durable; sealed = Some (record { seq = number; last_seq = j.needed }); waiting = keys; needed = j.needed })
+    → IsJournal (record { ring = ring; durable = j.durable; heads = j.heads; sealed = Some (record { seq = number; last_seq = j.needed }); waiting = keys; needed = j.needed })
 sealed_as j place sectors number ring keys p none is not_end put is_ring empty =
     let here : ring ≡ with_entry j.ring place sectors (number_of j) = put ∙ ap (λ n. with_entry j.ring place sectors n) is in
     let base = sealed_so j place sectors p none (λ e. not_end (is ∙ e)) (subst IsRing here is_ring) in
-    let named = subst (λ n. IsJournal (record { ring = with_entry j.ring place sectors (number_of j); durable = j.durable; sealed = Some (record { seq = n; last_seq = j.needed }); waiting = []; needed = j.needed })) (sym is) base in
-    let put_so = subst (λ (r : Ring). IsJournal (record { ring = r; durable = j.durable; sealed = Some (record { seq = number; last_seq = j.needed }); waiting = []; needed = j.needed })) (sym here) named in
-    subst (λ (ks : List Key). IsJournal (record { ring = ring; durable = j.durable; sealed = Some (record { seq = number; last_seq = j.needed }); waiting = ks; needed = j.needed })) (sym empty) put_so
+    let named = subst (λ n. IsJournal (record { ring = with_entry j.ring place sectors (number_of j); durable = j.durable; heads = j.heads; sealed = Some (record { seq = n; last_seq = j.needed }); waiting = []; needed = j.needed })) (sym is) base in
+    let put_so = subst (λ (r : Ring). IsJournal (record { ring = r; durable = j.durable; heads = j.heads; sealed = Some (record { seq = number; last_seq = j.needed }); waiting = []; needed = j.needed })) (sym here) named in
+    subst (λ (ks : List Key). IsJournal (record { ring = ring; durable = j.durable; heads = j.heads; sealed = Some (record { seq = number; last_seq = j.needed }); waiting = ks; needed = j.needed })) (sym empty) put_so
 
 -- a bucket that is free stays so as more entries aren't needed
 and_both : (a b : Bool) → (a && b) ≡ true → (a ≡ true) × (b ≡ true)
@@ -125,15 +129,16 @@ place_more ring low high keyed sectors up some =
 no_such : (o : Option Numbers) (t : Numbers) → o ≡ None → o ≡ Some t → ⊥
 no_such o t p q = absurd (cc)
 
-pub written_so : (j : Journal) (s : Numbers) → IsJournal j → j.sealed ≡ Some s
-    → IsJournal (record { ring = j.ring; durable = s; sealed = None; waiting = j.waiting; needed = j.needed })
-written_so j s p is =
+pub written_so : (j : Journal) (s : Numbers) (heads : Heads) → IsJournal j → j.sealed ≡ Some s → IsLevel heads.level
+    → IsJournal (record { ring = j.ring; durable = s; heads = heads; sealed = None; waiting = j.waiting; needed = j.needed })
+written_so j s heads p is level =
     let follows = p.sealed s is in
     let number : number_of j ≡ s.seq + 1 = ap (λ (o : Option Numbers). newest_of j.durable o + 1) is in
     record {
       ring = p.ring;
       below = follows.below;
       reaches = follows.to;
+      level = level;
       sealed = λ t some. elim (no_such None t refl some) [ ];
       needed_from = follows.needed;
       needed_to = subst (λ n. j.needed ≤ n) number p.needed_to;

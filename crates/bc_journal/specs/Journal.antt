@@ -6,7 +6,7 @@ use Rattle.bc_key.specs.Key.{IsExtent}
 use Rattle.bc_key.specs.declared.key.Key.{Key}
 use Rattle.bc_keys.specs.Spelling.{words_of_all}
 use Rattle.bc_jset.specs.declared.entry.JEntry.{JEntry}
-use Rattle.bc_jset.specs.EntryBytes.{most_words}
+use Rattle.bc_jset.specs.EntryBytes.{IsLevel, most_words}
 use Rattle.bc_jset.specs.Records.{entry_sectors}
 use Rattle.bc_journal.specs.Ring.{Ring, IsRing, place_of, with_entry, sectors_for}
 use Rattle.bc_journal.specs.Sealed.{Sealed, entry_of, numbers_of}
@@ -17,8 +17,9 @@ use Rattle.bc_journal.specs.declared.place.Numbers.{Numbers}
 -- what a journal is seen as
 pub record Journal : Type 0 where
   pub ring : Ring
-  -- the newest durable entry's numbers
+  -- the newest durable entry's numbers, and what that entry names
   pub durable : Numbers
+  pub heads : Heads
   -- those of the entry that is being written
   pub sealed : Option Numbers
   -- the keys that the entry after these gets
@@ -61,6 +62,7 @@ pub record IsJournal (j : Journal) : Type 0 where
   pub ring : IsRing j.ring
   pub below : j.durable.seq < 2 ^ 63
   pub reaches : j.durable.last_seq ≤ j.durable.seq
+  pub level : IsLevel j.heads.level
   pub sealed : ForSome j.sealed (Follows j.durable j.needed)
   pub needed_from : j.durable.last_seq ≤ j.needed
   pub needed_to : j.needed ≤ number_of j
@@ -90,17 +92,19 @@ pub record IsSealed (old : Journal) (heads : Heads) (s : Sealed) (new : Journal)
   pub journal : new ≡ record {
     ring = with_entry old.ring s.place (entry_sectors old.ring.geometry s.entry) s.entry.seq;
     durable = old.durable;
+    heads = old.heads;
     sealed = Some (numbers_of s.entry);
     waiting = [];
     needed = old.needed;
   }
 
--- a journal whose durable entry is the one before `next`
-abbrev pub journal_at : Geometry → Place → List ℕ → ℕ → ℕ → Journal
-journal_at g at newest needed next =
+-- a journal whose durable entry is the one before `next`, and names this
+abbrev pub journal_at : Geometry → Place → List ℕ → ℕ → ℕ → Heads → Journal
+journal_at g at newest needed next heads =
     record {
       ring = record { geometry = g; next = at; newest = newest };
       durable = record { seq = next - 1; last_seq = needed };
+      heads = heads;
       sealed = None;
       waiting = [];
       needed = needed;

@@ -33,6 +33,15 @@ entry_of numbers heads keys =
 abbrev pub numbers_of : JEntry → Numbers
 numbers_of e = record { seq = e.seq; last_seq = e.last_seq }
 
+-- what an entry names beside its keys
+abbrev pub heads_of : JEntry → Heads
+heads_of e = record {
+  uuid_bucket = e.uuid_bucket;
+  root = e.root;
+  level = e.level;
+  prio = e.prio;
+}
+
 -- the entry's bytes, and zeros behind them up to the end of its last block
 pub record AreBytesOf (g : Geometry) (e : JEntry) (bytes : List ℕ) : Type 0 where
   pub whole : length bytes ≡ 512 * entry_sectors g e

@@ -4,7 +4,7 @@ ghost use Rattle.bc_key.specs.Key.{IsExtent};
 ghost use Rattle.bc_keys.specs.Spelling.{words_of_all};
 ghost use Rattle.bc_jset.specs.EntryBytes.{IsLevel, most_words};
 ghost use Rattle.bc_journal.specs.Ring.{IsPlace, sectors_for};
-ghost use Rattle.bc_journal.specs.Sealed.{numbers_of};
+ghost use Rattle.bc_journal.specs.Sealed.{heads_of, numbers_of};
 ghost use Rattle.bc_journal.specs.Journal.{IsJournal, HasRoom, IsSealed, journal_at, number_of, place_for, waiting_words};
 
 use crate::heads::Heads;
@@ -32,6 +32,7 @@ pub struct Journal {
     alloc: Global,
     ring: Ring,
     durable: Numbers,
+    heads: Heads,
     sealed: Option<Numbers>,
     needed: u64,
     waiting: Vec<Key>,
@@ -49,6 +50,7 @@ impl Model for Journal {
     ghost view = { λ j. record {
       ring = j.ring;
       durable = j.durable;
+      heads = j.heads;
       sealed = j.sealed;
       waiting = j.waiting.items;
       needed = j.needed;
@@ -57,6 +59,7 @@ impl Model for Journal {
     ghost invariant = { λ j. IsJournal (record {
       ring = j.ring;
       durable = j.durable;
+      heads = j.heads;
       sealed = j.sealed;
       waiting = j.waiting.items;
       needed = j.needed;
@@ -77,8 +80,8 @@ fn append(keys: &mut Vec<Key>, more: &[Key])
 }
 
 impl Journal {
-    /// A journal whose newest entry is `next - 1`, which is durable and has `needed` as its
-    /// `last_seq`. The next entry goes to `at`, the place behind that one; `newest` has the
+    /// A journal whose newest entry is `next - 1`, which is durable, has `needed` as its `last_seq`
+    /// and names `heads`. The next entry goes to `at`, the place behind that one; `newest` has the
     /// greatest number of an entry in each journal bucket, or 0. Takes the memory of two entries.
     pub fn new(
         alloc: Global,
@@ -87,13 +90,16 @@ impl Journal {
         newest: &[u64],
         needed: u64,
         next: u64,
+        heads: &Heads,
     ) -> Result<Journal, AllocError>
         requires place { IsPlace g.now at }
         requires buckets { length newest.now ≡ g.now.journal }
         requires newest { All (λ n. n < next) newest.now }
         requires next { next ≤ 2 ^ 63 }
         requires needed { needed < next }
-        ensures { IfOk result (λ j. j ≡ journal_at g.now at newest.now needed next) }
+        requires level { IsLevel heads.now.level }
+        ensures { IfOk result (λ j. j
+            ≡ journal_at g.now at newest.now needed next heads.now) }
     {
         let ring = Ring::new(alloc, g, at, newest)?;
         let waiting = Vec::with_capacity(alloc, MOST_KEYS)?;
@@ -106,6 +112,7 @@ impl Journal {
             alloc,
             ring,
             durable,
+            heads: *heads,
             sealed: None,
             needed,
             waiting,
@@ -120,6 +127,14 @@ impl Journal {
         ensures journal { IsJournal self.now }
     {
         self.durable.seq
+    }
+
+    /// What the newest durable entry names.
+    pub fn heads(&self) -> &Heads
+        ensures value { result.now ≡ self.now.heads }
+        ensures journal { IsJournal self.now }
+    {
+        &self.heads
     }
 
     /// The numbers of the entry that is being written, if there is one.
@@ -202,9 +217,10 @@ impl Journal {
         number
     }
 
-    /// Makes the keys that wait into an entry, which is to be written. Its `last_seq` is the oldest
-    /// entry that is still needed. It is refused where its number would be 2^63, and nothing has
-    /// changed then. Takes no memory.
+    /// Makes the keys that wait into an entry, which is to be written. It names `heads`: those of the
+    /// newest durable entry, unless the index or the chain of priorities has a new beginning. Its
+    /// `last_seq` is the oldest entry that is still needed. It is refused where its number would be
+    /// 2^63, and nothing has changed then. Takes no memory.
     pub fn seal(&mut self, heads: &Heads) -> Result<Sealed, JournalEnd>
         requires none { self.old.sealed ≡ None }
         requires level { IsLevel heads.now.level }
@@ -238,12 +254,17 @@ impl Journal {
     }
 
     /// Takes back the entry that was being written, once a barrier came behind its write: it is the
-    /// newest durable one. Takes no memory.
+    /// newest durable one, and what it names is what the journal has. Takes no memory.
     pub fn written(&mut self, s: Sealed)
         requires { self.old.sealed ≡ Some (numbers_of s.entry) }
-        ensures { self.new ≡ record self.old { durable = numbers_of s.entry; sealed = None } }
+        ensures { self.new ≡ record self.old {
+          durable = numbers_of s.entry;
+          heads = heads_of s.entry;
+          sealed = None;
+        } }
     {
         self.durable = s.numbers();
+        self.heads = *s.heads();
         self.sealed = None;
         self.buffers = Some(s.into_buffers());
     }

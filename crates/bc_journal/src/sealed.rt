@@ -6,7 +6,7 @@ ghost use Rattle.bc_jset.specs.EntryBytes.{IsLevel, bytes_of, most_words, with_k
 ghost use Rattle.bc_jset.specs.Records.{entry_sectors};
 ghost use Rattle.bc_jset.specs.Entries.{bucket_start, bucket_end};
 ghost use Rattle.bc_journal.specs.Ring.{IsPlace, sectors_for};
-ghost use Rattle.bc_journal.specs.Sealed.{AreBytesOf, IsWithin, entry_of, numbers_of, sector_at};
+ghost use Rattle.bc_journal.specs.Sealed.{AreBytesOf, IsWithin, entry_of, heads_of, numbers_of, sector_at};
 
 use crate::heads::Heads;
 use crate::place::{Numbers, Place};
@@ -192,15 +192,16 @@ impl Sealed {
 
     /// What the entry names beside its keys.
     pub fn heads(&self) -> &Heads
-        ensures { entry_of (numbers_of self.now.entry) result.now self.now.entry.keys
-            ≡ self.now.entry }
+        ensures value { result.now ≡ heads_of self.now.entry }
+        ensures level { IsLevel result.now.level }
     {
         &self.heads
     }
 
     /// The bytes to be written: whole blocks, with zeros behind the entry.
     pub fn bytes(&self) -> &[u8]
-        ensures { AreBytesOf self.now.geometry self.now.entry result.now }
+        ensures bytes { AreBytesOf self.now.geometry self.now.entry result.now }
+        ensures few { length result.now ≤ 32768 }
     {
         &self.bytes[..self.length]
     }

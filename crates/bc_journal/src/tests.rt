@@ -98,12 +98,15 @@ fn eighty_keys(rt: HostRuntime) -> Result<(), Fail> {
         sector: 60,
     };
     let newest = [6, 5, 6, 0, 1, 2, 3, 4];
-    let mut journal = Journal::new(rt.alloc(), &GEOMETRY, first, &newest, 5, 7)?;
+    let before = Heads { prio: 8, ..heads() };
+    let mut journal = Journal::new(rt.alloc(), &GEOMETRY, first, &newest, 5, 7, &before)?;
     let keys = eighty();
     let sealed = sealed_with(&rt, &mut journal, &keys);
     has_five_sectors(&rt, rt.alloc(), &sealed, &keys);
+    assert!(rt; *journal.heads() == before);
     journal.written(sealed);
     assert_eq!(rt; journal.durable(), 7);
+    assert!(rt; *journal.heads() == heads());
     Ok(())
 }
 
@@ -114,7 +117,8 @@ fn three_turns(rt: HostRuntime) -> Result<(), Fail> {
         bucket: 7,
         sector: 64,
     };
-    let mut journal = Journal::new(rt.alloc(), &GEOMETRY, end, &[0, 0, 0, 0, 0, 0, 0, 1], 1, 2)?;
+    let newest = [0, 0, 0, 0, 0, 0, 0, 1];
+    let mut journal = Journal::new(rt.alloc(), &GEOMETRY, end, &newest, 1, 2, &heads())?;
     // An entry of these takes 43 sectors.
     let keys = vec![in rt.alloc(); key_at(8, 2048); 900]?;
     for i in 0..24 {

@@ -1,18 +1,22 @@
 -- The journal in memory, once keys came in.
-use Rattle.std.proofs.Common.{◌≡◌, ℕ, List, ◌++◌, Option, sym, ap, ◌∙◌, subst}
+use Rattle.std.proofs.Common.{◌≡◌, ◌≢◌, ℕ, List, [], ◌∷◌, ◌++◌, Option, refl, sym, ap, ◌∙◌, subst}
 use Rattle.std.specs.Prelude.{◌≤◌, IfSome, reverse, slice_index}
 use Rattle.std.proofs.lemmas.List.{reverse-append}
 use Rattle.bc_journal.specs.Journal.{Journal}
 use Rattle.bc_journal.specs.Ring.{Ring}
 use Rattle.bc_key.specs.declared.key.Key.{Key}
 use Rattle.bc_known.specs.Acts.{Keyed, after}
-use Rattle.bc_begun.specs.bc_machine.Containers.{IsJournalOf, IsRingOf, behind_sealed, numbers_in, sealed_numbers}
+use Rattle.bc_begun.specs.bc_machine.Containers.{IsJournalOf, IsNamed, IsRingOf, behind_sealed, numbers_in, sealed_numbers}
 use Rattle.bc_meta.specs.Entries.{Entry}
 use Rattle.bc_meta.specs.Facts.{In}
 use Rattle.bc_shares.specs.Shares.{Entries, JournalShare, journal_share}
 use Rattle.bc_whole.specs.State.{Opening}
 use Rattle.bc_keyed.specs.Came.{LawJournal}
 use Rattle.bc_keyed.proofs.Came.{law_came, ring_stays}
+
+none_first : (xs ys : List Key) → xs ++ ys ≡ [] → xs ≡ []
+none_first [] ys none = refl
+none_first (x ∷ xs) ys none = absurd (cc)
 
 module _ (w : Opening) (x y : JournalShare) (keys : List Key)
     (entries : y.entries ≡ record x.entries { waiting = keys ++ x.entries.waiting })
@@ -41,18 +45,22 @@ module _ (w : Opening) (x y : JournalShare) (keys : List Key)
         (λ e. e.number ≤ slice_index r.newest x.entries.bucket)) (sym sealed) h.sealed);
   }
 
-  with_waiting : (j : Journal) → IsJournalOf w x j
+  with_waiting : (j : Journal) → keys ≢ [] → IsJournalOf w x j
       → IsJournalOf w y (record j { waiting = j.waiting ++ reverse keys })
-  with_waiting j h = record {
+  with_waiting j some h = record {
     waiting = ap (λ (l : List Key). l ++ reverse keys) h.waiting
         ∙ sym (reverse-append keys x.entries.waiting)
         ∙ sym (ap (λ (e : Entries). reverse e.waiting) entries);
+    all_wait = λ none. absurd (some (none_first keys x.entries.waiting
+        (sym (ap (λ (e : Entries). e.waiting) entries) ∙ none)));
     durable = h.durable ∙ sym (ap (λ (e : Entries). numbers_in e.newest) entries);
+    heads = subst (IsNamed j.ring.geometry j.heads)
+        (sym (ap (λ (e : Entries). e.newest) entries)) h.heads;
     sealed = h.sealed ∙ ap sealed_numbers (sym sealed);
     ring = same_ring j.ring h.ring;
   }
 
 pub law_journal : LawJournal
-law_journal w st i act slot keys j h =
+law_journal w st i act slot keys j some h =
     with_waiting w (journal_share st) (journal_share (after w st i (Keyed act slot keys))) keys
-    (law_came w st i act slot keys).entries (ring_stays w.layout st.whole.store slot keys) j h
+    (law_came w st i act slot keys).entries (ring_stays w.layout st.whole.store slot keys) j some h

@@ -1,11 +1,12 @@
 -- Keys that point nowhere leave each bucket as it was.
-use Rattle.std.proofs.Common.{◌≡◌, ℕ, zero, suc, ◌+◌, ◌*◌, Bool, false, ◌||◌, List, [], ◌∷◌, Option, None, refl, sym, ap, ◌∙◌, if◌then◌else◌}
+use Rattle.std.proofs.Common.{◌≡◌, ℕ, zero, suc, ◌+◌, ◌*◌, Bool, false, ◌||◌, List, [], ◌∷◌, length, Option, None, refl, sym, ap, ◌∙◌, if◌then◌else◌}
 use Rattle.bc_books.specs.Books.{Books, Put}
 use Rattle.bc_books.specs.After as books
 use Rattle.bc_books.specs.Index as index
 use Rattle.bc_books.specs.Index.{Kind, dirties, if_dirty, if_points, names, touches}
 use Rattle.bc_books.specs.Marks.{Mark, Dirtied, Metadata, Reclaimable, Unmarked, with_key}
 use Rattle.bc_books.specs.Shelves.{Owner, Spent}
+use Rattle.bc_begun.proofs.of_bc_machine.Buckets.{touched_round}
 use Rattle.bc_begun.specs.bc_machine.Containers.{AreBucketsOf, pins_in, pins_of}
 use Rattle.bc_begun.specs.bc_machine.declared.part.BucketsPart.{BucketsPart}
 use Rattle.bc_places.specs.Stands.{StandFor}
@@ -91,6 +92,13 @@ module _ (w : Opening) (k : Books) (p : BucketsPart) (leaf : ℕ) (keys : List i
       held = r.held;
     });
     places = places;
+    outside = h.outside;
+    room = h.room;
+    chain = h.chain;
+    round = touched_round w.flow.books w.before k.round p.round after.round.touched
+        (length p.buckets.records) p.buckets.touched p.buckets.touched h.round.each
+        (λ q inside. h.round.touches q inside ∙ sym (ap (λ b. b || k.round.touched q)
+        (touches_none w.flow.books.bucket keys none q))) h.round;
   }
 
 pub law_nowhere : LawNowhere

@@ -38,10 +38,10 @@ abbrev pub LawCame : Type 0
 LawCame = (w : Opening) (st : State) (i : ℕ) (act : flow.Act) (slot : ℕ) (keys : List Key)
     → HaveCome slot keys st.whole.parts (after w st i (Keyed act slot keys)).whole.parts
 
--- The journal has the keys behind those that waited.
+-- The journal has the keys behind those that waited, of which there is one at least.
 abbrev pub LawJournal : Type 0
 LawJournal = (w : Opening) (st : State) (i : ℕ) (act : flow.Act) (slot : ℕ) (keys : List Key)
-    (j : Journal) → IsJournalOf w (journal_share st) j
+    (j : Journal) → keys ≢ [] → IsJournalOf w (journal_share st) j
     → IsJournalOf w (journal_share (after w st i (Keyed act slot keys)))
     (record j { waiting = j.waiting ++ reverse keys })
 

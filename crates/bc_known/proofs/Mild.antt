@@ -120,11 +120,13 @@ module _ (w : Setup) (k : Books) (holder : ℕ → Option ℕ) (spare : List ℕ
   mild_step (Take i Plain b) mild can = with_shelf (Take i Plain b) mild can
       (put_holders k.shelf holder b Open s.holders (elim can [
         | inl e ↦ listed_none (k.shelf b) Plain (holder b) e (s.holders b)
-        | inr e ↦ listed_none (k.shelf b) Plain (holder b) e (s.holders b)
+        | inr (inl e) ↦ listed_none (k.shelf b) Plain (holder b) e (s.holders b)
+        | inr (inr e) ↦ listed_none (k.shelf b) Moving (holder b) e.1 (s.holders b)
       ]))
       (put_spare k.shelf spare b Open s.spare (λ h. absurd (elim can [
         | inl e ↦ off_chain (k.shelf b) (Listed Plain) e refl h
-        | inr e ↦ off_chain (k.shelf b) (Listed Plain) e refl h
+        | inr (inl e) ↦ off_chain (k.shelf b) (Listed Plain) e refl h
+        | inr (inr e) ↦ off_chain (k.shelf b) (Listed Moving) e.1 refl h
       ])))
   mild_step (Take i Priorities b) mild can = absurd mild
   mild_step (Take i Moving b) mild can = absurd mild
@@ -180,7 +182,8 @@ pub mild_node : (w : Setup) (k : Books) (x : Step) → IsMild x → CanStep w k 
     → IsForNode k q → IsForNode (after w k x) q
 mild_node w k (Take i Plain b) mild can = put_nodes k.node k.shelf b Open (λ j h. absurd (elim can [
   | inl e ↦ off_tree (k.shelf b) (Listed Plain) j e (λ n z. cc) h
-  | inr e ↦ off_tree (k.shelf b) (Listed Plain) j e (λ n z. cc) h
+  | inr (inl e) ↦ off_tree (k.shelf b) (Listed Plain) j e (λ n z. cc) h
+  | inr (inr e) ↦ off_tree (k.shelf b) (Listed Moving) j e.1 (λ n z. cc) h
 ]))
 mild_node w k (Take i Priorities b) mild can = absurd mild
 mild_node w k (Take i Moving b) mild can = absurd mild

@@ -57,20 +57,23 @@ taken_chain : (i : ℕ) (p : Purpose) (x : Shelf) → IsFor p x → is_for_chain
     → is_for_chain (taken_to i p) ≡ true
 taken_chain i p x (inl e) h =
     let z : false ≡ true = sym (ap is_for_chain e) ∙ h in absurd (cc)
-taken_chain i Priorities x (inr e) h = refl
-taken_chain i Moving x (inr e) h =
+taken_chain i Priorities x (inr (inl e)) h = refl
+taken_chain i Moving x (inr (inl e)) h =
     let z : false ≡ true = sym (ap is_for_chain e) ∙ h in absurd (cc)
-taken_chain i Tree x (inr e) h =
+taken_chain i Tree x (inr (inl e)) h =
     let z : false ≡ true = sym (ap is_for_chain e) ∙ h in absurd (cc)
-taken_chain i Plain x (inr e) h =
+taken_chain i Plain x (inr (inl e)) h =
     let z : false ≡ true = sym (ap is_for_chain e) ∙ h in absurd (cc)
+taken_chain i p x (inr (inr e)) h =
+    let z : false ≡ true = sym (ap is_for_chain e.1) ∙ h in absurd (cc)
 
 listed_tree : (x : Shelf) (p : Purpose) (j : ℕ) → x ≡ Listed p → x ≡ Held j Tree → ⊥
 listed_tree x p j a b = cc
 
 for_tree : (x : Shelf) (p : Purpose) (j : ℕ) → IsFor p x → x ≡ Held j Tree → ⊥
 for_tree x p j (inl e) h = listed_tree x Plain j e h
-for_tree x p j (inr e) h = listed_tree x p j e h
+for_tree x p j (inr (inl e)) h = listed_tree x p j e h
+for_tree x p j (inr (inr e)) h = listed_tree x Moving j e.1 h
 
 both_put : (shelf : ℕ → Shelf) (holder : ℕ → Option ℕ) (b : ℕ) (y : Shelf) (h : Option ℕ)
     → ((q : ℕ) → HasHolder (shelf q) (holder q)) → HasHolder y h

@@ -164,7 +164,8 @@ module _ (w : Opening) (st : State) (seat : ℕ) (inv : Inv w st.whole) (z : IsK
   take_enabled p b on =
       let h : IsFree b = elim on.data_allows.0.steps.0 [
         | inl e ↦ listed_free b Plain e
-        | inr e ↦ listed_free b p e
+        | inr (inl e) ↦ listed_free b p e
+        | inr (inr e) ↦ listed_free b Moving e.1
       ] in record {
         together = on.asks;
         flow = on.data_allows;

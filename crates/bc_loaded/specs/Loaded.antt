@@ -1,6 +1,7 @@
 -- The parts of a pair in memory, as they were read.
-use Rattle.std.specs.Prelude.{ℕ, List}
+use Rattle.std.specs.Prelude.{◌≡◌, ℕ, List, replicate}
 use Rattle.bc_alloc.specs.Buckets.{AreFor}
+use Rattle.bc_bucket.specs.Walk.{none_found}
 use Rattle.bc_cache.specs.Slots.{NodeCache}
 use Rattle.bc_disk.specs.Disk.{DiskFacts, IsKept}
 use Rattle.bc_disk.specs.declared.disk.Device.TheVariants as device
@@ -29,8 +30,8 @@ pub record HasLeaves (s : Survey) (leaves : List LeafRange) (count : ℕ) (d : D
   pub are : AreParts s.supers.geometry leaves pending count d parts
 
 -- Of a device that tells what it holds, tree, buckets and lists are those of the pair that was read.
--- The lists are of the buckets, the journal goes on behind the entries, and so many parts have leaves,
--- of each device.
+-- The lists are of the buckets, the chain is the one that was read, the journal goes on behind the
+-- entries, and so many parts have leaves, of each device.
 pub record AreLoaded {C : Type 0} (facts : C → DiskFacts) (s : Survey) (count : ℕ) (cache : C)
     (l : Loaded) : Type 0 where
   pub grown : OfRead s (facts cache)
@@ -40,6 +41,8 @@ pub record AreLoaded {C : Type 0} (facts : C → DiskFacts) (s : Survey) (count 
   pub spare : (p : Pair) → (h : IsReadOf s p)
       → HasReserves h.view.geometry h.view.reading l.reserves
   pub fit : AreFor l.reserves l.buckets
+  pub chain : l.chain.items ≡ s.gens.chain
+  pub walk : l.walk ≡ replicate s.supers.geometry.nbuckets none_found
   pub journal : IsResumed s.supers.geometry s.journal l.journal
   -- the device before the leaves were read
   pub was : C

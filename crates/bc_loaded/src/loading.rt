@@ -1,6 +1,7 @@
 //! The parts of a pair are read into memory.
-ghost use Rattle.std.specs.Prelude.{◌≡◌, ◌*◌, ◌<◌, ◌≤◌, IfErr, IfOk};
+ghost use Rattle.std.specs.Prelude.{◌≡◌, ◌*◌, ◌<◌, ◌≤◌, replicate, IfErr, IfOk};
 ghost use Rattle.bc_alloc.specs.Buckets.{AreFor};
+ghost use Rattle.bc_bucket.specs.Walk.{none_found};
 ghost use Rattle.bc_disk.specs.Disk.{IsKept};
 ghost use Rattle.bc_image.specs.Pair.{Pair};
 ghost use Rattle.bc_loaded.specs.Loaded.{AreLoaded, HasLeaves, IsLoadCause};
@@ -12,7 +13,7 @@ ghost use Rattle.bc_replay.specs.Causes.{RisesWith};
 ghost use Rattle.bc_spine.specs.Leaves.{AreCounted};
 
 use bc_alloc::Reserves;
-use bc_bucket::Buckets;
+use bc_bucket::{Buckets, Walk};
 use bc_cache::NodeCache;
 use bc_disk::disk::{Device, Disk};
 use bc_journal::Journal;
@@ -37,18 +38,24 @@ pub struct Loaded {
     pub buckets: Buckets,
     /// The buckets that are ready to be taken.
     pub reserves: Reserves,
+    /// The buckets of the chain of priority sets, the first one first.
+    pub chain: Vec<u32>,
+    /// What a walk that saw no leaf found for each bucket.
+    pub walk: Walk,
     /// The journal, behind the entries that were read.
     pub journal: Journal,
 }
 
-// Buckets and their lists.
+// Buckets, their lists and their chain.
 #[derive(Drop)]
 struct Lists {
     buckets: Buckets,
     reserves: Reserves,
+    chain: Vec<u32>,
+    walk: Walk,
 }
 
-// What is known of the buckets, and lists of those that nothing uses.
+// What is known of the buckets, lists of those that nothing uses, and the chain.
 fn lists_of(alloc: Global, s: &Survey) -> Result<Lists, AllocError>
     requires parts { HasParts s.now }
     ensures known { IfOk result (λ l. (p : Pair) → (h : IsReadOf s.now p)
@@ -56,12 +63,21 @@ fn lists_of(alloc: Global, s: &Survey) -> Result<Lists, AllocError>
     ensures spare { IfOk result (λ l. (p : Pair) → (h : IsReadOf s.now p)
         → HasReserves h.view.geometry h.view.reading l.reserves) }
     ensures fit { IfOk result (λ l. AreFor l.reserves l.buckets) }
+    ensures chain { IfOk result (λ l. l.chain.items ≡ s.now.gens.chain) }
+    ensures walk { IfOk result (λ l. l.walk ≡ replicate s.now.supers.geometry.nbuckets none_found) }
 {
     let buckets = buckets_of(alloc, s)?;
     let reserves = reserves_of(alloc, s)?;
     // That lists are in order is known once they are read.
     let _raised = reserves.raised_len();
-    Ok(Lists { buckets, reserves })
+    let chain = Vec::from_slice(alloc, s.gens.chain())?;
+    let walk = Walk::new(alloc, &s.supers.geometry)?;
+    Ok(Lists {
+        buckets,
+        reserves,
+        chain,
+        walk,
+    })
 }
 
 // So many parts with leaves of a tree, of which the journal has keys.
@@ -105,15 +121,24 @@ fn load_parts<C: Disk>(
     ensures kept { IsKept (C.facts cache.old) (C.facts cache.new) }
     ensures faults { RisesWith result (C.facts cache.old).faults (C.facts cache.new).faults }
 {
+    let Some(journal) = resume(alloc, &s.supers.geometry, &s.journal)? else {
+        return Err(OpenError::NoJournal);
+    };
     let tree = tree_of(alloc, cache, s)?;
     let leaves = load_leaves(alloc, cache, s, &tree, count)?;
-    let Lists { buckets, reserves } = lists_of(alloc, s)?;
-    let journal = resume(alloc, &s.supers.geometry, &s.journal)?;
+    let Lists {
+        buckets,
+        reserves,
+        chain,
+        walk,
+    } = lists_of(alloc, s)?;
     Ok(Loaded {
         tree,
         leaves,
         buckets,
         reserves,
+        chain,
+        walk,
         journal,
     })
 }

@@ -1,3 +1,4 @@
 pub mod Noting
 pub mod Baring
 pub mod Viewing
+pub mod Buckets

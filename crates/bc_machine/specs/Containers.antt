@@ -1,5 +1,9 @@
 -- What the parts of a running cache that are in memory stand for, in the core's state.
-use Rattle.std.specs.Prelude.{◌≡◌, ◌≢◌, ◌⊎◌, ℕ, zero, suc, Bool, true, false, ◌+◌, ◌*◌, ◌%◌, ◌<◌, ◌≤◌, List, [], ◌∷◌, ◌++◌, length, map, reverse, Contains, Option, Some, None, IfSome, slice_get, slice_index}
+use Rattle.std.specs.Prelude.{◌≡◌, ◌≢◌, ◌⊎◌, ℕ, zero, suc, Bool, true, false, ◌+◌, ◌*◌, ◌%◌, ◌<◌, ◌≤◌, List, [], ◌∷◌, ◌++◌, length, map, reverse, Contains, Option, Some, None, IfSome, MatchOption, slice_get, slice_index, slice_index_or}
+use Rattle.bc_alloc.specs.Reserve.{IsDistinct}
+use Rattle.bc_alloc.specs.Reserves.{list_of}
+use Rattle.bc_alloc.specs.declared.purpose.Purpose.TheVariants as lists
+use Rattle.bc_disk.specs.declared.geometry.Geometry.{Geometry}
 use Rattle.bc_key.specs.Key.{ptr_at}
 use Rattle.bc_key.specs.Words.{ptr_word}
 use Rattle.bc_key.specs.declared.key.Key.{Key}
@@ -10,12 +14,14 @@ use Rattle.bc_meta.specs.Layout.{Layout, entry_len, set_len}
 use Rattle.bc_meta.specs.Records.{Records, Nothing}
 use Rattle.bc_meta.specs.Tree.{Child, NodeSet, set_keys, children_of}
 use Rattle.bc_facts.specs.Layout.{IsLayoutOf}
-use Rattle.bc_facts.specs.Seen.{is_gone}
+use Rattle.bc_facts.specs.Seen.{is_gone, seen_entry}
 use Rattle.bc_leaves.specs.Keys.{last_said, ref_said}
 use Rattle.bc_leaves.specs.Parts.{Role, NoNode, Draft, Free, Leaving, Coming, Change, NoChange, BySet, Pending, AllFrom, AllUpTo, keys_of}
 use Rattle.bc_leaves.specs.Parts as parts
-use Rattle.bc_books.specs.Books.{Books}
+use Rattle.bc_books.specs.Books.{Books, Setup}
+use Rattle.bc_books.specs.Index.{Pointer}
 use Rattle.bc_books.specs.Marks as books
+use Rattle.bc_books.specs.Round.{Round}
 use Rattle.bc_books.specs.Shelves.{Shelf, Loose, Listed, Raised, Open, Held, Owner}
 use Rattle.bc_whole.specs.State.{Opening}
 use Rattle.bc_known.specs.Acts.{State}
@@ -31,12 +37,18 @@ use Rattle.bc_bucket.specs.Buckets.{bucket_of}
 use Rattle.bc_bucket.specs.declared.bucket.Bucket.{Bucket}
 use Rattle.bc_bucket.specs.declared.bucket.Mark.{Mark}
 use Rattle.bc_bucket.specs.declared.bucket.Mark.TheVariants as marks
+use Rattle.bc_bucket.specs.declared.walk.Found.{Found}
+use Rattle.bc_bucket.specs.Walk.{found_at}
+use Rattle.bc_journal.specs.Sealed.{heads_of}
+use Rattle.bc_journal.specs.declared.heads.Heads.{Heads}
 use Rattle.bc_journal.specs.declared.place.Numbers.{Numbers}
 use Rattle.bc_journal.specs.Journal.{Journal}
 use Rattle.bc_journal.specs.Ring.{Ring}
-use Rattle.bc_places.specs.Stands.{IsCutInto, StandFor}
+use Rattle.bc_jset.specs.declared.entry.JEntry.{JEntry}
+use Rattle.bc_places.specs.Stands.{AreJust, IsCutInto, StandFor}
 use Rattle.bc_shares.specs.Shares.{Shape, shape_of, JournalShare, BucketsShare, buckets_in, Use, Unused, Pinned, Used, use_of, NodeShare, LeafShare, leaf_share, InnerShare, inner_share}
 use Rattle.bc_machine.specs.declared.part.BucketsPart.{BucketsPart}
+use Rattle.bc_machine.specs.declared.part.Tracing.{Tracing}
 use Rattle.bc_machine.specs.declared.part.SpinePart.{SpinePart}
 
 -- ---- nodes
@@ -209,10 +221,24 @@ pub record IsRingOf (w : Opening) (x : JournalShare) (r : Ring) : Type 0 where
   pub newest : (b : ℕ) (e : Entry) → In e (x.entries.ring b) → e.number ≤ slice_index r.newest b
   pub sealed : IfSome x.entries.sealed (λ e. e.number ≤ slice_index r.newest x.entries.bucket)
 
--- The keys that wait, oldest first, the numbers of the durable and the sealed entry, and the ring.
+-- an entry, as the formats have it, names this root, these priorities and this table of uuids
+pub record IsNamed (g : Geometry) (heads : Heads) (e : Entry) : Type 0 where
+  pub entry : JEntry
+  pub is : e ≡ seen_entry g entry
+  pub heads_are : heads ≡ heads_of entry
+
+-- Each insertion brought a key. So where no key waits, the insertions are in the sealed entry or in
+-- those before it.
+abbrev pub AllWait : JournalShare → Type 0
+AllWait x = x.entries.waiting ≡ [] → x.counts.count ≤ x.counts.journal.sealed
+
+-- The keys that wait, oldest first, which are all that is in no entry; the numbers of the durable and
+-- the sealed entry; what the durable one names; and the ring.
 pub record IsJournalOf (w : Opening) (x : JournalShare) (j : Journal) : Type 0 where
   pub waiting : j.waiting ≡ reverse x.entries.waiting
+  pub all_wait : AllWait x
   pub durable : j.durable ≡ numbers_in x.entries.newest
+  pub heads : IsNamed j.ring.geometry j.heads x.entries.newest
   pub sealed : j.sealed ≡ sealed_numbers x.entries.sealed
   pub ring : IsRingOf w x j.ring
 
@@ -254,7 +280,56 @@ pub record IsBucketFor (opened : ℕ) (q : ℕ) (x : BucketsShare) (pinned : ℕ
   pub pins : b.pins ≡ pinned
   pub held : b.held ≡ is_held (x.shelf q)
 
--- the records of all buckets, which the device is cut into, the lists, and the places in open buckets
+-- The buckets of the chain that was made ready last, as many as a chain has, each once. That no newer
+-- one is sealed is known where it is told.
+pub record IsChainOf (before sets : ℕ) (of : ℕ → Option ℕ) (ready sealed : ℕ) (list : List ℕ)
+    (renewing : Bool) : Type 0 where
+  pub buckets : AreJust before list (λ q. of q ≡ Some ready)
+  pub once : IsDistinct list
+  pub many : length list ≡ sets
+  pub rest : renewing ≡ false → sealed ≡ ready
+
+-- a walk saw a sector's pointer into the bucket
+pub record IsSeenIn (w : Setup) (seen : ℕ → Option Pointer) (q sector : ℕ) (r : Pointer) :
+    Type 0 where
+  pub within : sector < w.size
+  pub saw : seen sector ≡ Some r
+  pub bucket : w.bucket r.place ≡ q
+
+-- the device has this byte of the oldest version that such pointers have
+pub record IsOldestSeen (w : Setup) (seen : ℕ → Option Pointer) (q generation : ℕ) : Type 0 where
+  pub sector : ℕ
+  pub pointer : Pointer
+  pub one : IsSeenIn w seen q sector pointer
+  pub byte : generation ≡ pointer.version % 256
+  pub none_older : (s : ℕ) (r : Pointer) → IsSeenIn w seen q s r → pointer.version ≤ r.version
+
+-- What a walk found for a bucket, by what a round saw. It doesn't speak of the bucket's own version,
+-- which may rise until the round ends.
+pub record IsFoundFor (w : Setup) (seen : ℕ → Option Pointer) (live : ℕ → Bool) (q : ℕ)
+    (f : Found) : Type 0 where
+  pub mark : mark_of f.mark ≡ books.found_mark w.bucket q seen live w.size
+  pub oldest : MatchOption f.last_gc
+      ((s : ℕ) (r : Pointer) → IsSeenIn w seen q s r → ⊥)
+      (λ generation. IsOldestSeen w seen q generation)
+
+-- The round in memory: just the buckets are touched that are so to the core, since at its end each
+-- other one is settled; and the leaves of the sectors below `next` were walked, and no others.
+pub record IsRoundOf (w : Setup) (before count : ℕ) (x : Round) (touched : List Bool)
+    (t : Tracing) : Type 0 where
+  pub going : x.going ≡ t.going
+  pub each : length touched ≡ count
+  pub touches : (q : ℕ) → before + q < count
+      → slice_index_or touched (before + q) false ≡ x.touched q
+  pub walked : (s : ℕ) → s < t.next → x.walked s ≡ true
+  pub unseen : (s : ℕ) → t.next ≤ s → x.seen s ≡ None
+  pub long : length t.walk ≡ count
+  pub found : (q : ℕ) → before + q < count
+      → IsFoundFor w x.seen x.live q (found_at t.walk (before + q))
+
+-- The records of all buckets, which the device is cut into, the lists, and the places in open
+-- buckets; the chain and the trace round. The buckets before the core's are metadata always, and the
+-- list for priorities has room for a chain.
 pub record AreBucketsOf (w : Opening) (k : Books) (p : BucketsPart) : Type 0 where
   pub cut : IsCutInto p.buckets.size (length p.buckets.records) w
   -- the first bucket for data
@@ -264,3 +339,16 @@ pub record AreBucketsOf (w : Opening) (k : Books) (p : BucketsPart) : Type 0 whe
       (pins_in k.owner ((w.before + q) * p.buckets.size) p.buckets.size)
       (bucket_of p.buckets (w.before + q))
   pub places : StandFor w.before p.buckets.size p.fill p.reserves k
+  pub outside : (n : ℕ) → n < w.before → (bucket_of p.buckets n).mark ≡ marks.Metadata
+  pub room : (list_of lists.Priorities p.reserves).room ≡ w.flow.books.sets
+  pub chain : IsChainOf w.before w.flow.books.sets k.chains.of k.chains.ready k.chains.sealed
+      p.chain.items p.renewing
+  pub round : IsRoundOf w.flow.books w.before (length p.buckets.records) k.round
+      p.buckets.touched p.round
+
+-- all of a part but its buckets, its lists and its open buckets is as it was
+pub record SameRest (p q : BucketsPart) : Type 0 where
+  pub chain : q.chain ≡ p.chain
+  pub renewing : q.renewing ≡ p.renewing
+  pub round : q.round ≡ p.round
+  pub served : q.served ≡ p.served

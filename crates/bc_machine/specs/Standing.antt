@@ -43,7 +43,7 @@ use Rattle.bc_machine.specs.declared.part.BucketsPart.{BucketsPart}
 use Rattle.bc_machine.specs.declared.part.SpinePart.{SpinePart}
 use Rattle.bc_machine.specs.declared.part.CorePart.{CorePart}
 use Rattle.bc_machine.specs.declared.part.CorePart.TheVariants as part
-use Rattle.bc_machine.specs.Containers.{IsInTree, IsTreeLeaf, IsTreeInner, inner_slot, IsSpineOf, Rests, IsAtRest, IsSpinePartOf, IsLeafFor, AreLeavesOf, IsJournalOf, IsBucketFor, pins_of, pins_in, AreBucketsOf}
+use Rattle.bc_machine.specs.Containers.{IsInTree, IsTreeLeaf, IsTreeInner, inner_slot, IsSpineOf, Rests, IsAtRest, IsSpinePartOf, IsLeafFor, AreLeavesOf, IsJournalOf, IsBucketFor, pins_of, pins_in, IsChainOf, IsRoundOf, AreBucketsOf}
 use Rattle.bc_machine.specs.World.{Side, model, behind, same_device, called, counted, held_after, held_after_failure, Begun, World, is_told, after, data_of, Origin, replay, IsCourseOf, IsOrigin, EndsItsChange, CanFollow, IsEnabled, is_call_of, touches_flight, lies_in, any_in, change_in, write_in, root_in, fault_in, touches_leaves, changes, claim_in, share_of, Kept, kept_of, notes_candidate, candidates_noted, IsCandidateOf, EachIsOf, AreCandidatesOf, seen_from, IsView, InEach, IsFlightOf, FromEach, IsSpine, IsSpinePart, AreBuckets, IsJournal, AreLeaves, IsCache, IsBackingOf, StandsAs, opening}
 use Rattle.bc_machine.specs.Roots.{NameTheSame, law_root}
 use Rattle.bc_machine.specs.Comes.{write_spares, root_spares, fault_spares, spares, tree_spared, law_comes}
@@ -329,6 +329,14 @@ buckets_stay p x e off = from_each x e
           (sym same.share) (h.records q low));
       places = law_kept o.opening (replay o x.log) e p.buckets.size p.fill p.reserves
           follows.enabled off h.places;
+      outside = h.outside;
+      room = h.room;
+      chain = subst (λ (s : BucketsShare). IsChainOf o.opening.machine.before
+          o.opening.machine.flow.books.sets s.chain s.ready s.sealed p.chain.items p.renewing)
+          (sym (law_buckets o.opening (replay o x.log) e follows.enabled off).share) h.chain;
+      round = subst (λ (s : BucketsShare). IsRoundOf o.opening.machine.flow.books
+          o.opening.machine.before (length p.buckets.records) s.round p.buckets.touched p.round)
+          (sym (law_buckets o.opening (replay o x.log) e follows.enabled off).share) h.round;
     })
 
 -- ---- leaves

@@ -5,7 +5,7 @@ ghost use Rattle.bc_alloc.specs.Reserves.{IsInOrder};
 ghost use Rattle.bc_fill.specs.Fill.{AreOpen};
 
 use bc_alloc::Reserves;
-use bc_bucket::Buckets;
+use bc_bucket::{Buckets, Walk};
 use bc_cache::NodeCache;
 use bc_fill::Fill;
 use bc_flight::flight::Flight;
@@ -56,6 +56,18 @@ pub struct BackingPart<B> {
     pub ghost fits: { offset + size < 2 ^ 64 },
 }
 
+/// A trace round: a walk over the leaves in the order of their sectors, at whose end the buckets get
+/// what it found. It lies with the buckets, so that whoever has these in hand may go on with it.
+#[derive(Drop)]
+pub struct Tracing {
+    /// What the walk found for each bucket. It stays once the round is over, until one begins.
+    pub walk: Walk,
+    /// Whether a round is open.
+    pub going: bool,
+    /// The leaves of the sectors below this one were walked, and no leaf of another sector was.
+    pub next: u64,
+}
+
 /// What is known of each bucket, the buckets that are ready to be taken, and those that are open for
 /// data.
 #[derive(Drop)]
@@ -63,6 +75,15 @@ pub struct BucketsPart {
     pub buckets: Buckets,
     pub reserves: Reserves,
     pub fill: Fill,
+    /// The chain of priority sets that was made ready last: its buckets, the first one first. They
+    /// go back to their list once the next one is ready.
+    pub chain: Vec<u32>,
+    /// Who seals an entry with a new chain sets it before, and takes it back once that is ready.
+    /// While it isn't set, no chain is newer than the one that is ready.
+    pub renewing: bool,
+    pub round: Tracing,
+    /// The sectors of answers and of keys of writes since the priorities of data were lowered last.
+    pub served: u64,
     pub ghost order: { IsInOrder reserves },
     pub ghost fit: { AreFor reserves buckets },
     pub ghost open: { ∥ AreOpen fill reserves buckets ∥₁ },

@@ -325,7 +325,7 @@ module _ (w : Opening) (x : parts.State)
       record {
         heard = refl;
         steps = (
-          subst (λ (p : Option Purpose). IsFor Tree (by_room p)) (sym listed) (inr refl),
+          subst (λ (p : Option Purpose). IsFor Tree (by_room p)) (sym listed) (inr (inl refl)),
           tt,
         );
         can = refl;

@@ -112,8 +112,8 @@ pub fn entries<R: CpuClock + AllocGlobal>(rt: &R, rounds: u32) -> io::Result<Opt
         sector: 512,
     };
     let newest = [0, 0, 0, 0, 0, 0, 0, 1];
-    let mut journal = Journal::new(rt.alloc(), &DEVICE, first, &newest, 1, 2)?;
     let heads = heads();
+    let mut journal = Journal::new(rt.alloc(), &DEVICE, first, &newest, 1, 2, &heads)?;
     let mut keys = vec![in rt.alloc(); key_at(0); KEYS]?;
     for (i, key) in keys.iter_mut().enumerate() {
         *key = key_at(i as u64);

@@ -1,20 +1,22 @@
 -- Places are named by the keys of a write: what that makes of the buckets, and that these stand for
 -- the state behind it.
-use Rattle.std.proofs.Common.{◌≡◌, ◌≢◌, ◌⊎◌, inl, inr, ℕ, zero, suc, ◌+◌, ◌-◌, ◌*◌, ◌/◌, ◌<◌, ◌≤◌, Bool, true, false, List, [], ◌∷◌, ◌++◌, length, reverse, get_or, set, take, refl, sym, ap, ◌∙◌, subst, arith}
-use Rattle.std.specs.Prelude.{◌==◌, ◌&&◌, ◌||◌, if◌then◌else◌, nat_lt}
+use Rattle.std.proofs.Common.{◌≡◌, ◌≢◌, ◌⊎◌, inl, inr, ℕ, zero, suc, ◌+◌, ◌-◌, ◌*◌, ◌/◌, ◌<◌, ◌≤◌, Bool, true, false, List, [], ◌∷◌, ◌++◌, length, reverse, get_or, set, take, refl, sym, ap, ◌∙◌, subst, arith, get_or-set_same, get_or-set_other, length-set}
+use Rattle.std.specs.Prelude.{◌==◌, ◌&&◌, ◌||◌, if◌then◌else◌, nat_lt, slice_index_or}
 use Rattle.std.proofs.lemmas.Bool.{cases_eq, cases_lt, lt-ltb}
 use Rattle.std.proofs.lemmas.List.{take_more}
 use Rattle.std.proofs.lemmas.Nat.{div-mul-add}
 use Rattle.std.proofs.Math.Nat.{mul-le-mul_right}
 use Rattle.bc_alloc.proofs.Fits.{changed_twice, other_stays, same_length, this_changes}
 use Rattle.bc_alloc.specs.Buckets.{AreFor}
-use Rattle.bc_alloc.specs.Reserves.{Reserves}
+use Rattle.bc_alloc.specs.Reserves.{Reserves, list_of}
+use Rattle.bc_alloc.specs.declared.purpose.Purpose.TheVariants as list
 use Rattle.bc_books.proofs.Cases.{by_within, put_run_cases}
 use Rattle.bc_books.specs.After as books
 use Rattle.bc_books.specs.Books.{Books, Put}
 use Rattle.bc_books.specs.Index.{Dirty, dirties, if_dirty, if_points, names, put, touches, within}
 use Rattle.bc_books.specs.Index as index
 use Rattle.bc_books.specs.Marks.{Mark, Dirtied, with_key}
+use Rattle.bc_books.specs.Round.{with_touched}
 use Rattle.bc_books.specs.Shelves.{Fresh, Own, Owner, Spent, put_run}
 use Rattle.bc_bucket.specs.Bucket.{marked}
 use Rattle.bc_bucket.specs.Buckets.{Buckets, bucket_of, changed}
@@ -26,12 +28,15 @@ use Rattle.bc_fill.specs.Fresh.{IsApart, IsOf}
 use Rattle.bc_fill.specs.declared.fill.Open.{Open}
 use Rattle.bc_fill.specs.declared.fill.Placed.{Placed}
 use Rattle.bc_key.specs.declared.key.Key.{Key}
-use Rattle.bc_deed.specs.bc_machine.Containers.{AreBucketsOf, IsBucketFor, pins_in, pins_of}
+use Rattle.bc_deed.proofs.of_bc_machine.Buckets.{chain_stays, touched_round}
+use Rattle.bc_deed.specs.bc_machine.Containers.{AreBucketsOf, IsBucketFor, IsRoundOf, pins_in, pins_of}
 use Rattle.bc_deed.specs.bc_machine.Frame.{by_test}
+use Rattle.bc_deed.specs.bc_machine.declared.part.BucketsPart.{BucketsPart}
+use Rattle.bc_deed.specs.bc_machine.declared.part.Tracing.{Tracing}
 use Rattle.bc_places.specs.Stands.{IsCutInto, StandFor}
 use Rattle.bc_shares.specs.Shares.{buckets_in, use_of}
 use Rattle.bc_whole.specs.State as whole
-use Rattle.bc_place.specs.Next.{all_named, named_at, place_named, with_named, without_pins}
+use Rattle.bc_place.specs.Next.{HasNamed, all_named, named_at, place_named, with_named, without_pins}
 use Rattle.bc_place.specs.Laws.{LawNamed}
 use Rattle.bc_place.specs.Named.{AreKeysFor, AreOwnIn, IsApartFrom}
 use Rattle.bc_place.specs.Place.{LiesIn}
@@ -107,6 +112,16 @@ pub size_named : (ps : List Placed) (b : Buckets) → (all_named ps b).size ≡ 
 size_named [] b = refl
 size_named (p ∷ ps) b = size_named ps (place_named p b) ∙ one_size p b
 
+one_long : (p : Placed) (b : Buckets)
+    → length (place_named p b).records ≡ length b.records
+one_long p b = one_keeps (λ (x : Buckets). length x.records ≡ length b.records) p b
+    (λ k. same_length (with_named p.count) k b) refl
+
+pub long_named : (ps : List Placed) (b : Buckets)
+    → length (all_named ps b).records ≡ length b.records
+long_named [] b = refl
+long_named (p ∷ ps) b = long_named ps (place_named p b) ∙ one_long p b
+
 -- ---- one place
 
 -- the buckets stand for these books
@@ -118,6 +133,10 @@ record Stands (w : whole.Opening) (fs : List Open) (r : Reserves) (k : Books) (b
       → IsBucketFor (w.flow.books.version q) q (buckets_in k)
       (pins_in k.owner ((w.before + q) * b.size) b.size) (bucket_of b (w.before + q))
   places : StandFor w.before b.size fs r k
+  outside : (n : ℕ) → n < w.before → (bucket_of b n).mark ≡ marks.Metadata
+  each : length b.touched ≡ length b.records
+  touches : (q : ℕ) → w.before + q < length b.records
+      → slice_index_or b.touched (w.before + q) false ≡ k.round.touched q
 
 run_in : (at n t : ℕ) → within at n t ≡ true → (at ≤ t) × (t < at + n)
 run_in at n t = by_within at n t (λ b. b ≡ true → (at ≤ t) × (t < at + n)) (λ r _. r)
@@ -134,6 +153,7 @@ abbrev with_place : (ℕ → ℕ) → Placed → Books → Books
 with_place bucket p k = record k {
   owner = put_run k.owner p.ptr.offset p.count Spent;
   mark = put k.mark (bucket p.ptr.offset) Dirtied;
+  round = with_touched (λ q. bucket p.ptr.offset == q) k.round;
 }
 
 module _ (w : whole.Opening) (fs : List Open) (r : Reserves) (i : ℕ) (k : Books) (b : Buckets)
@@ -258,6 +278,24 @@ module _ (w : whole.Opening) (fs : List Open) (r : Reserves) (i : ℕ) (k : Book
       (sym (other_stays (with_named count) number b (w.before + j)
       (λ e. ne (omega (arith, e))))) (other_record j inside ne)
 
+  touched_then : (j : ℕ) → w.before + j < length b.records → (j ≡ q0) ⊎ (j ≢ q0)
+      → slice_index_or (set b.touched number true) (w.before + j) false ≡ then_.round.touched j
+  touched_then j inside (inl e) =
+      ap (λ n. slice_index_or (set b.touched number true) (w.before + n) false) e
+      ∙ get_or-set_same b.touched number true false (let each = h.each in let in_ = known in
+      omega (arith, each, in_))
+      ∙ sym (by_test q0 j (λ c. (c || k.round.touched j) ≡ true) (λ _. refl)
+      (λ ne. absurd (ne (sym e))))
+  touched_then j inside (inr ne) =
+      get_or-set_other b.touched number (w.before + j) true false (λ e. ne (omega (arith, e)))
+      ∙ h.touches j inside
+      ∙ sym (by_test q0 j (λ c. (c || k.round.touched j) ≡ k.round.touched j)
+      (λ is. absurd (ne (sym is))) (λ _. refl))
+
+  outside_then : (n : ℕ) → n < w.before → (bucket_of final n).mark ≡ marks.Metadata
+  outside_then n less = ap (λ (x : Bucket). x.mark)
+      (other_stays (with_named count) number b n (λ e. omega (arith, e, less))) ∙ h.outside n less
+
   still_fresh : (t : ℕ) → k.owner t ≡ Fresh → then_.owner t ≡ Fresh
   still_fresh t fresh = put_run_cases k.owner at count t Spent (λ x. x ≡ Fresh) (λ out. fresh)
       (λ is. absurd (own_fresh i (k.owner t) (own t is) fresh))
@@ -282,6 +320,12 @@ module _ (w : whole.Opening) (fs : List Open) (r : Reserves) (i : ℕ) (k : Book
       };
       lists = record { lists = h.places.lists.lists; raised = h.places.lists.raised };
     };
+    outside = outside_then;
+    each = length-set b.touched number true ∙ h.each
+        ∙ sym (same_length (with_named count) number b);
+    touches = λ j inside. touched_then j
+        (let long = same_length (with_named count) number b in omega (arith, long, inside))
+        (cases_eq j q0);
   }
 
   one_stands : Stands w fs r then_ (place_named pl b)
@@ -300,10 +344,16 @@ abbrev named_mark : (ℕ → ℕ) → (ℕ → Mark) → List Placed → ℕ →
 named_mark bucket mark [] = mark
 named_mark bucket mark (p ∷ ps) = named_mark bucket (put mark (bucket p.ptr.offset) Dirtied) ps
 
+abbrev named_touched : (ℕ → ℕ) → (ℕ → Bool) → List Placed → ℕ → Bool
+named_touched bucket touched [] = touched
+named_touched bucket touched (p ∷ ps) =
+    named_touched bucket (λ q. (bucket p.ptr.offset == q) || touched q) ps
+
 abbrev with_places : (ℕ → ℕ) → List Placed → Books → Books
 with_places bucket ps k = record k {
   owner = named_owner k.owner ps;
   mark = named_mark bucket k.mark ps;
+  round = record k.round { touched = named_touched bucket k.round.touched ps };
 }
 
 own_outside : (i : ℕ) (k : Books) (p q : Placed) → IsApart p q
@@ -349,6 +399,11 @@ key_last false true true m = refl
 key_last false true false m = refl
 key_last false false true m = refl
 key_last false false false m = refl
+
+touch_last : (x y t : Bool) → ((x || (y || false)) || t) ≡ (x || (y || t))
+touch_last true y t = refl
+touch_last false true t = refl
+touch_last false false t = refl
 
 flip : (a b : ℕ) → (a == b) ≡ (b == a)
 flip a b = by_test a b (λ c. c ≡ (b == a))
@@ -411,6 +466,18 @@ module _ (bucket version : ℕ → ℕ) where
       (flip (bucket p.ptr.offset) q)
       ∙ mark_is ps (n + p.count) (put mark (bucket p.ptr.offset) Dirtied) q
 
+  pub touched_is : (ps : List Placed) (n : ℕ) (touched : ℕ → Bool) (q : ℕ)
+      → (touches bucket (listed n ps) q || touched q) ≡ named_touched bucket touched ps q
+  touched_is [] n touched q = refl
+  touched_is (p ∷ ps) n touched q =
+      ap (λ ks. touches bucket ks q || touched q)
+      (turned (book_of bucket version n p) (books_for bucket version (n + p.count) ps))
+      ∙ ap (λ b. b || touched q) (touches_append bucket (listed (n + p.count) ps)
+      (book_of bucket version n p ∷ []) q)
+      ∙ touch_last (touches bucket (listed (n + p.count) ps) q) (bucket p.ptr.offset == q)
+      (touched q)
+      ∙ touched_is ps (n + p.count) (λ b. (bucket p.ptr.offset == b) || touched b) q
+
 pins_same : (f g : ℕ → Owner) → ((t : ℕ) → f t ≡ g t) → (place m : ℕ)
     → pins_in f place m ≡ pins_in g place m
 pins_same f g same place zero = refl
@@ -465,7 +532,41 @@ module _ (w : whole.Opening) (fs : List Open) (r : Reserves) (k : Books) (leaf n
       };
       lists = record { lists = h.places.lists.lists; raised = h.places.lists.raised };
     };
+    outside = h.outside;
+    each = h.each;
+    touches = λ q inside. h.touches q inside
+        ∙ sym (touched_is w.flow.books.bucket k.generations.version ps n k.round.touched q);
   }
+
+-- the part behind the insertion stands for the books behind it
+module _ (w : whole.Opening) (k : Books) (p q : BucketsPart) (leaf n : ℕ) (ps : List Placed)
+    (h : AreBucketsOf w k p) (named : HasNamed p ps q) where
+  abbrev behind : Books
+  behind = inserted w p.fill p.reserves k leaf n ps
+
+  as_part : Stands w p.fill p.reserves behind (all_named ps p.buckets) → AreBucketsOf w behind q
+  as_part s =
+      let there = subst (Stands w p.fill p.reserves behind) (sym named.buckets) s in
+      let long = ap (λ (b : Buckets). length b.records) named.buckets ∙ long_named ps p.buckets in
+      record {
+        cut = there.cut;
+        data_from = there.data_from;
+        records = there.records;
+        places = subst (λ (gs : List Open). StandFor w.before q.buckets.size gs q.reserves behind)
+            (sym named.fill)
+            (subst (λ (y : Reserves). StandFor w.before q.buckets.size p.fill y behind)
+            (sym named.reserves) there.places);
+        outside = there.outside;
+        room = ap (λ (y : Reserves). (list_of list.Priorities y).room) named.reserves ∙ h.room;
+        chain = chain_stays w.before w.flow.books.sets k.chains.of k.chains.ready k.chains.sealed p
+            q named.rest h.chain;
+        round = subst (λ (t : Tracing). IsRoundOf w.flow.books w.before
+            (length q.buckets.records) behind.round q.buckets.touched t) (sym named.rest.round)
+            (touched_round w.flow.books w.before k.round p.round behind.round.touched
+            (length q.buckets.records) p.buckets.touched q.buckets.touched there.each
+            there.touches (subst (λ m. IsRoundOf w.flow.books w.before m k.round
+            p.buckets.touched p.round) (sym long) h.round));
+      }
 
 pub law_named : LawNamed
 law_named w k p q i n leaf ps keys are own h named =
@@ -477,19 +578,9 @@ law_named w k p q i n leaf ps keys are own h named =
       data_from = h.data_from;
       records = h.records;
       places = h.places;
+      outside = h.outside;
+      each = h.round.each;
+      touches = h.round.touches;
     }) own) in
     subst (λ ks. AreBucketsOf w (books.after w.flow.books k (Put leaf ks)) q) (sym listed_)
-    (as_part (inserted w p.fill p.reserves k leaf n ps) all)
-  where
-    as_part : (x : Books) → Stands w p.fill p.reserves x (all_named ps p.buckets)
-        → AreBucketsOf w x q
-    as_part x s =
-        let there = subst (Stands w p.fill p.reserves x) (sym named.buckets) s in record {
-          cut = there.cut;
-          data_from = there.data_from;
-          records = there.records;
-          places = subst (λ (gs : List Open). StandFor w.before q.buckets.size gs q.reserves x)
-              (sym named.fill)
-              (subst (λ (y : Reserves). StandFor w.before q.buckets.size p.fill y x)
-              (sym named.reserves) there.places);
-        }
+    (as_part w k p q leaf n ps h named all)

@@ -6,12 +6,15 @@ use Rattle.std.proofs.lemmas.Bool.{cases_eq, cases_lt, lt-ltb}
 use Rattle.std.proofs.Math.Nat.{mul-le-mul_right}
 use Rattle.bc_alloc.proofs.Fits.{other_stays, same_length, this_changes}
 use Rattle.bc_alloc.specs.Reserve.{times}
-use Rattle.bc_alloc.specs.Reserves.{Reserves}
+use Rattle.bc_alloc.specs.Reserves.{Reserves, list_of}
+use Rattle.bc_alloc.specs.declared.purpose.Purpose.TheVariants as list
 use Rattle.bc_books.proofs.Cases.{by_within}
 use Rattle.bc_books.specs.After as books
 use Rattle.bc_books.specs.Books.{Books, Pin}
+use Rattle.bc_books.specs.Chains.{Chains}
 use Rattle.bc_books.specs.Enabled.{CanPin}
 use Rattle.bc_books.specs.Index.{within}
+use Rattle.bc_books.specs.Round.{Round}
 use Rattle.bc_books.specs.Shelves.{Fresh, Loose, Open, Own, Owner, put_run}
 use Rattle.bc_bucket.specs.Bucket.{with_held}
 use Rattle.bc_bucket.specs.Buckets.{Buckets, bucket_of, changed}
@@ -26,7 +29,8 @@ use Rattle.bc_fill.specs.declared.fill.Placed.{Placed}
 use Rattle.bc_deed.specs.bc_hand.Seats.{by}
 use Rattle.bc_known.specs.Laws.{IsSound}
 use Rattle.bc_leaves.proofs.Chains.{put_else, put_there}
-use Rattle.bc_deed.specs.bc_machine.Containers.{AreBucketsOf, IsBucketFor, is_held, pins_in}
+use Rattle.bc_deed.proofs.of_bc_machine.Buckets.{chain_stays, mark_stays, round_stays}
+use Rattle.bc_deed.specs.bc_machine.Containers.{AreBucketsOf, IsBucketFor, IsChainOf, IsRoundOf, is_held, pins_in}
 use Rattle.bc_deed.specs.bc_machine.World.{IsCourseOf, Origin, replay}
 use Rattle.bc_deed.specs.bc_machine.declared.part.BucketsPart.{BucketsPart}
 use Rattle.bc_places.proofs.Cut.{can_pin, cut_stands, shuts}
@@ -329,6 +333,24 @@ module _ (o : Origin) (sound : IsSound o.opening.machine o.parts)
   data_by true = refl
   data_by false = refl
 
+  touched_by : (f : Bool) → (final_by f).touched ≡ p.buckets.touched
+  touched_by true = refl
+  touched_by false = refl
+
+  marks_by : (f : Bool) (m : ℕ) → (bucket_of (final_by f) m).mark ≡ (bucket_of p.buckets m).mark
+  marks_by true m = mark_stays (with_pins pl.count) (λ x. refl) first.bucket
+      (changed (with_held false) first.bucket p.buckets) m
+      ∙ mark_stays (with_held false) (λ x. refl) first.bucket p.buckets m
+  marks_by false m = mark_stays (with_pins pl.count) (λ x. refl) first.bucket p.buckets m
+
+  chains_by : (f : Bool) → (then_by f).chains ≡ k.chains
+  chains_by true = refl
+  chains_by false = refl
+
+  round_by : (f : Bool) → (then_by f).round ≡ k.round
+  round_by true = refl
+  round_by false = refl
+
   own_by : (f : Bool) → bucket_of (final_by f) first.bucket
       ≡ with_pins pl.count (shut_record f (bucket_of p.buckets first.bucket))
   own_by true = this_changes (with_pins pl.count) first.bucket
@@ -419,6 +441,17 @@ module _ (o : Origin) (sound : IsSound o.opening.machine o.parts)
           (subst (λ fs. StandFor w.before size fs q.reserves (then_by is_full)) (sym fill_is)
           (subst (λ (r : Reserves). StandFor w.before size (after size pl.count first next.rest) r
           (then_by is_full)) (sym c.reserves) places_then));
+      outside = λ m less. ap (λ (b : Buckets). (bucket_of b m).mark) buckets_are
+          ∙ marks_by is_full m ∙ h.outside m less;
+      room = ap (λ (r : Reserves). (list_of list.Priorities r).room) c.reserves ∙ h.room;
+      chain = subst (λ (x : Chains). IsChainOf w.before w.flow.books.sets x.of x.ready x.sealed
+          q.chain.items q.renewing) (sym (chains_by is_full))
+          (chain_stays w.before w.flow.books.sets k.chains.of k.chains.ready k.chains.sealed p q
+          c.rest h.chain);
+      round = subst (λ (x : Round). IsRoundOf w.flow.books w.before (length q.buckets.records) x
+          q.buckets.touched q.round) (sym (round_by is_full))
+          (round_stays w.flow.books w.before k.round p q (final_by is_full) c.rest buckets_are
+          (long_by is_full) (touched_by is_full) h.round);
     }
 
     pub pin_stands : AreBucketsOf w

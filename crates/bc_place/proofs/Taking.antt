@@ -1,10 +1,10 @@
 -- A bucket is taken for data: when that may be, and what the buckets in hand stand for then.
-use Rattle.std.proofs.Common.{◌≡◌, ◌≢◌, ◌⊎◌, inl, inr, ℕ, ◌+◌, ◌-◌, ◌*◌, ◌<◌, ◌≤◌, Bool, true, false, List, [], ◌∷◌, length, refl, sym, ap, ◌∙◌, subst, arith}
+use Rattle.std.proofs.Common.{◌≡◌, ◌≢◌, ◌⊎◌, inl, inr, ℕ, ◌+◌, ◌-◌, ◌*◌, ◌<◌, ◌≤◌, Bool, true, false, List, [], ◌∷◌, length, refl, sym, ap, ◌∙◌, subst, arith, get_or-set_other}
 use Rattle.std.specs.Prelude.{slice_index}
 use Rattle.std.proofs.lemmas.Bool.{cases_eq, lt-ltb}
 use Rattle.bc_alloc.proofs.Fits.{other_stays, same_length, this_changes}
-use Rattle.bc_alloc.specs.Reserve.{times}
-use Rattle.bc_alloc.specs.Reserves.{list_of}
+use Rattle.bc_alloc.specs.Reserve.{Reserve, no_reserve, times}
+use Rattle.bc_alloc.specs.Reserves.{Reserves, list_of}
 use Rattle.bc_alloc.specs.declared.purpose.Purpose.TheVariants as list
 use Rattle.bc_books.specs.After as books
 use Rattle.bc_books.specs.Books.{Books, Take}
@@ -20,6 +20,7 @@ use Rattle.bc_fill.specs.Fill.{AreOpen}
 use Rattle.bc_deed.specs.bc_hand.Seats.{by}
 use Rattle.bc_known.specs.Laws.{IsSound}
 use Rattle.bc_leaves.proofs.Chains.{put_else, put_there}
+use Rattle.bc_deed.proofs.of_bc_machine.Buckets.{chain_stays, mark_stays, round_stays}
 use Rattle.bc_deed.specs.bc_machine.Containers.{AreBucketsOf, IsBucketFor, is_held, pins_in}
 use Rattle.bc_deed.specs.bc_machine.World.{IsCourseOf, Origin, replay}
 use Rattle.bc_deed.specs.bc_machine.declared.part.BucketsPart.{BucketsPart}
@@ -165,6 +166,17 @@ module _ (o : Origin) (sound : IsSound o.opening.machine o.parts)
           (opened_stands w.flow.books k w.before i n p.reserves q.reserves p.buckets
           (order_course o sound es on) (spread w p sound.laid h.cut) p.order p.fit p.sized opens
           stands f.taken));
+      outside = λ m less. ap (λ (b : Buckets). (bucket_of b m).mark) f.buckets
+          ∙ mark_stays (with_held true) (λ x. refl) n p.buckets m ∙ h.outside m less;
+      room = ap (λ (r : Reserves). (list_of list.Priorities r).room) f.taken.others
+          ∙ ap (λ (l : Reserve). l.room) (get_or-set_other p.reserves.lists 3 0
+          (record (list_of list.Plain p.reserves) {
+            buckets = (list_of list.Plain q.reserves).buckets;
+          }) no_reserve (λ e. omega (arith, e))) ∙ h.room;
+      chain = chain_stays w.before w.flow.books.sets k.chains.of k.chains.ready k.chains.sealed p q
+          f.rest h.chain;
+      round = round_stays w.flow.books w.before k.round p q (changed (with_held true) n p.buckets)
+          f.rest f.buckets (same_length (with_held true) n p.buckets) refl h.round;
     }
 
     pub take_stands : AreBucketsOf w

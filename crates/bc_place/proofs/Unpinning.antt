@@ -4,7 +4,8 @@ use Rattle.std.proofs.lemmas.Bool.{cases_eq, cases_lt, lt-ltb}
 use Rattle.std.proofs.lemmas.Nat.{div-mul-add}
 use Rattle.std.proofs.Math.Nat.{mul-le-mul_right}
 use Rattle.bc_alloc.proofs.Fits.{other_stays, same_length, this_changes}
-use Rattle.bc_alloc.specs.Reserves.{Reserves}
+use Rattle.bc_alloc.specs.Reserves.{Reserves, list_of}
+use Rattle.bc_alloc.specs.declared.purpose.Purpose.TheVariants as list
 use Rattle.bc_books.proofs.Cases.{by_within, put_run_cases}
 use Rattle.bc_books.specs.After as books
 use Rattle.bc_books.specs.Books.{Books, Unpin}
@@ -18,6 +19,7 @@ use Rattle.bc_events.specs.declared.event.UnpinKind.TheVariants as unpin
 use Rattle.bc_fill.specs.declared.fill.Open as fill
 use Rattle.bc_fill.specs.declared.fill.Placed.{Placed}
 use Rattle.bc_deed.specs.bc_hand.Seats.{by}
+use Rattle.bc_deed.proofs.of_bc_machine.Buckets.{chain_stays, mark_stays, round_stays}
 use Rattle.bc_deed.specs.bc_machine.Containers.{AreBucketsOf, IsBucketFor, pins_in}
 use Rattle.bc_deed.specs.bc_machine.World.{Origin, replay}
 use Rattle.bc_deed.specs.bc_machine.declared.part.BucketsPart.{BucketsPart}
@@ -234,6 +236,13 @@ module _ (o : Origin) (not_plain : o.opening.machine.flow.plain ≡ false) (es :
           (subst (λ (fs : List fill.Open). StandFor w.before size fs q.reserves then_) (sym go.fill)
           (subst (λ (r : Reserves). StandFor w.before size p.fill r then_) (sym go.reserves)
           places_then));
+      outside = λ m less. ap (λ (b : Buckets). (bucket_of b m).mark) buckets_are
+          ∙ mark_stays (without_pins count) (λ x. refl) number p.buckets m ∙ h.outside m less;
+      room = ap (λ (r : Reserves). (list_of list.Priorities r).room) go.reserves ∙ h.room;
+      chain = chain_stays w.before w.flow.books.sets k.chains.of k.chains.ready k.chains.sealed p q
+          go.rest h.chain;
+      round = round_stays w.flow.books w.before k.round p q final go.rest buckets_are
+          (same_length (without_pins count) number p.buckets) refl h.round;
     }
 
     pub unpin_stands : AreBucketsOf w

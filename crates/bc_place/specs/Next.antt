@@ -9,6 +9,7 @@ use Rattle.bc_bucket.specs.declared.bucket.Mark.TheVariants as marks
 use Rattle.bc_fill.specs.Fill.{IsCut, IsPlacedIn, just_opened}
 use Rattle.bc_fill.specs.declared.fill.Open.{Open}
 use Rattle.bc_fill.specs.declared.fill.Placed.{Placed}
+use Rattle.bc_deed.specs.bc_machine.Containers.{SameRest}
 use Rattle.bc_deed.specs.bc_machine.declared.part.BucketsPart.{BucketsPart}
 use Rattle.bc_places.specs.Steps.{fills}
 
@@ -22,6 +23,7 @@ pub record HasFirst (p q : BucketsPart) : Type 0 where
   pub taken : TakesFirst list.Plain bucket p.reserves q.reserves
   pub buckets : q.buckets ≡ changed (with_held true) bucket p.buckets
   pub fill : q.fill ≡ just_opened bucket ∷ []
+  pub rest : SameRest p q
 
 -- the next place, in the first open bucket
 pub record IsNext (part : BucketsPart) (count : ℕ) (p : Placed) (full : Bool) : Type 0 where
@@ -39,6 +41,7 @@ pub record HasCut (part : BucketsPart) (count : ℕ) (p : Placed) (new : Buckets
   pub between : Buckets
   pub cut : IsCut part.fill new.fill part.buckets between count p
   pub buckets : new.buckets ≡ changed (with_pins p.count) cut.first.bucket between
+  pub rest : SameRest part new
 
 abbrev pub without_pins : ℕ → Bucket → Bucket
 without_pins n b = record b { pins = b.pins - n }
@@ -52,6 +55,7 @@ pub record IsLetGo (part : BucketsPart) (p : Placed) (new : BucketsPart) : Type 
   pub unpinned : p.ptr.offset / part.buckets.size < length part.buckets.records
       → new.buckets
       ≡ changed (without_pins p.count) (p.ptr.offset / part.buckets.size) part.buckets
+  pub rest : SameRest part new
 
 -- ---- keys of a write name places
 
@@ -78,3 +82,4 @@ pub record HasNamed (part : BucketsPart) (ps : List Placed) (new : BucketsPart) 
   pub reserves : new.reserves ≡ part.reserves
   pub fill : new.fill ≡ part.fill
   pub buckets : new.buckets ≡ all_named ps part.buckets
+  pub rest : SameRest part new

@@ -61,7 +61,11 @@ law_begins w before size r lists none = record {
 pub law_refused : LawRefused
 law_refused w k before size r h none = record {
   none_open = λ q is. none_in (before + q) (h.opens.buckets.all q is);
-  none_ready = λ seat q can. elim can [ inl is ↦ wrong q is | inr is ↦ wrong q is ];
+  none_ready = λ seat q can. elim can [
+    | inl is ↦ wrong q is
+    | inr (inl is) ↦ wrong q is
+    | inr (inr is) ↦ (let other = is.0 in cc)
+  ];
 }
   where
     wrong : (q : ℕ) → k.shelf q ≡ Listed Plain → ⊥

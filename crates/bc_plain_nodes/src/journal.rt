@@ -30,6 +30,7 @@ pub struct PlainJournal {
     next: Place,
     newest: Vec<u64>,
     durable: Numbers,
+    heads: Heads,
     sealed: Option<Numbers>,
     waiting: Vec<Key>,
     needed: u64,
@@ -54,6 +55,7 @@ impl Model for PlainJournal {
     ghost view = { λ j. record {
       ring = record { geometry = j.geometry; next = j.next; newest = j.newest.items };
       durable = j.durable;
+      heads = j.heads;
       sealed = j.sealed;
       waiting = j.waiting.items;
       needed = j.needed;
@@ -110,12 +112,14 @@ impl PlainJournal {
         newest: &[u64],
         needed: u64,
         next: u64,
+        heads: &Heads,
     ) -> Result<PlainJournal, AllocError>
         requires place { IsPlace g.now at }
         requires buckets { length newest.now ≡ g.now.journal }
         requires some { 0 < next }
         requires next { next ≤ 2 ^ 63 }
-        ensures { IfOk result (λ j. j ≡ journal_at g.now at newest.now needed next) }
+        ensures { IfOk result (λ j. j
+            ≡ journal_at g.now at newest.now needed next heads.now) }
     {
         let newest = newest.to_vec(alloc)?;
         Ok(PlainJournal {
@@ -127,6 +131,7 @@ impl PlainJournal {
                 seq: next - 1,
                 last_seq: needed,
             },
+            heads: *heads,
             sealed: None,
             waiting: Vec::new(alloc),
             needed,
@@ -154,7 +159,14 @@ impl PlainJournal {
         self.durable
     }
 
-    /// Those of the entry that is being written.
+    /// What the newest durable entry names.
+    pub fn heads(&self) -> &Heads
+        ensures { result.now ≡ self.now.heads }
+    {
+        &self.heads
+    }
+
+    /// The numbers of the entry that is being written.
     pub fn sealed(&self) -> Option<Numbers>
         ensures { result ≡ self.now.sealed }
     {
@@ -280,12 +292,18 @@ impl PlainJournal {
         })
     }
 
-    /// The entry that was being written, with these numbers, is the newest durable one.
-    pub fn written(&mut self, numbers: Numbers)
+    /// The entry that was being written, with these numbers, is the newest durable one, and names
+    /// this.
+    pub fn written(&mut self, numbers: Numbers, heads: &Heads)
         requires { self.old.sealed ≡ Some numbers }
-        ensures { self.new ≡ record self.old { durable = numbers; sealed = None } }
+        ensures { self.new ≡ record self.old {
+          durable = numbers;
+          heads = heads.now;
+          sealed = None;
+        } }
     {
         self.durable = numbers;
+        self.heads = *heads;
         self.sealed = None;
     }
 

@@ -57,15 +57,23 @@ fn key_at(end: u64, offset: u64) -> Key {
     Key::new(end, 8, true, Some(pointer))
 }
 
-fn heads() -> Heads
+/// What an entry of a root in this bucket names.
+fn heads_at(sector: u64) -> Heads
     ensures { result.level ≡ 1 }
 {
     Heads {
         uuid_bucket: key_at(64, 640),
-        root: key_at(1 << 40, 704),
+        root: key_at(1 << 40, sector),
         level: 1,
         prio: 9,
     }
+}
+
+/// What the first entries name.
+fn heads() -> Heads
+    ensures { result.level ≡ 1 }
+{
+    heads_at(704)
 }
 
 /// What came in a run.
@@ -89,6 +97,7 @@ fn agree(rt: &impl Abort, journal: &Journal, plain: &PlainJournal, words: usize)
         (journal.sealed(), journal.number()),
         (plain.sealed(), plain.number())
     );
+    assert!(rt; journal.heads() == plain.heads());
     assert!(rt; journal.waiting() == plain.waiting());
     assert_eq!(rt; journal.ring().next(), plain.next());
     assert!(rt; journal.ring().newest() == plain.newest());
@@ -232,12 +241,13 @@ fn seal(
     }
     let bucket = journal.ring().next().bucket;
     let low = plain.durable().last_seq;
-    let Ok(sealed) = journal.seal(&heads()) else {
-        assert!(rt; plain.seal(&heads()).is_err());
+    let heads = heads_at(random.below(1 << 30));
+    let Ok(sealed) = journal.seal(&heads) else {
+        assert!(rt; plain.seal(&heads).is_err());
         seen.ended = seen.ended.saturating_add(1);
         return Ok(None);
     };
-    let Ok(other) = plain.seal(&heads()) else {
+    let Ok(other) = plain.seal(&heads) else {
         assert!(rt; false);
         return Ok(None);
     };
@@ -270,7 +280,7 @@ fn written(rt: &impl Abort, journal: &mut Journal, plain: &mut PlainJournal, sea
     let numbers = sealed.numbers();
     assert!(rt; are_numbers(journal.sealed(), numbers));
     assert!(rt; are_numbers(plain.sealed(), numbers));
-    plain.written(numbers);
+    plain.written(numbers, sealed.heads());
     journal.written(sealed);
 }
 
@@ -358,16 +368,16 @@ fn run(
 /// Journals of which the first entry gets the number 1.
 fn narrow(alloc: Global) -> Result<(Journal, PlainJournal), AllocError> {
     let newest = [0, 0, 0, 0];
-    let journal = Journal::new(alloc, &NARROW, FRONT, &newest, 0, 1)?;
-    let plain = PlainJournal::new(alloc, &NARROW, FRONT, &newest, 0, 1)?;
+    let journal = Journal::new(alloc, &NARROW, FRONT, &newest, 0, 1, &heads())?;
+    let plain = PlainJournal::new(alloc, &NARROW, FRONT, &newest, 0, 1, &heads())?;
     Ok((journal, plain))
 }
 
 /// The same in blocks of two sectors.
 fn wide(alloc: Global) -> Result<(Journal, PlainJournal), AllocError> {
     let newest = [0, 0, 0, 0];
-    let journal = Journal::new(alloc, &WIDE, FRONT, &newest, 0, 1)?;
-    let plain = PlainJournal::new(alloc, &WIDE, FRONT, &newest, 0, 1)?;
+    let journal = Journal::new(alloc, &WIDE, FRONT, &newest, 0, 1, &heads())?;
+    let plain = PlainJournal::new(alloc, &WIDE, FRONT, &newest, 0, 1, &heads())?;
     Ok((journal, plain))
 }
 
@@ -375,8 +385,8 @@ fn wide(alloc: Global) -> Result<(Journal, PlainJournal), AllocError> {
 fn ending(alloc: Global) -> Result<(Journal, PlainJournal), AllocError> {
     let newest = [0, 0, 0, 0];
     let next = (1 << 63) - 30;
-    let journal = Journal::new(alloc, &NARROW, FRONT, &newest, next - 1, next)?;
-    let plain = PlainJournal::new(alloc, &NARROW, FRONT, &newest, next - 1, next)?;
+    let journal = Journal::new(alloc, &NARROW, FRONT, &newest, next - 1, next, &heads())?;
+    let plain = PlainJournal::new(alloc, &NARROW, FRONT, &newest, next - 1, next, &heads())?;
     Ok((journal, plain))
 }
 
@@ -434,11 +444,11 @@ fn number_in(alloc: Global, bytes: &[u8]) -> Option<u64> {
 fn each_torn_form_of_eighty_keys(rt: HostRuntime) -> Result<(), Fail> {
     let alloc = rt.alloc();
     let newest = [0, 0, 0, 0];
-    let journal = Journal::new(alloc, &NARROW, FRONT, &newest, 6, 7)?;
+    let journal = Journal::new(alloc, &NARROW, FRONT, &newest, 6, 7, &heads())?;
     let new = eighty(&rt, alloc, journal, 640)?;
     assert_eq!(rt; new.len(), 2560);
     // Over zeros, and over an older entry of as many keys.
-    let journal = Journal::new(alloc, &NARROW, FRONT, &newest, 2, 3)?;
+    let journal = Journal::new(alloc, &NARROW, FRONT, &newest, 2, 3, &heads())?;
     for (old, number) in [
         (vec![in alloc; 0u8; 2560]?, None),
         (eighty(&rt, alloc, journal, 0)?, Some(3)),

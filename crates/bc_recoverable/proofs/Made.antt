@@ -22,8 +22,8 @@ use Rattle.bc_leaves.specs.After.{has}
 use Rattle.bc_known.specs.Acts as known
 use Rattle.bc_known.specs.Acts.{Act, Alone, BeginBucket, BeginChange, CacheBarrier, FailCache, ForgetDrafts, Install, Keyed, LetGo, MakeDurable, ReadyChain, Seal, Take, WriteCache}
 use Rattle.bc_known.specs.Run as machine
-use Rattle.bc_machine.specs.Standing.{oldest_first, replay_is, replay_runs}
-use Rattle.bc_machine.specs.World.{IsCourseOf, Origin, replay}
+use Rattle.bc_dirty_laws.specs.bc_machine.Standing.{oldest_first, replay_is, replay_runs}
+use Rattle.bc_dirty_laws.specs.bc_machine.World.{IsCourseOf, Origin, replay}
 use Rattle.bc_model.specs.Sector.{Value}
 use Rattle.bc_reopened.specs.bc_ranges.Made.{AreWellMade, Frame}
 use Rattle.bc_whole.specs.State as whole

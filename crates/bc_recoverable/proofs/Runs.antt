@@ -14,8 +14,8 @@ use Rattle.bc_image.specs.Reading.{View}
 use Rattle.bc_image.specs.Shown.{shown_by}
 use Rattle.bc_known.specs.Acts as known
 use Rattle.bc_known.specs.Run as machine
-use Rattle.bc_machine.specs.Standing.{oldest_first, replay_is, replay_runs}
-use Rattle.bc_machine.specs.World.{IsCourseOf, IsUntorn, Origin, replay}
+use Rattle.bc_dirty_laws.specs.bc_machine.Standing.{oldest_first, replay_is, replay_runs}
+use Rattle.bc_dirty_laws.specs.bc_machine.World.{IsCourseOf, IsUntorn, Origin, replay}
 use Rattle.bc_meta.specs.Layout.{Layout}
 use Rattle.bc_model.specs.History.{Allowed, IsLegal}
 use Rattle.bc_model.specs.Sector.{Image}
@@ -37,22 +37,22 @@ untorn_last o (e ∷ es) on = on.1
 
 module _ (p : Pair) (v : View) (layout : Layout) (x : Parts) (o : Origin) (es : List Event)
     (h : IsRunFrom p v layout x o es) where
-  abbrev first : State
+  abbrev pub first : State
   first = core.start o.opening o.parts o.next_seq
 
-  abbrev run : List Event
+  abbrev pub run : List Event
   run = oldest_first es
 
-  abbrev end : State
+  abbrev pub end : State
   end = core.run o.opening first run
 
-  abbrev acts : List known.Event
+  abbrev pub acts : List known.Event
   acts = machine_events o.opening first run
 
-  abbrev choices : Choices
+  abbrev pub choices : Choices
   choices = choices_of v.geometry v.reading x
 
-  opens : IsOpenedAs p v layout choices o.opening.machine o.parts
+  pub opens : IsOpenedAs p v layout choices o.opening.machine o.parts
   opens = record {
     view = h.view;
     parts = h.sound;
@@ -61,27 +61,27 @@ module _ (p : Pair) (v : View) (layout : Layout) (x : Parts) (o : Origin) (es : 
     sound = h.starts;
   }
 
-  course : core.IsRun o.opening first run
+  pub course : core.IsRun o.opening first run
   course = replay_runs o es h.course
 
-  well_made : AreWellMade (frame_of p v) o.opening.machine first.machine acts
+  pub well_made : AreWellMade (frame_of p v) o.opening.machine first.machine acts
   well_made = all_made (frame_of p v) o es h.course h.made
 
-  laid : IsLayoutOf v.geometry o.opening.machine.layout
+  pub laid : IsLayoutOf v.geometry o.opening.machine.layout
   laid = subst (IsLayoutOf v.geometry) (sym h.opened.layout_is) h.divided
 
-  abbrev NoTorn : known.State → Type 0
+  abbrev pub NoTorn : known.State → Type 0
   NoTorn st = NoTornRecord v.geometry o.opening.machine.store.image st.whole.store.places
 
-  untorn : NoTorn end.machine
+  pub untorn : NoTorn end.machine
   untorn = subst (λ (st : State). NoTorn st.machine) (replay_is o es)
       (untorn_last o es h.course v.geometry laid)
 
-  last : end.machine ≡ machine.run o.opening.machine first.machine acts
+  pub last : end.machine ≡ machine.run o.opening.machine first.machine acts
   last = (law_machine o.opening first run course).last
 
   module _ (left : Pair) (is : IsLeftOf p v.backing.data_offset end.machine left) where
-    again : IsSoundAgain left v
+    pub again : IsSoundAgain left v
     again = (sound.law_events p v o.opening o.parts o.next_seq run (record {
       opening = law_opened p v layout choices o.opening.machine o.parts
           (opens, law_chosen p v x h.view h.sound h.read);
@@ -90,10 +90,10 @@ module _ (p : Pair) (v : View) (layout : Layout) (x : Parts) (o : Origin) (es : 
       no_torn = untorn;
     }) left is).0
 
-    abbrev later : View
+    abbrev pub later : View
     later = view_with v again.0
 
-    here : IsLeftOf p v.backing.data_offset
+    pub here : IsLeftOf p v.backing.data_offset
         (machine.run o.opening.machine first.machine acts) left
     here = subst (λ (st : known.State). IsLeftOf p v.backing.data_offset st left) last is
 

@@ -9,7 +9,7 @@ use Rattle.bc_events.specs.declared.event.Failure.{Failure}
 use Rattle.bc_events.specs.declared.event.Failure.TheVariants as failure
 use Rattle.bc_events.specs.declared.event.Written.{Written}
 use Rattle.bc_events.specs.declared.event.Written.TheVariants as written
-use Rattle.bc_machine.specs.World.{Origin, replay}
+use Rattle.bc_dirty_laws.specs.bc_machine.World.{Origin, replay}
 use Rattle.bc_reopened.specs.bc_ranges.Made.{AreWellMade, Frame}
 
 -- its acts bring only what is well made, behind these events, of which the last one comes first

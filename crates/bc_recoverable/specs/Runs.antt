@@ -10,7 +10,7 @@ use Rattle.bc_image.specs.Reading.{IsView, Reading, View}
 use Rattle.bc_image.specs.Shown.{shown_by}
 use Rattle.bc_image.specs.Sound.{HasSoundParts}
 use Rattle.bc_known.specs.Laws.{IsSound}
-use Rattle.bc_machine.specs.World.{IsCourseOf, Origin, replay}
+use Rattle.bc_dirty_laws.specs.bc_machine.World.{IsCourseOf, Origin, replay}
 use Rattle.bc_meta.specs.Layout.{Layout}
 use Rattle.bc_model.specs.History.{Allowed, IsLegal}
 use Rattle.bc_model.specs.declared.history.Entry.{Entry}

@@ -1,4 +1,5 @@
 //! What holds of each run: each law is the contract of a function.
+ghost use Rattle.bc_recoverable.specs.Closed.{LawEnded};
 ghost use Rattle.bc_recoverable.specs.Made.{LawBringsNothing};
 ghost use Rattle.bc_recoverable.specs.Runs.{LawRuns};
 
@@ -11,4 +12,11 @@ pub fn law_brings_nothing()
 /// what the history allows.
 pub fn law_runs()
     ensures { LawRuns }
+{}
+
+/// Where each insertion is durable, and the backing device is settled, a crash leaves a pair that
+/// shows each sector's last write. Where no last key is dirty besides, the backing device has these
+/// writes by itself.
+pub fn law_ended()
+    ensures { LawEnded }
 {}

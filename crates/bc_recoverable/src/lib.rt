@@ -4,10 +4,10 @@
 //! said of images. This crate joins both: wherever the devices of a run stop, what is left is a
 //! sound pair, and each sector of it is one that the run's own history allows.
 //!
-//! Read `specs/` in this order: Made, Runs.
+//! Read `specs/` in this order: Made, Runs, Closed.
 #![tactic(auto)]
 
 pub mod laws;
 
 // Passed on, so that a crate above need not list these.
-pub use bc_machine;
+pub use bc_dirty_laws::bc_machine;

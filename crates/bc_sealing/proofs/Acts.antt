@@ -1,5 +1,5 @@
 -- What acts leave of the journal's share.
-use Rattle.std.proofs.Common.{◌≡◌, ℕ, ◌+◌, List, ◌∷◌, Some, refl, sym, ap, ◌∙◌}
+use Rattle.std.proofs.Common.{◌≡◌, ℕ, ◌+◌, ◌≤◌, List, ◌∷◌, Some, refl, sym, ap, ◌∙◌, arith}
 use Rattle.bc_known.specs.Acts.{Seal, State, after}
 use Rattle.bc_meta.specs.Entries.{Entry}
 use Rattle.bc_meta.specs.Layout.{entry_len}
@@ -20,23 +20,60 @@ seals : (w : Opening) (st : State) (i last_seq : ℕ) (rest : List ℕ) (root : 
     → Seals (entry_of st.whole last_seq rest root chain) (journal_share st)
     (journal_share (after w st i (Seal last_seq rest root chain)))
 seals w st i last_seq rest SameRoot SameChain =
-    record { sealed = refl; bucket = refl; ring = refl; next = refl }
+    record {
+      waiting = refl;
+      count = omega arith;
+      sealed = refl;
+      newest = refl;
+      bucket = refl;
+      ring = refl;
+      next = refl;
+    }
 seals w st i last_seq rest SameRoot (NewChain buckets gens) =
-    record { sealed = refl; bucket = refl; ring = refl; next = refl }
+    record {
+      waiting = refl;
+      count = omega arith;
+      sealed = refl;
+      newest = refl;
+      bucket = refl;
+      ring = refl;
+      next = refl;
+    }
 seals w st i last_seq rest (NewRoot slot) SameChain =
-    record { sealed = refl; bucket = refl; ring = refl; next = refl }
+    record {
+      waiting = refl;
+      count = omega arith;
+      sealed = refl;
+      newest = refl;
+      bucket = refl;
+      ring = refl;
+      next = refl;
+    }
 seals w st i last_seq rest (NewRoot slot) (NewChain buckets gens) =
-    record { sealed = refl; bucket = refl; ring = refl; next = refl }
+    record {
+      waiting = refl;
+      count = omega arith;
+      sealed = refl;
+      newest = refl;
+      bucket = refl;
+      ring = refl;
+      next = refl;
+    }
 
 pub law_acts : LawActs
 law_acts = record {
-  begins = λ w st i b. record { sealed = refl; bucket = refl; ring = refl; next = refl };
+  begins = λ w st i b.
+      record { sealed = refl; newest = refl; bucket = refl; ring = refl; next = refl };
   seals = seals;
   ends = λ w st i e agree is.
       let r = st.whole.parts.records in
       let p = st.whole.store.places in
       let entry = sealed_is r.stage r.entry e is in record {
+        waiting = refl;
+        count = refl;
+        all = refl;
         sealed = refl;
+        newest = entry;
         bucket = refl;
         ring = ap (λ (d : Entry). put r.ring r.bucket (d ∷ r.ring r.bucket)) entry;
         next = ap (λ (q : Records). put p.ring_next q.bucket

@@ -31,20 +31,28 @@ use Rattle.bc_whole.specs.Together.{entry_of}
 -- the bucket is begun
 pub record Begins (w : Opening) (b : ℕ) (x y : JournalShare) : Type 0 where
   pub sealed : y.entries.sealed ≡ x.entries.sealed
+  pub newest : y.entries.newest ≡ x.entries.newest
   pub bucket : y.entries.bucket ≡ b
   pub ring : y.entries.ring ≡ put x.entries.ring b []
   pub next : y.next ≡ put x.next b (w.layout.first b)
 
--- the entry is sealed
+-- the entry is sealed: it has all that waited, and the insertions that came in are in it or before it
 pub record Seals (e : Entry) (x y : JournalShare) : Type 0 where
+  pub waiting : y.entries.waiting ≡ []
+  pub count : y.counts.count ≤ y.counts.journal.sealed
   pub sealed : y.entries.sealed ≡ Some e
+  pub newest : y.entries.newest ≡ x.entries.newest
   pub bucket : y.entries.bucket ≡ x.entries.bucket
   pub ring : y.entries.ring ≡ x.entries.ring
   pub next : y.next ≡ x.next
 
 -- the entry, which was sealed, is durable
 pub record Ends (w : Opening) (e : Entry) (x y : JournalShare) : Type 0 where
+  pub waiting : y.entries.waiting ≡ x.entries.waiting
+  pub count : y.counts.count ≡ x.counts.count
+  pub all : y.counts.journal.sealed ≡ x.counts.journal.sealed
   pub sealed : y.entries.sealed ≡ None
+  pub newest : y.entries.newest ≡ e
   pub bucket : y.entries.bucket ≡ x.entries.bucket
   pub ring : y.entries.ring
       ≡ put x.entries.ring x.entries.bucket (e ∷ x.entries.ring x.entries.bucket)

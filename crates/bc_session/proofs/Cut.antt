@@ -8,7 +8,6 @@ use Rattle.bc_disk.specs.declared.geometry.Geometry.{Geometry}
 use Rattle.bc_enter.specs.Begun.{IsUnsealed}
 use Rattle.bc_enter.specs.Next.{IsNext}
 use Rattle.bc_enter.specs.Written.{IsPartly}
-use Rattle.bc_enter.specs.declared.next.Unsealed.{Unsealed}
 use Rattle.bc_enter.proofs.Following.{sealed_next}
 use Rattle.bc_open.specs.bc_entered.Enter.{KeepsThePair}
 use Rattle.bc_open.specs.bc_entered.Laws.{IsSameImage}
@@ -22,6 +21,7 @@ use Rattle.bc_events.specs.declared.event.Deed.TheVariants as deed
 use Rattle.bc_started.specs.bc_hand.Seats.{by}
 use Rattle.bc_started.specs.bc_hand.declared.error.StepError.{StepError}
 use Rattle.bc_started.specs.bc_hand.declared.error.StepError.TheVariants as step
+use Rattle.bc_journal.specs.Journal.{Journal}
 use Rattle.bc_journal.specs.Sealed.{AreBytesOf, Sealed, sector_at}
 use Rattle.bc_started.specs.bc_machine.World.{IsCache, World, after, opening}
 use Rattle.bc_model.specs.Sector.{Image, Value, values_of}
@@ -81,7 +81,7 @@ module _ (g : Geometry) (read : Read) (old new : DiskFacts) where
 
 module _ {C B : Type 0} (cache_facts : C → DiskFacts) (backing_facts : B → DiskFacts)
     (g : Geometry) (read : Read) (fit : IsFit g read.all read.entries) (tree : Spine)
-    (k : Beginning C B) (u : Unsealed) (is : IsUnsealed g read u) (c : C) where
+    (k : Beginning C B) (u : Journal) (is : IsUnsealed g read u) (c : C) where
   abbrev first : World
   first = opening cache_facts backing_facts (parts_of tree k)
 
@@ -129,72 +129,66 @@ module _ {C B : Type 0} (cache_facts : C → DiskFacts) (backing_facts : B → D
             (λ held torn image may. inr (torn image may)) both.1;
       }
 
-  module _ (e : StepError) (ds : List Deed) (on : Leaves ds) (at : IsCutAt e u.journal u.heads ds)
-    where
-      abbrev s : Sealed
-      s = at.sealed
+  module _ (e : StepError) (ds : List Deed) (on : Leaves ds) (at : IsCutAt e u ds) where
+    abbrev s : Sealed
+    s = at.sealed
 
-      abbrev seal : Deed
-      seal = seal_by u.journal s at.rest
+    abbrev seal : Deed
+    seal = seal_by u s at.rest
 
-      next : IsNext g read s
-      next = (sealed_next g read fit u (record { journal = at.behind; sealed = at.sealed }) is
-          at.entry).entry
+    next : IsNext g read s
+    next = (sealed_next g read fit u (record { journal = at.behind; sealed = at.sealed }) is
+        at.entry).entry
 
-      -- what came behind the seal
-      came : (es : List Deed) → at.more ≡ es → Leaves (seal ∷ es)
-      came es more = with_deeds ds (seal ∷ es) (at.is ∙ ap (λ (l : List Deed). seal ∷ l) more) on
+    -- what came behind the seal
+    came : (es : List Deed) → at.more ≡ es → Leaves (seal ∷ es)
+    came es more = with_deeds ds (seal ∷ es) (at.is ∙ ap (λ (l : List Deed). seal ∷ l) more) on
 
-      pub cut_off : HasFailedBehind s at.more → IsCutOff
-      cut_off (inl barrier) =
-          let here = (came (failed_barrier ∷ []) barrier).stands in
-          record {
-            keeps = stayed_keeps g read old new (stays here.sectors here.content);
-            failed = record {
-              calls = (1, omega arith, omega arith, here.calls);
-              faults = here.faults;
-            };
-          }
-      cut_off (inr (values, are, inl lost)) =
-          let here = (came (deed.CacheBarrier ∷ lost_by s values ∷ []) lost).stands in
-          let place = sector_at s.geometry s.place in
-          record {
-            keeps = partly_keeps g read old new s values next are
-                (partly place values (lost_over place values) (lost_partial place values) here.sectors
-                here.content);
-            failed = record {
-              calls = (2, omega arith, omega arith, here.calls);
-              faults = here.faults;
-            };
-          }
-      cut_off (inr (values, are, inr written)) =
-          let here = (came (deed.CacheBarrier ∷ write_by s values ∷ failed_barrier ∷ []) written).stands
-          in
-          let place = sector_at s.geometry s.place in
-          record {
-            keeps = partly_keeps g read old new s values next are
-                (partly place values (written_over place values) (written_partial place values)
-                here.sectors here.content);
-            failed = record {
-              calls = (3, omega arith, omega arith, here.calls);
-              faults = here.faults;
-            };
-          }
-
-      stopped : at.more ≡ deed.CacheBarrier ∷ [] → HasStayed old new
-      stopped barrier =
-          let here = (came (deed.CacheBarrier ∷ []) barrier).stands in
-          record { settled = stays here.sectors here.content; faults = here.faults }
+    pub cut_off : HasFailedBehind s at.more → IsCutOff
+    cut_off (inl barrier) =
+        let here = (came (failed_barrier ∷ []) barrier).stands in
+        record {
+          keeps = stayed_keeps g read old new (stays here.sectors here.content);
+          failed = record {
+            calls = (1, omega arith, omega arith, here.calls);
+            faults = here.faults;
+          };
+        }
+    cut_off (inr (values, are, inl lost)) =
+        let here = (came (deed.CacheBarrier ∷ lost_by s values ∷ []) lost).stands in
+        let place = sector_at s.geometry s.place in
+        record {
+          keeps = partly_keeps g read old new s values next are
+              (partly place values (lost_over place values) (lost_partial place values) here.sectors
+              here.content);
+          failed = record {
+            calls = (2, omega arith, omega arith, here.calls);
+            faults = here.faults;
+          };
+        }
+    cut_off (inr (values, are, inr written)) =
+        let here = (came (deed.CacheBarrier ∷ write_by s values ∷ failed_barrier ∷ []) written).stands
+        in
+        let place = sector_at s.geometry s.place in
+        record {
+          keeps = partly_keeps g read old new s values next are
+              (partly place values (written_over place values) (written_partial place values)
+              here.sectors here.content);
+          failed = record {
+            calls = (3, omega arith, omega arith, here.calls);
+            faults = here.faults;
+          };
+        }
 
   none_done : (ds : List Deed) → Leaves ds → ds ≡ [] → HasStayed old new
   none_done ds on none =
       let here = (with_deeds ds [] none on).stands in
       record { settled = stays here.sectors here.content; faults = here.faults }
 
-  pub cut_left : (e : StepError) (ds : List Deed) → IsCut e u.journal u.heads ds → Leaves ds
+  pub cut_left : (e : StepError) (ds : List Deed) → IsCut e u ds → Leaves ds
       → IsLeft e
   cut_left (step.Fault device) ds (inl none) on = absurd none.0
   cut_left (step.Fault device) ds (inr at) on = cut_off (step.Fault device) ds on at at.cut.1
   cut_left (step.Halted device) ds cut on = tt
   cut_left step.Memory ds (inl none) on = none_done ds on none.1
-  cut_left step.Memory ds (inr at) on = stopped step.Memory ds on at at.cut
+  cut_left step.Memory ds (inr at) on = absurd at.cut

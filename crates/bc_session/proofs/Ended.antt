@@ -16,7 +16,7 @@ use Rattle.bc_events.specs.declared.event.Event.{Event}
 use Rattle.bc_events.specs.declared.event.Failure.TheVariants as failure
 use Rattle.bc_started.specs.bc_hand.Seats.{View, by, world}
 use Rattle.bc_image.specs.Pair.{Pair}
-use Rattle.bc_journal.specs.Sealed.{numbers_of}
+use Rattle.bc_journal.specs.Sealed.{heads_of, numbers_of}
 use Rattle.bc_loaded.specs.declared.loading.Loaded.{Loaded}
 use Rattle.bc_started.specs.bc_machine.World.{IsBacking, IsCache, World, after, opening}
 use Rattle.bc_started.specs.bc_machine.declared.part.CorePart.{CorePart}
@@ -263,9 +263,9 @@ module _ {C B : Type 0} (cache_facts : C → DiskFacts) (backing_facts : B → D
     never_halted d (which, halt) = no_device (halt_of closed.last.seen) d (ap halt_of seen_is
         ∙ ap (λ (l : List Deed). halt_of (map (by 0) l ++ map (by 0) es)) h.put.is
         ∙ elim which [
-          | inl none ↦ ap (λ (l : List Deed). halt_of (map (by 0) (put_by h.unsealed.journal
+          | inl none ↦ ap (λ (l : List Deed). halt_of (map (by 0) (put_by h.unsealed
               h.next.sealed h.put.rest h.put.values) ++ map (by 0) l)) none
-          | inr made ↦ ap (λ (l : List Deed). halt_of (map (by 0) (put_by h.unsealed.journal
+          | inr made ↦ ap (λ (l : List Deed). halt_of (map (by 0) (put_by h.unsealed
               h.next.sealed h.put.rest h.put.values) ++ map (by 0) l)) made
         ]) halt
       where
@@ -374,6 +374,7 @@ module _ {C B : Type 0} (cache_facts : C → DiskFacts) (backing_facts : B → D
         good = good;
         journal = record h.next.journal {
           durable = numbers_of h.next.sealed.entry;
+          heads = heads_of h.next.sealed.entry;
           sealed = None;
         };
         entered = record {

@@ -13,6 +13,7 @@ pub mod Ended
 pub mod Stops
 pub mod Final
 pub use Rattle.bc_started.proofs.of_bc_chosen
+pub use Rattle.bc_dirty.proofs as of_bc_dirty
 pub use Rattle.bc_open.proofs.of_bc_entered
 pub use Rattle.bc_open.proofs as of_bc_open
 pub use Rattle.bc_open.proofs.of_bc_ranges

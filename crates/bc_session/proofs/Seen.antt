@@ -1,11 +1,13 @@
 -- What a run over a pair that was opened stands for.
 use Rattle.std.proofs.Common.{◌≡◌, ℕ, ◌+◌, ◌≤◌, List, [], ◌∷◌, Option, Some, None, refl, sym, ap, ◌∙◌, subst, arith, if◌then◌else◌}
-use Rattle.std.specs.Prelude.{fold, map}
+use Rattle.std.specs.Prelude.{fold, map, replicate}
+use Rattle.bc_bucket.specs.Walk.{none_found}
 use Rattle.bc_started.specs.bc_begun.Begin.{first_seq, parts_of}
 use Rattle.bc_started.specs.bc_cached.Laws.{StandsOn, parts_in}
 use Rattle.bc_started.specs.bc_cached.declared.run.Ready.{Ready}
 use Rattle.bc_started.specs.bc_chosen.Parts.{ArePartsOf}
 use Rattle.bc_disk.specs.Disk.{BothTold, DiskFacts, IsSettled, Overwritten}
+use Rattle.bc_disk.specs.Gens.{Gens}
 use Rattle.bc_disk.specs.declared.geometry.Geometry.{Geometry}
 use Rattle.bc_open.specs.bc_entered.Enter.{KeepsThePair}
 use Rattle.bc_open.specs.bc_entered.Laws.{IsSameImage}
@@ -177,6 +179,9 @@ module _ {C B : Type 0} (cache_facts : C → DiskFacts) (backing_facts : B → D
               ∙ ap (λ n. data_sectors n b) over.state.2.sectors
               ∙ ap (λ (x : BackingSuper). data_sectors p.backing_sectors x) (sym super_is);
           bytes = over.bytes;
+          chain = over.is_loaded.are.chain ∙ ap (λ (x : Gens). x.chain) (sym r.gens);
+          walk = over.is_loaded.are.walk
+              ∙ ap (λ (g : Geometry). replicate g.nbuckets none_found) (sym r.geometry);
           found = subst (λ (g : Geometry). HasJournal g p.cache s.journal) (sym r.geometry)
               r.journal;
           entries = sym r.entries;

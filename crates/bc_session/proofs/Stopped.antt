@@ -16,7 +16,6 @@ use Rattle.bc_started.specs.bc_hand.declared.error.StepError.{StepError}
 use Rattle.bc_started.specs.bc_hand.declared.error.StepError.TheVariants as step
 use Rattle.bc_journal.specs.Journal.{Journal}
 use Rattle.bc_journal.specs.Sealed.{Sealed}
-use Rattle.bc_journal.specs.declared.heads.Heads.{Heads}
 use Rattle.bc_loaded.specs.declared.loading.Loaded.{Loaded}
 use Rattle.bc_started.specs.bc_machine.declared.part.BackingPart.{BackingPart}
 use Rattle.bc_model.specs.Sector.{Image}
@@ -67,12 +66,12 @@ stopped_off s ds (inr (inr (values, are, inr is))) =
 behind_off : (e : StepError) (s : Sealed) (ds : List Deed) → IsCutBehind e s ds → AreOff ds
 behind_off (step.Fault d) s ds cut = failed_off s ds cut.1
 behind_off (step.Halted d) s ds cut = stopped_off s ds cut
-behind_off step.Memory s ds cut = subst AreOff (sym cut) (refl, tt)
+behind_off step.Memory s ds cut = absurd cut
 
-cut_is_off : (e : StepError) (j : Journal) (heads : Heads) (ds : List Deed) → IsCut e j heads ds
+cut_is_off : (e : StepError) (j : Journal) (ds : List Deed) → IsCut e j ds
     → AreOff ds
-cut_is_off e j heads ds (inl none) = subst AreOff (sym none.1) tt
-cut_is_off e j heads ds (inr at) =
+cut_is_off e j ds (inl none) = subst AreOff (sym none.1) tt
+cut_is_off e j ds (inr at) =
     subst AreOff (sym at.is) (refl, behind_off e at.sealed at.more at.cut)
 
 -- ---- a run that wasn't started
@@ -141,7 +140,7 @@ module _ {C B : Type 0} (cache_facts : C → DiskFacts) (backing_facts : B → D
         → IsOver
     over_by keeps cause =
         let r = rested cache_facts backing_facts loaded.tree k n.backing h.deeds
-        (cut_is_off h.error h.unsealed.journal h.unsealed.heads h.deeds h.cut) h.backing in
+        (cut_is_off h.error h.unsealed h.deeds h.cut) h.backing in
         record {
           keeps = subst (λ (c : C). KeepsThePair g s.journal (cache_facts c) (cache_facts n.cache))
               cache_is keeps;

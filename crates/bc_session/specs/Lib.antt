@@ -1,10 +1,12 @@
 pub mod Open
 pub mod Close
+pub mod Finish
 pub mod Idle
 pub mod Laws
 pub use Rattle.bc_started.specs.bc_begun
 pub use Rattle.bc_started.specs.bc_cached
 pub use Rattle.bc_started.specs.bc_chosen
+pub use Rattle.bc_dirty.specs as bc_dirty
 pub use Rattle.bc_open.specs.bc_entered
 pub use Rattle.bc_started.specs.bc_entry
 pub use Rattle.bc_loaded.specs as bc_loaded

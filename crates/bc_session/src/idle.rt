@@ -1,7 +1,5 @@
 //! A pair is opened and closed, and nothing is asked of it.
-ghost use Rattle.std.specs.Prelude.{◌≡◌, ◌*◌, ◌<◌, ◌≤◌, Any, Err, IfErr, OnOk};
-ghost use Rattle.std.specs.Bool.{MatchBool};
-ghost use Rattle.bc_bucket.specs.declared.bucket.Mark.TheVariants as marks;
+ghost use Rattle.std.specs.Prelude.{◌≡◌, ◌*◌, ◌<◌, ◌≤◌, Err, IfErr, OnOk};
 ghost use Rattle.bc_disk.specs.Disk.{StandsFor};
 ghost use Rattle.bc_disk.specs.Stands.{settled_model};
 ghost use Rattle.bc_disk.specs.declared.disk.Device.{Device};
@@ -15,7 +13,7 @@ ghost use Rattle.bc_super.specs.Reading.{ReadsSuper};
 
 use crate::closing::{CloseError, Closed, close};
 use crate::opening::{NotOpened, open};
-use bc_bucket::{Bucket, Mark};
+use bc_dirty::marks::has_dirty;
 use bc_disk::disk::{Device, Disk};
 use bc_loaded::load;
 use bc_replay::{OpenError, Survey};
@@ -29,19 +27,6 @@ pub struct Idled<C, B> {
     pub cache: C,
     pub backing: B,
     pub result: Result<(), OpenError>,
-}
-
-/// Whether one of the buckets has data that is in the cache alone.
-pub fn has_dirty(buckets: &[Bucket]) -> bool
-    ensures { MatchBool result (Any (λ b. b.mark ≡ marks.Dirty) buckets.now)
-        (¬ (Any (λ b. b.mark ≡ marks.Dirty) buckets.now)) }
-{
-    for bucket in buckets {
-        if bucket.mark == Mark::Dirty {
-            return true;
-        }
-    }
-    false
 }
 
 // The error of a closing, of a run that no other seat can have halted.

@@ -10,18 +10,22 @@
 //! Nothing is written before all that can be refused has been: the parts are in memory, and the
 //! newest entry is one behind which another can come.
 //!
-//! Read `specs/` in this order: Open, Close, Idle, Laws.
+//! Read `specs/` in this order: Open, Close, Finish, Idle, Laws.
 #![tactic(auto)]
 
 mod closing;
+mod finishing;
 mod idle;
 pub mod laws;
 mod odd;
 mod opening;
 
+pub use bc_dirty::marks::has_dirty;
 pub use closing::{CloseError, Closed, close};
-pub use idle::{Idled, has_dirty, open_and_close};
+pub use finishing::{FinishError, Finished, finish};
+pub use idle::{Idled, open_and_close};
 pub use opening::{NotOpened, open};
 
 // Passed on, so that a crate above need not list these.
+pub use bc_dirty;
 pub use bc_loaded;

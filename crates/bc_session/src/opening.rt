@@ -56,12 +56,16 @@ fn ready_with<C, B>(loaded: Loaded, cache: C, backing: BackingPart<B>) -> Ready<
         leaves,
         buckets,
         reserves,
+        chain,
+        walk,
         journal,
     } = loaded;
     Ready {
         tree,
         buckets,
         reserves,
+        chain,
+        walk,
         journal,
         cache,
         backing,

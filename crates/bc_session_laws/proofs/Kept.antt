@@ -27,7 +27,9 @@ use Rattle.bc_recoverable.specs.bc_machine.World.{IsBackingOf, IsCourseOf, IsOri
 use Rattle.bc_recoverable.specs.bc_machine.declared.part.BackingPart.{BackingPart}
 use Rattle.bc_recoverable.specs.bc_machine.declared.part.CorePart.{CorePart}
 use Rattle.bc_meta.specs.Layout.{Layout}
-use Rattle.bc_model.specs.History.{Allowed, IsLegal}
+use Rattle.bc_crash.specs.Laws.{IsClosed}
+use Rattle.bc_dirty_laws.specs.Dirty.{IsNoneDirty}
+use Rattle.bc_model.specs.History.{Allowed, IsLegal, now}
 use Rattle.bc_model.specs.Pattern.{zeros}
 use Rattle.bc_model.specs.Sector.{Image, Value, unless}
 use Rattle.bc_model.specs.declared.history.Entry.{Entry}
@@ -45,7 +47,9 @@ use Rattle.bc_plain_laws.proofs.Opened.{workers_of}
 use Rattle.bc_recoverable.specs.bc_ranges.Laws.{frame_of}
 use Rattle.bc_recover.specs.Read.{IsReadOf}
 use Rattle.bc_recoverable.specs.Made.{AreMade}
-use Rattle.bc_recoverable.specs.Runs.{IsKept, Recovers}
+use Rattle.bc_recoverable.specs.Closed.{IsEnded, ShowsNow}
+use Rattle.bc_recoverable.specs.Runs.{IsKept, IsRunFrom, Recovers}
+use Rattle.bc_recoverable.proofs.Ended.{law_ended}
 use Rattle.bc_recoverable.proofs.Runs.{law_runs}
 use Rattle.bc_session.specs.bc_regrow.Tree.{IsTreeOf}
 use Rattle.bc_replay.specs.declared.held.Survey.{Survey}
@@ -62,6 +66,7 @@ use Rattle.bc_super.specs.declared.backing.BackingSuper.{BackingSuper}
 use Rattle.bc_super.specs.declared.state.BackingState.{BackingState}
 use Rattle.bc_super.specs.declared.state.BackingState.TheVariants as states
 use Rattle.bc_session_laws.specs.Events.{HasGone, left_by}
+use Rattle.bc_session_laws.specs.Finished.{IsNow}
 use Rattle.bc_session_laws.specs.Laws.{HasKept, IsFrom, IsOpenedOn, IsRecoverable, LawKept}
 use Rattle.bc_session_laws.proofs.Course.{course_behind, oldest_log, origin_ahead, origin_behind, untorn_first}
 
@@ -155,18 +160,18 @@ module _ {C B : Type 0} (cache_facts : C → DiskFacts) (backing_facts : B → D
         (gone : HasGone cache_facts backing_facts parts events left rest)
         (untorn : AreUntorn o (left_by cache_facts backing_facts parts events).log)
         (made : AreMade (frame_of p v) o (left_by cache_facts backing_facts parts events).log) where
-      abbrev y : World
+      abbrev pub y : World
       y = left_by cache_facts backing_facts parts events
 
-      at_end : IsOrigin y o
+      pub at_end : IsOrigin y o
       at_end = origin_behind first events o at_first
 
-      course : IsCourseOf o y.log
+      pub course : IsCourseOf o y.log
       course = course_behind {C = C} {B = B} cache_facts backing_facts first events o gone.run
           at_first (untorn_first first events o refl untorn) untorn
 
-      kept : IsKept p v o y.log
-      kept = law_runs p v layout x o y.log (record {
+      ran : IsRunFrom p v layout x o y.log
+      ran = record {
         view = opened.hold.view;
         sound = opened.hold.sound;
         divided = opened.divided;
@@ -176,7 +181,10 @@ module _ {C B : Type 0} (cache_facts : C → DiskFacts) (backing_facts : B → D
         workers = workers;
         course = course;
         made = made;
-      })
+      }
+
+      kept : IsKept p v o y.log
+      kept = law_runs p v layout x o y.log ran
 
       -- ---- the history
 
@@ -311,6 +319,18 @@ module _ {C B : Type 0} (cache_facts : C → DiskFacts) (backing_facts : B → D
         recoverable : IsRecoverable p v H (record p { cache = image; backing = other })
         recoverable = recoverable_as states.Dirty tt bytes opened.over.state.1 other same_at
 
+        -- the sector of the superblock has what was said last
+        said_once : (May : BackingState → Type 0) (last : Image) (says : SaysState May b other last)
+            (t : ℕ) → (if t == 8 then says.bytes else mixed t) ≡ last t
+        said_once May last says t = by_test t 8
+            (λ (q : Bool). (if q then says.bytes else mixed t) ≡ last t)
+            (λ is. sym (says.same t ∙ by_test t 8
+            (λ (q : Bool). (if q then says.bytes else other t) ≡ says.bytes)
+            (λ same. refl) (λ ne. absurd (ne is))))
+            (λ ne. elsewhere t ne (cases_lt t offset) ∙ sym (says.same t ∙ by_test t 8
+            (λ (q : Bool). (if q then says.bytes else other t) ≡ other t)
+            (λ is. absurd (ne is)) (λ no. refl)))
+
         -- the state was written once more
         recoverable_says : (May : BackingState → Type 0) (last : Image)
             → IsSameImage other last ⊎ SaysState May b other last
@@ -319,14 +339,65 @@ module _ {C B : Type 0} (cache_facts : C → DiskFacts) (backing_facts : B → D
             IsRecoverable p v H (record p { cache = image; backing = i }))
             (sym (everywhere other last same)) recoverable
         recoverable_says May last (inr says) = recoverable_as says.state says.cached says.bytes
-            says.sector last (λ t. by_test t 8
-            (λ (q : Bool). (if q then says.bytes else mixed t) ≡ last t)
-            (λ is. sym (says.same t ∙ by_test t 8
-            (λ (q : Bool). (if q then says.bytes else other t) ≡ says.bytes)
-            (λ same. refl) (λ ne. absurd (ne is))))
-            (λ ne. elsewhere t ne (cases_lt t offset) ∙ sym (says.same t ∙ by_test t 8
-            (λ (q : Bool). (if q then says.bytes else other t) ≡ other t)
-            (λ is. absurd (ne is)) (λ no. refl))))
+            says.sector last (said_once May last says)
+
+        -- ---- where each insertion is durable
+
+        module _ (closed : IsClosed (replay o y.log).machine.whole.flow) where
+          ended : IsEnded p v o y.log
+          ended = law_ended p v layout x o y.log ran closed
+
+          shows : ShowsNow p v H mixed_pair
+          shows = ended.left mixed_pair is_left
+
+          now_as : (state : BackingState) → IsCached state → (said : Value)
+              → IsBackingSector said (super_in state b) → (last : Image)
+              → ((t : ℕ) → (if t == 8 then said else mixed t) ≡ last t)
+              → IsNow p v H (record p { cache = image; backing = last })
+          now_as state cached said sector last same =
+              let marked = law_state mixed_pair (view_with v shows.reading) state said cached
+              shows.view shows.sound
+              (subst (λ (z : BackingSuper). IsBackingSector said (super_in state z))
+              (sym super_is) sector) in
+              subst (λ (i : Image). IsNow p v H (record p { cache = image; backing = i }))
+              (λ i. λ t. same t i) (record {
+                later = view_in state (view_with v shows.reading);
+                geometry = refl;
+                view = marked.view;
+                sound = marked.sound;
+                shows = λ t. marked.shows t ∙ shows.shows t;
+              })
+
+          now_says : (May : BackingState → Type 0) (last : Image)
+              → IsSameImage other last ⊎ SaysState May b other last
+              → IsNow p v H (record p { cache = image; backing = last })
+          now_says May last (inl same) = subst (λ (i : Image).
+              IsNow p v H (record p { cache = image; backing = i }))
+              (sym (everywhere other last same))
+              (now_as states.Dirty tt bytes opened.over.state.1 other same_at)
+          now_says May last (inr says) = now_as says.state says.cached says.bytes says.sector last
+              (said_once May last says)
+
+          -- behind the superblock nothing else was written
+          same_data : (May : BackingState → Type 0) (last : Image) (t : ℕ)
+              → IsSameImage other last ⊎ SaysState May b other last
+              → last (offset + t) ≡ mixed (offset + t)
+          same_data May last t (inl same) = ap (λ (i : Image). i (offset + t))
+              (everywhere other last same)
+              ∙ sym (ap (λ (q : Bool). if q then d (offset + t) else other (offset + t))
+              (le-ltb (offset + t) offset (omega arith)))
+          same_data May last t (inr says) = says.same (offset + t)
+              ∙ by_test (offset + t) 8
+              (λ (q : Bool). (if q then says.bytes else other (offset + t)) ≡ other (offset + t))
+              (λ is. absurd (let high = behind_super in omega (arith, is, high))) (λ no. refl)
+              ∙ sym (ap (λ (q : Bool). if q then d (offset + t) else other (offset + t))
+              (le-ltb (offset + t) offset (omega arith)))
+
+          backed : IsNoneDirty o (replay o y.log) → (May : BackingState → Type 0) (last : Image)
+              → IsSameImage other last ⊎ SaysState May b other last → (t : ℕ)
+              → last (offset + t) ≡ now (shown_by p v) H t
+          backed none May last says t =
+              same_data May last t says ∙ ended.backed none mixed_pair is_left t
 
       pub says_kept : (image other last : Image) → (cache_facts left).may_leave image
           → (backing_facts rest.disk).may_leave other → (May : BackingState → Type 0)
@@ -336,6 +407,24 @@ module _ {C B : Type 0} (cache_facts : C → DiskFacts) (backing_facts : B → D
       says_kept image other last may can May says = subst (λ (es : List Entry).
           IsRecoverable p v es (record p { cache = image; backing = last })) history
           (recoverable_says image other may can May last says)
+
+      -- the same where each insertion is durable
+      pub says_now : IsClosed (replay o y.log).machine.whole.flow → (image other last : Image)
+          → (cache_facts left).may_leave image → (backing_facts rest.disk).may_leave other
+          → (May : BackingState → Type 0) → IsSameImage other last ⊎ SaysState May b other last
+          → IsNow p v (reverse (entries_of events)) (record p { cache = image; backing = last })
+      says_now closed image other last may can May says = subst (λ (es : List Entry).
+          IsNow p v es (record p { cache = image; backing = last })) history
+          (now_says image other may can closed May last says)
+
+      pub says_backed : IsClosed (replay o y.log).machine.whole.flow
+          → IsNoneDirty o (replay o y.log) → (image other last : Image)
+          → (cache_facts left).may_leave image → (backing_facts rest.disk).may_leave other
+          → (May : BackingState → Type 0) → IsSameImage other last ⊎ SaysState May b other last
+          → (t : ℕ) → last (offset + t) ≡ now (shown_by p v) (reverse (entries_of events)) t
+      says_backed closed none image other last may can May says t = subst (λ (es : List Entry).
+          last (offset + t) ≡ now (shown_by p v) es t) history
+          (backed image other may can closed none May last says t)
 
       -- both devices tell what they hold
       pub rest_told : (held : Image) × ((backing_facts rest.disk).holds ≡ Some held)

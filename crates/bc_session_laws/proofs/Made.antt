@@ -197,7 +197,7 @@ module _ {C B : Type 0} (cache_facts : C → DiskFacts) (backing_facts : B → D
     all_made events only =
         let h = opened.over.started in
         let base = subst (λ (l : List Event). AreMade f o (fold after first l).log) (sym h.seen)
-        (put_made h.deeds h.unsealed.journal h.put) in
+        (put_made h.deeds h.unsealed h.put) in
         subst (λ (l : List Event). AreMade f o (fold after first l).log) (sym only.is)
         (subst (λ (z : World). AreMade f o z.log) (sym (fold_more first seat.seen only.more))
         (all_quiet f o (fold after first seat.seen) only.more base only.nothing))

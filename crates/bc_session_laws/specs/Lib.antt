@@ -1,4 +1,5 @@
 pub mod Events
+pub mod Finished
 pub mod Laws
 pub use Rattle.bc_session.specs.bc_begun
 pub use Rattle.bc_session.specs.bc_cached

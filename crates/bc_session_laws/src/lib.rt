@@ -5,7 +5,7 @@
 //! say of the images that a crash may leave that they are a sound pair again, and what each sector
 //! of it may show.
 //!
-//! Read `specs/` in this order: Events, Laws.
+//! Read `specs/` in this order: Events, Laws, Finished.
 #![tactic(auto)]
 
 pub mod laws;

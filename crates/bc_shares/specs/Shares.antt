@@ -96,9 +96,10 @@ pub record BucketsShare : Type 0 where
   pub last_gc : ℕ → ℕ
   pub mark : ℕ → Mark
   pub shelf : ℕ → Shelf
-  -- the chain that it is of, and the one that was made ready last
+  -- the chain that it is of, the one that was made ready last, and the newest one that is sealed
   pub chain : ℕ → Option ℕ
   pub ready : ℕ
+  pub sealed : ℕ
   pub node : ℕ → Bool
   pub round : Round
 
@@ -110,6 +111,7 @@ buckets_in k = record {
   shelf = k.shelf;
   chain = k.chains.of;
   ready = k.chains.ready;
+  sealed = k.chains.sealed;
   node = k.node;
   round = k.round;
 }

@@ -10,7 +10,6 @@ use Rattle.bc_disk.specs.Disk.{DiskFacts}
 use Rattle.bc_disk.specs.declared.geometry.Geometry.{Geometry}
 use Rattle.bc_enter.specs.Begun.{IsUnsealed}
 use Rattle.bc_enter.specs.declared.next.Next.{Next}
-use Rattle.bc_enter.specs.declared.next.Unsealed.{Unsealed}
 use Rattle.bc_enter.proofs.Following.{sealed_next}
 use Rattle.bc_entries.specs.Journal.{Journal as Read}
 use Rattle.bc_entry.specs.Entry.{IsNewestEntry}
@@ -20,7 +19,6 @@ use Rattle.bc_entry.specs.bc_hand.Seats.{Works, empty, world}
 use Rattle.bc_entry.specs.bc_hand.declared.error.StepError.{StepError}
 use Rattle.bc_entry.proofs.of_bc_hand.Knowing.{View}
 use Rattle.bc_journal.specs.Journal.{Journal}
-use Rattle.bc_journal.specs.declared.heads.Heads.{Heads}
 use Rattle.bc_entry.specs.bc_machine.World.{FromEach, IsBacking, IsCache, World, after, are_plain, opening}
 use Rattle.bc_entry.specs.bc_machine.declared.part.CorePart.{CorePart}
 use Rattle.bc_parts.specs.Seat.{PartsView, Run}
@@ -33,7 +31,7 @@ use Rattle.bc_started.proofs.Begun.{can_put}
 
 module _ {C B : Type 0} (cache_facts : C → DiskFacts) (backing_facts : B → DiskFacts)
     (g : Geometry) (read : Read) (ready : Ready C B)
-    (can : CanStart cache_facts backing_facts g read ready) (u : Unsealed)
+    (can : CanStart cache_facts backing_facts g read ready) (u : Journal)
     (is : IsUnsealed g read u) (parts : PartsView (CorePart C B))
     (v : View cache_facts backing_facts)
     (b : HasBegun cache_facts backing_facts ready parts v) where
@@ -46,24 +44,17 @@ module _ {C B : Type 0} (cache_facts : C → DiskFacts) (backing_facts : B → D
   pub many : 5 < length parts.run.start
   many = subst (λ (ps : List (CorePart C B)). 5 < length ps) (sym b.start) (omega arith)
 
-  -- the journal and the heads that came of it
-  pub can_first : (j : Journal) (heads : Heads) → j ≡ u.journal → heads ≡ u.heads
-      → CanPutFirst cache_facts backing_facts parts.run.start j heads
-  can_first j heads same names = subst (λ (ps : List (CorePart C B)).
-      CanPutFirst cache_facts backing_facts ps j heads) (sym b.start)
-      (subst (λ (k : Journal). CanPutFirst cache_facts backing_facts (parts_of ready.tree
-      b.beginning) k heads) (sym same)
-      (subst (λ (h : Heads). CanPutFirst cache_facts backing_facts (parts_of ready.tree
-      b.beginning) u.journal h) (sym names)
-      (can_put cache_facts backing_facts g read ready can u is b.beginning b.made)))
+  pub can_first : CanPutFirst cache_facts backing_facts parts.run.start u
+  can_first = subst (λ (ps : List (CorePart C B)).
+      CanPutFirst cache_facts backing_facts ps u) (sym b.start)
+      (can_put cache_facts backing_facts g read ready can u is b.beginning b.made)
 
-  module _ (j : Journal) (heads : Heads) (same : j ≡ u.journal) (names : heads ≡ u.heads)
-      (w : View cache_facts backing_facts)
+  module _ (w : View cache_facts backing_facts)
       (works : Works cache_facts backing_facts parts w empty) where
-    started_with : HasAll cache_facts backing_facts w
-        → HasPut cache_facts backing_facts u.journal u.heads v w
+    pub started : HasAll cache_facts backing_facts w
+        → HasPut cache_facts backing_facts u v w
         → HasStarted cache_facts backing_facts g read ready parts w
-    started_with all put =
+    started all put =
         let next : Next = record { journal = put.behind; sealed = put.sealed } in
         let begun = sealed_next g read can.fit u next is put.entry in
         record {
@@ -84,20 +75,13 @@ module _ {C B : Type 0} (cache_facts : C → DiskFacts) (backing_facts : B → D
           works = works;
         }
 
-    pub started : HasAll cache_facts backing_facts w
-        → HasPut cache_facts backing_facts j heads v w
-        → HasStarted cache_facts backing_facts g read ready parts w
-    started all put = started_with all (subst (λ (h : Heads).
-        HasPut cache_facts backing_facts u.journal h v w) names
-        (subst (λ (k : Journal). HasPut cache_facts backing_facts k heads v w) same put))
-
     module _ (e : StepError) (n : NotStarted C B) (pass : Pass) (cause : IsCauseOf e n.why)
         (events : events_in pass ≡ w.seen)
         (cache : IsCache {C = C} {B = B} cache_facts backing_facts n.cache
         (world cache_facts backing_facts w))
         (backing : IsBacking {C = C} {B = B} cache_facts backing_facts n.backing
         (world cache_facts backing_facts w)) where
-      ended_with : HasCut cache_facts backing_facts e u.journal u.heads v w
+      ended_with : HasCut cache_facts backing_facts e u v w
           → HasEnded cache_facts backing_facts g read ready n pass
       ended_with cut =
           let seen = own_all cache_facts backing_facts v w cut.deeds new cut.done works.seat in
@@ -126,9 +110,7 @@ module _ {C B : Type 0} (cache_facts : C → DiskFacts) (backing_facts : B → D
                 IsBacking {C = C} {B = B} cache_facts backing_facts n.backing y) now backing;
           }
 
-      pub ended : n.pass ≡ Some pass → HasCut cache_facts backing_facts e j heads v w
+      pub ended : n.pass ≡ Some pass → HasCut cache_facts backing_facts e u v w
           → IsNotStarted cache_facts backing_facts g read ready n
-      ended has cut = subst (StopsWith cache_facts backing_facts g read ready n) (sym has)
-          (ended_with (subst (λ (h : Heads).
-          HasCut cache_facts backing_facts e u.journal h v w) names
-          (subst (λ (k : Journal). HasCut cache_facts backing_facts e k heads v w) same cut)))
+      ended has cut =
+          subst (StopsWith cache_facts backing_facts g read ready n) (sym has) (ended_with cut)

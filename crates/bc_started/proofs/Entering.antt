@@ -18,7 +18,6 @@ use Rattle.bc_entry.specs.bc_hand.declared.error.StepError.{StepError}
 use Rattle.bc_entry.specs.bc_hand.declared.error.StepError.TheVariants as step
 use Rattle.bc_entry.proofs.of_bc_hand.Knowing.{View, m}
 use Rattle.bc_journal.specs.Journal.{Journal}
-use Rattle.bc_journal.specs.declared.heads.Heads.{Heads}
 use Rattle.bc_entry.specs.bc_machine.World.{FromEach, IsJournal, World, after, opening}
 use Rattle.bc_entry.specs.bc_machine.declared.part.CorePart.{CorePart}
 use Rattle.bc_parts.specs.Seat.{PartsView, Run}
@@ -90,18 +89,18 @@ no_device : (o : Option Device) (d : Device) → o ≡ None → o ≡ Some d →
 no_device o d none some = cc
 
 -- what came of it doesn't halt a run whose seat did that alone
-not_halted : (device : Device) (j : Journal) (heads : Heads) (ds : List Deed)
-    → IsCut (step.Halted device) j heads ds → halt_of (map (by 0) ds) ≡ None
-not_halted device j heads ds (inl none) = ap (λ (l : List Deed). halt_of (map (by 0) l)) none.1
-not_halted device j heads ds (inr at) =
+not_halted : (device : Device) (j : Journal) (ds : List Deed)
+    → IsCut (step.Halted device) j ds → halt_of (map (by 0) ds) ≡ None
+not_halted device j ds (inl none) = ap (λ (l : List Deed). halt_of (map (by 0) l)) none.1
+not_halted device j ds (inr at) =
     ap (λ (l : List Deed). halt_of (map (by 0) l)) at.is ∙ halted_none at.sealed at.more at.cut
 
-pub no_halt : (e : StepError) (j : Journal) (heads : Heads) (ds : List Deed) (es : List Event)
-    → IsCut e j heads ds → es ≡ map (by 0) ds → IsCause e es → IsNoHalt e
-no_halt (step.Fault device) j heads ds es cut is cause = tt
-no_halt (step.Halted device) j heads ds es cut is cause = no_device (halt_of es) device
-    (ap halt_of is ∙ not_halted device j heads ds cut) cause
-no_halt step.Memory j heads ds es cut is cause = tt
+pub no_halt : (e : StepError) (j : Journal) (ds : List Deed) (es : List Event)
+    → IsCut e j ds → es ≡ map (by 0) ds → IsCause e es → IsNoHalt e
+no_halt (step.Fault device) j ds es cut is cause = tt
+no_halt (step.Halted device) j ds es cut is cause = no_device (halt_of es) device
+    (ap halt_of is ∙ not_halted device j ds cut) cause
+no_halt step.Memory j ds es cut is cause = tt
 
 module _ {C B : Type 0} (cache_facts : C → DiskFacts) (backing_facts : B → DiskFacts) where
   -- another journal that stands for the same
@@ -169,11 +168,11 @@ module _ {C B : Type 0} (cache_facts : C → DiskFacts) (backing_facts : B → D
       ∙ ap (λ (es : List Event). fold after (opening cache_facts backing_facts w.run.start) es)
       (sym seen)
 
-  pub put_around : (j : Journal) (heads : Heads) (t u v w : View cache_facts backing_facts)
-      → HasDone cache_facts backing_facts [] t u → HasPut cache_facts backing_facts j heads u v
+  pub put_around : (j : Journal) (t u v w : View cache_facts backing_facts)
+      → HasDone cache_facts backing_facts [] t u → HasPut cache_facts backing_facts j u v
       → Waited (m cache_facts backing_facts) v w → w.seen ≡ v.seen
-      → HasPut cache_facts backing_facts j heads t w
-  put_around j heads t u v w first put last seen = record {
+      → HasPut cache_facts backing_facts j t w
+  put_around j t u v w first put last seen = record {
     sealed = put.sealed;
     behind = put.behind;
     entry = put.entry;
@@ -184,11 +183,11 @@ module _ {C B : Type 0} (cache_facts : C → DiskFacts) (backing_facts : B → D
         (IsNewestEntry put.sealed.geometry put.sealed.entry)) (same_world v w last seen) put.newest;
   }
 
-  pub cut_around : (e : StepError) (j : Journal) (heads : Heads)
+  pub cut_around : (e : StepError) (j : Journal)
       (t u v w : View cache_facts backing_facts) → HasDone cache_facts backing_facts [] t u
-      → HasCut cache_facts backing_facts e j heads u v → Waited (m cache_facts backing_facts) v w
-      → HasCut cache_facts backing_facts e j heads t w
-  cut_around e j heads t u v w first cut last = record {
+      → HasCut cache_facts backing_facts e j u v → Waited (m cache_facts backing_facts) v w
+      → HasCut cache_facts backing_facts e j t w
+  cut_around e j t u v w first cut last = record {
     deeds = cut.deeds;
     cut = cut.cut;
     done = done_around cut.deeds t u v w first cut.done (as_waited v w last);
@@ -199,45 +198,45 @@ module _ {C B : Type 0} (cache_facts : C → DiskFacts) (backing_facts : B → D
   some_same : (o : Option Journal) (j k : Journal) → o ≡ Some j → o ≡ Some k → j ≡ k
   some_same o j k a b = cc
 
-  abbrev Put : Option Journal → Heads → View cache_facts backing_facts
+  abbrev Put : Option Journal → View cache_facts backing_facts
       → View cache_facts backing_facts → Type 0
-  Put o heads v w =
-      (j : Journal) × (o ≡ Some j) × HasPut cache_facts backing_facts j heads v w
+  Put o v w =
+      (j : Journal) × (o ≡ Some j) × HasPut cache_facts backing_facts j v w
 
-  abbrev Cut : StepError → Option Journal → Heads → View cache_facts backing_facts
+  abbrev Cut : StepError → Option Journal → View cache_facts backing_facts
       → View cache_facts backing_facts → Type 0
-  Cut e o heads v w =
-      (j : Journal) × (o ≡ Some j) × HasCut cache_facts backing_facts e j heads v w
+  Cut e o v w =
+      (j : Journal) × (o ≡ Some j) × HasCut cache_facts backing_facts e j v w
 
-  pub all_behind : (r : Result (Unit {0}) StepError) (o : Option Journal) (heads : Heads)
+  pub all_behind : (r : Result (Unit {0}) StepError) (o : Option Journal)
       (v w : View cache_facts backing_facts) → HasAll cache_facts backing_facts v
-      → OnOk r (Put o heads v w) → IfErr r (λ e. Cut e o heads v w)
+      → OnOk r (Put o v w) → IfErr r (λ e. Cut e o v w)
       → HasAll cache_facts backing_facts w
-  all_behind (Ok u) o heads v w all put cut = still_all v w put.2.deeds all put.2.done
-  all_behind (Err e) o heads v w all put cut = still_all v w cut.2.deeds all cut.2.done
+  all_behind (Ok u) o v w all put cut = still_all v w put.2.deeds all put.2.done
+  all_behind (Err e) o v w all put cut = still_all v w cut.2.deeds all cut.2.done
 
-  module _ (o : Option Journal) (journal : Journal) (here : o ≡ Some journal) (heads : Heads)
+  module _ (o : Option Journal) (journal : Journal) (here : o ≡ Some journal)
       (t u v w : View cache_facts backing_facts)
       (first : HasDone cache_facts backing_facts [] t u)
       (last : Waited (m cache_facts backing_facts) v w) (seen : w.seen ≡ v.seen) where
-    pub put_result : (r : Result (Unit {0}) StepError) → OnOk r (Put o heads u v)
-        → OnOk r (HasPut cache_facts backing_facts journal heads t w)
-    put_result (Ok x) put = put_around journal heads t u v w first
-        (subst (λ (j : Journal). HasPut cache_facts backing_facts j heads u v)
+    pub put_result : (r : Result (Unit {0}) StepError) → OnOk r (Put o u v)
+        → OnOk r (HasPut cache_facts backing_facts journal t w)
+    put_result (Ok x) put = put_around journal t u v w first
+        (subst (λ (j : Journal). HasPut cache_facts backing_facts j u v)
         (some_same o put.0 journal put.1 here) put.2) last seen
     put_result (Err e) put = tt
 
-    pub cut_result : (r : Result (Unit {0}) StepError) → IfErr r (λ e. Cut e o heads u v)
-        → IfErr r (λ e. HasCut cache_facts backing_facts e journal heads t w)
+    pub cut_result : (r : Result (Unit {0}) StepError) → IfErr r (λ e. Cut e o u v)
+        → IfErr r (λ e. HasCut cache_facts backing_facts e journal t w)
     cut_result (Ok x) cut = tt
-    cut_result (Err e) cut = cut_around e journal heads t u v w first
-        (subst (λ (j : Journal). HasCut cache_facts backing_facts e j heads u v)
+    cut_result (Err e) cut = cut_around e journal t u v w first
+        (subst (λ (j : Journal). HasCut cache_facts backing_facts e j u v)
         (some_same o cut.0 journal cut.1 here) cut.2) last
 
     pub halt_result : (r : Result (Unit {0}) StepError) → IsNew cache_facts backing_facts t
-        → IsCoreSeat cache_facts backing_facts w → IfErr r (λ e. Cut e o heads u v)
+        → IsCoreSeat cache_facts backing_facts w → IfErr r (λ e. Cut e o u v)
         → IfErr r (λ e. IsCause e v.seen) → IfErr r IsNoHalt
     halt_result (Ok x) new seat cut cause = tt
     halt_result (Err e) new seat cut cause = let far = cut_result (Err e) cut in
-        no_halt e journal heads far.deeds v.seen far.cut
+        no_halt e journal far.deeds v.seen far.cut
         (sym seen ∙ own_all cache_facts backing_facts t w far.deeds new far.done seat) cause

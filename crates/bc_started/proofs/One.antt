@@ -6,6 +6,7 @@ use Rattle.bc_enter.proofs.Rooms.{one_next}
 use Rattle.bc_entries.specs.Journal.{Journal as Read}
 use Rattle.bc_entries.specs.Lists.{IsFit}
 use Rattle.bc_journal.specs.Journal.{Journal, journal_at}
+use Rattle.bc_journal.specs.Sealed.{heads_of}
 use Rattle.bc_journal.specs.declared.place.Place.{Place}
 use Rattle.bc_jset.specs.Entries.{FoundEntry}
 use Rattle.bc_jset.specs.Ring.{IsNextPlace, bucket_of}
@@ -58,7 +59,7 @@ one_resumed g read fit j k a b =
     (subst (λ (e : FoundEntry). IsAt g (bucket_of g e) b.next b.at) newest b.is_at)) a.is_at in
     let numbers = one_list g read.all b.numbers a.numbers b.are_newest a.are_newest in
     sym (b.is
-    ∙ ap (λ (p : Place). journal_at g p b.numbers b.newest.item.last_seq (b.newest.item.seq + 1)) at
-    ∙ ap (λ (l : List ℕ). journal_at g a.at l b.newest.item.last_seq (b.newest.item.seq + 1)) numbers
-    ∙ ap (λ (e : FoundEntry). journal_at g a.at a.numbers e.item.last_seq (e.item.seq + 1)) newest
+    ∙ ap (λ (p : Place). journal_at g p b.numbers b.newest.item.last_seq (b.newest.item.seq + 1) (heads_of b.newest.item)) at
+    ∙ ap (λ (l : List ℕ). journal_at g a.at l b.newest.item.last_seq (b.newest.item.seq + 1) (heads_of b.newest.item)) numbers
+    ∙ ap (λ (e : FoundEntry). journal_at g a.at a.numbers e.item.last_seq (e.item.seq + 1) (heads_of e.item)) newest
     ∙ sym a.is)

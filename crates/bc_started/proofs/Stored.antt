@@ -45,7 +45,7 @@ module _ {C B : Type 0} (cache_facts : C → DiskFacts) (backing_facts : B → D
       let at = sector_at h.next.sealed.geometry h.next.sealed.place in
       let first : World = opening cache_facts backing_facts (parts_of ready.tree h.beginning) in
       let events : List Event =
-      map (by 0) (put_by h.unsealed.journal h.next.sealed h.put.rest h.put.values) in
+      map (by 0) (put_by h.unsealed h.next.sealed h.put.rest h.put.values) in
       let now : world cache_facts backing_facts seat ≡ fold after first events =
       ap (λ (r : Run (CorePart C B)).
       fold after (opening cache_facts backing_facts r.start) seat.seen) h.works.run

@@ -1,11 +1,10 @@
 -- The first entry of a run, which its one seat puts before anything else has happened.
 use Rattle.std.specs.Prelude.{◌≡◌, ◌*◌, ◌≤◌, true, false, None, List, []}
 use Rattle.bc_disk.specs.Disk.{DiskFacts}
-use Rattle.bc_entry.specs.Seal.{AreNamed, CanSeal}
+use Rattle.bc_entry.specs.Seal.{CanSeal}
 use Rattle.bc_entry.specs.bc_hand.Seats.{Kinds, View}
 use Rattle.bc_journal.specs.Journal.{Journal}
-use Rattle.bc_journal.specs.declared.heads.Heads.{Heads}
-use Rattle.bc_entry.specs.bc_machine.World.{FromEach, IsJournal, cache_among, opening}
+use Rattle.bc_entry.specs.bc_machine.World.{IsJournal, cache_among, opening}
 use Rattle.bc_entry.specs.bc_machine.declared.part.CorePart.{CorePart}
 
 -- the journal and the cache device are in hand, and nothing else
@@ -31,13 +30,10 @@ module _ {C B : Type 0} (cache_facts : C → DiskFacts) (backing_facts : B → D
     pub all : HasAll v
     pub seen : v.seen ≡ []
 
-  -- The journal stands for what a run that began with these parts opens with. It can seal an entry
-  -- that names what the newest one names.
-  pub record CanPutFirst (start : List (CorePart C B)) (j : Journal) (heads : Heads) : Type 0
-    where
-      pub can : CanSeal j
-      pub disk : j.ring.geometry.bucket * j.ring.geometry.nbuckets
-          ≤ (cache_among cache_facts backing_facts start).sectors
-      pub stands : IsJournal j (opening cache_facts backing_facts start)
-      pub named : FromEach (opening cache_facts backing_facts start)
-          (AreNamed j.ring.geometry heads)
+  -- The journal stands for what a run that began with these parts opens with, and can seal an
+  -- entry.
+  pub record CanPutFirst (start : List (CorePart C B)) (j : Journal) : Type 0 where
+    pub can : CanSeal j
+    pub disk : j.ring.geometry.bucket * j.ring.geometry.nbuckets
+        ≤ (cache_among cache_facts backing_facts start).sectors
+    pub stands : IsJournal j (opening cache_facts backing_facts start)

@@ -10,7 +10,6 @@ use Rattle.bc_disk.specs.Stands.{settled_model}
 use Rattle.bc_disk.specs.declared.geometry.Geometry.{Geometry}
 use Rattle.bc_enter.specs.Begun.{IsBegun, IsUnsealed}
 use Rattle.bc_enter.specs.declared.next.Next.{Next}
-use Rattle.bc_enter.specs.declared.next.Unsealed.{Unsealed}
 use Rattle.bc_entries.specs.Journal.{HasJournal, Journal as Read}
 use Rattle.bc_entries.specs.Lists.{IsFit}
 use Rattle.bc_entries.specs.Reading.{StandsWithin}
@@ -20,6 +19,7 @@ use Rattle.bc_events.specs.declared.event.Deed.{Deed}
 use Rattle.bc_entry.specs.bc_hand.Seats.{View, Works, by, empty, world}
 use Rattle.bc_entry.specs.bc_machine.World.{FromEach}
 use Rattle.bc_entry.specs.bc_machine.declared.part.CorePart.{CorePart}
+use Rattle.bc_journal.specs.Journal.{Journal}
 use Rattle.bc_parts.specs.Seat.{PartsView}
 use Rattle.bc_pending.specs.Entries.{keys_in}
 use Rattle.bc_pending.specs.Pieces.{ArePending}
@@ -68,12 +68,12 @@ pub record HasStarted {C B : Type 0} (cache_facts : C → DiskFacts)
   pub made : IsMadeOf ready beginning
   pub start : parts.run.start ≡ parts_of ready.tree beginning
   pub seats : parts.seats ≡ 320
-  pub unsealed : Unsealed
+  pub unsealed : Journal
   pub is_unsealed : IsUnsealed g read unsealed
   pub next : Next
   pub begun : IsBegun g read next
   pub deeds : List Deed
-  pub put : IsPut unsealed.journal next.sealed deeds
+  pub put : IsPut unsealed next.sealed deeds
   pub seen : seat.seen ≡ map (by 0) deeds
   -- from each opening that entry is the newest durable one
   pub newest : FromEach (world cache_facts backing_facts seat) (IsNewestEntry g next.sealed.entry)

@@ -9,7 +9,6 @@ use Rattle.bc_disk.specs.Disk.{DiskFacts}
 use Rattle.bc_disk.specs.declared.geometry.Geometry.{Geometry}
 use Rattle.bc_enter.specs.Begun.{IsUnsealed}
 use Rattle.bc_enter.specs.Next.{IsOdd}
-use Rattle.bc_enter.specs.declared.next.Unsealed.{Unsealed}
 use Rattle.bc_entries.specs.Journal.{Journal as Read}
 use Rattle.bc_entry.specs.Put.{IsCut}
 use Rattle.bc_events.specs.declared.event.Deed.{Deed}
@@ -17,6 +16,7 @@ use Rattle.bc_entry.specs.bc_hand.Seats.{by}
 use Rattle.bc_entry.specs.bc_hand.declared.error.StepError.{StepError}
 use Rattle.bc_entry.specs.bc_hand.declared.error.StepError.TheVariants as step
 use Rattle.bc_entry.specs.bc_machine.World.{IsBacking, IsCache, World, after, opening}
+use Rattle.bc_journal.specs.Journal.{Journal}
 use Rattle.bc_started.specs.declared.start.NotStarted.{NotStarted}
 use Rattle.bc_started.specs.declared.start.StartError.{StartError}
 use Rattle.bc_started.specs.declared.start.StartError.TheVariants as errors
@@ -56,12 +56,12 @@ module _ {C B : Type 0} (cache_facts : C → DiskFacts) (backing_facts : B → D
   pub record HasEnded (n : NotStarted C B) (pass : Pass) : Type 0 where
     pub beginning : Beginning C B
     pub made : IsMadeOf ready beginning
-    pub unsealed : Unsealed
+    pub unsealed : Journal
     pub is_unsealed : IsUnsealed g read unsealed
     pub error : StepError
     pub cause : IsCauseOf error n.why
     pub deeds : List Deed
-    pub cut : IsCut error unsealed.journal unsealed.heads deeds
+    pub cut : IsCut error unsealed deeds
     pub events : events_in pass ≡ map (by 0) deeds
     pub cache : IsCache cache_facts backing_facts n.cache (behind beginning deeds)
     pub backing : IsBacking cache_facts backing_facts n.backing (behind beginning deeds)

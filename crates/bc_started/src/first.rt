@@ -3,7 +3,6 @@ ghost use Rattle.std.specs.Prelude.{◌≡◌, false, IfErr, OnOk};
 ghost use Rattle.bc_seats.specs.Seats.{Waited};
 ghost use Rattle.bc_entry.specs.Put.{HasCut, HasPut};
 ghost use Rattle.bc_entry.specs.bc_hand.Seats.{Works, core, empty, kinds};
-ghost use Rattle.bc_jset.specs.EntryBytes.{IsLevel};
 ghost use Rattle.bc_entry.specs.bc_machine.World.{are_plain};
 ghost use Rattle.bc_started.specs.Stop.{IsNoHalt};
 ghost use Rattle.bc_started.specs.First.{CanPutFirst, HasAll, IsNew, journal_and_cache};
@@ -16,7 +15,7 @@ use bc_entry::bc_hand::lend::{borrow_cache, borrow_journal, return_cache, return
 use bc_entry::bc_machine::machine::{CoreParts, CoreSeat};
 use bc_entry::bc_machine::part::Apart;
 use bc_entry::put::put_entry;
-use bc_journal::{Heads, Journal};
+use bc_journal::Journal;
 use std::alloc::Global;
 use std::sync::Wait;
 
@@ -35,18 +34,16 @@ pub fn put_first<C: Disk + Drop, B: Disk + Drop, R: Wait>(
     parts: &CoreParts<C, B>,
     seat: &mut CoreSeat<C, B>,
     journal: Apart<Journal>,
-    heads: &Heads,
 ) -> Result<(), StepError>
     requires works { Works C.facts B.facts parts.now seat.old empty }
     requires new { IsNew C.facts B.facts seat.old }
     requires cached { are_plain C.facts B.facts parts.now.run.start ≡ false }
-    requires level { IsLevel heads.now.level }
-    requires can { CanPutFirst C.facts B.facts parts.now.run.start journal heads.now }
+    requires can { CanPutFirst C.facts B.facts parts.now.run.start journal }
     ensures works { Works C.facts B.facts parts.now seat.new empty }
     ensures all { HasAll C.facts B.facts seat.new }
-    ensures ok { OnOk result (HasPut C.facts B.facts journal heads.now seat.old seat.new) }
+    ensures ok { OnOk result (HasPut C.facts B.facts journal seat.old seat.new) }
     ensures err { IfErr result
-        (λ error. HasCut C.facts B.facts error journal heads.now seat.old seat.new) }
+        (λ error. HasCut C.facts B.facts error journal seat.old seat.new) }
     ensures no_halt { IfErr result IsNoHalt }
 {
     let mut hand = Hand::empty();
@@ -57,7 +54,7 @@ pub fn put_first<C: Disk + Drop, B: Disk + Drop, R: Wait>(
     hand.journal = Some(journal);
     let (cache, _taken) = borrow_cache(rt, parts, seat, &mut hand);
     hand.cache = Some(cache);
-    let done = put_entry(rt, alloc, parts, seat, &mut hand, heads);
+    let done = put_entry(rt, alloc, parts, seat, &mut hand);
     give_back(parts, seat, hand);
     done
 }

@@ -11,12 +11,12 @@ use bc_book::pass::Pass;
 use bc_cached::run::{Devices, Ended, Ready, begin, end};
 use bc_disk::disk::Disk;
 use bc_disk::geometry::Geometry;
-use bc_enter::{Unsealed, next_journal};
+use bc_enter::next_journal;
 use bc_entries::Journal as Entries;
 use bc_entry::bc_hand::error::StepError;
 use bc_entry::bc_machine::machine::{CoreParts, CoreSeat};
 use bc_entry::bc_machine::part::{Apart, BackingPart};
-use bc_journal::{Heads, Journal};
+use bc_journal::Journal;
 use std::alloc::Global;
 use std::sync::Wait;
 
@@ -41,31 +41,23 @@ pub struct NotStarted<C, B> {
     pub pass: Option<Pass>,
 }
 
-// The journal that puts the entry, apart, and what that names.
-#[derive(Drop)]
-struct First {
-    journal: Apart<Journal>,
-    heads: Heads,
-}
-
-// The journal that puts the entry: one that goes on behind what was read, as that of the run does.
-fn first_journal(alloc: Global, g: &Geometry, read: &Entries) -> Result<First, StartError>
+// The journal that puts the entry, apart: one that goes on behind what was read, as that of the run
+// does.
+fn first_journal(alloc: Global, g: &Geometry, read: &Entries) -> Result<Apart<Journal>, StartError>
     requires fit { IsFit g.now read.now.all read.now.entries }
     requires places { All (StandsWithin g.now) read.now.all }
-    ensures found { IfOk result (λ f. (u : Unsealed) × IsUnsealed g.now read.now u
-        × (f.journal ≡ u.journal) × (f.heads ≡ u.heads)) }
+    ensures found { IfOk result (IsUnsealed g.now read.now) }
     ensures cause { IfErr result (IsEarly read.now) }
 {
-    let unsealed = match next_journal(alloc, g, read) {
-        Ok(Some(unsealed)) => unsealed,
+    let journal = match next_journal(alloc, g, read) {
+        Ok(Some(journal)) => journal,
         Ok(None) => return Err(StartError::Odd),
         Err(_) => return Err(StartError::Memory),
     };
-    let Unsealed { journal, heads } = unsealed;
-    let Ok(journal) = Apart::new(alloc, journal) else {
-        return Err(StartError::Memory);
-    };
-    Ok(First { journal, heads })
+    match Apart::new(alloc, journal) {
+        Ok(journal) => Ok(journal),
+        Err(_) => Err(StartError::Memory),
+    }
 }
 
 // The devices of what a run isn't begun with.
@@ -77,6 +69,8 @@ fn devices_of<C: Drop, B: Drop>(ready: Ready<C, B>) -> Devices<C, B>
         tree: _,
         buckets: _,
         reserves: _,
+        chain: _,
+        walk: _,
         journal: _,
         cache,
         backing,
@@ -148,16 +142,15 @@ pub fn start<C: Disk + Drop, B: Disk + Drop, R: Wait>(
     ensures ok { IfOk result (λ r. HasStarted C.facts B.facts g.now read.now ready r.0 r.1) }
     ensures err { IfErr result (IsNotStarted C.facts B.facts g.now read.now ready) }
 {
-    let first = match first_journal(alloc, g, read) {
-        Ok(first) => first,
+    let journal = match first_journal(alloc, g, read) {
+        Ok(journal) => journal,
         Err(why) => return Err(unbegun(why, devices_of(ready))),
     };
-    let First { journal, heads } = first;
     let (parts, mut seat) = match begin(alloc, ready) {
         Ok(run) => run,
         Err(devices) => return Err(unbegun(StartError::Memory, devices)),
     };
-    match put_first(rt, alloc, &parts, &mut seat, journal, &heads) {
+    match put_first(rt, alloc, &parts, &mut seat, journal) {
         Ok(()) => Ok((parts, seat)),
         Err(error) => Err(ended(error, end(parts, seat))),
     }

@@ -114,6 +114,7 @@ can_drop h parts number first count slot key leaves j b cached is is_j is_b part
         are_buckets = is_b;
       };
       may = record {
+        some = λ none. cc;
         alone = refl;
         gone = All-cons (IsGone (alone_at first count) cached.leaf b.buckets.size) key []
             (is_gone cached.leaf b.buckets.size first count key empty some few backed)

@@ -10,7 +10,7 @@ ghost use Rattle.bc_cached.specs.bc_machine.World.{are_plain};
 
 use bc_alloc::Reserves;
 use bc_book::pass::{Pass, Record};
-use bc_bucket::Buckets;
+use bc_bucket::{Buckets, Walk};
 use bc_cache::NodeCache;
 use bc_cached::bc_machine::machine::{CoreParts, CoreSeat};
 use bc_cached::bc_machine::part::BackingPart;
@@ -20,7 +20,8 @@ use bc_disk::disk::Disk;
 use bc_disk::gens::Gens;
 use bc_disk::geometry::Geometry;
 use bc_disk::modelled::settle;
-use bc_journal::{Journal, Place};
+use bc_journal::{Heads, Journal, Place};
+use bc_key::{Key, Ptr};
 use bc_replay::survey;
 use std::alloc::{AllocError, Global};
 use std::process::Abort;
@@ -47,6 +48,24 @@ fn unused(alloc: Global) -> Result<(Buckets, Reserves), AllocError>
     Ok((buckets, reserves))
 }
 
+// What the newest entry names, which no run here reads.
+fn heads() -> Heads
+    ensures { result.level ≡ 1 }
+{
+    let pointer = Ptr {
+        dev: 0,
+        offset: 640,
+        generation: 0,
+    };
+    let key = Key::new(64, 64, false, Some(pointer));
+    Heads {
+        uuid_bucket: key,
+        root: key,
+        level: 1,
+        prio: 11,
+    }
+}
+
 // A journal without entries.
 fn no_entries(alloc: Global) -> Result<Journal, AllocError> {
     let front = Place {
@@ -54,7 +73,7 @@ fn no_entries(alloc: Global) -> Result<Journal, AllocError> {
         sector: 0,
     };
     let newest = [0, 0, 0, 0, 0, 0, 0, 0];
-    Journal::new(alloc, &GEOMETRY, front, &newest, 0, 1)
+    Journal::new(alloc, &GEOMETRY, front, &newest, 0, 1, &heads())
 }
 
 // One part with one empty slot.
@@ -86,6 +105,8 @@ pub(crate) fn ready<C: Disk + Drop, B: Disk + Drop>(
     let s = survey(alloc, &mut cache, &mut backing)?;
     let tree = tree_of(alloc, &mut cache, &s)?;
     let (buckets, reserves) = unused(alloc)?;
+    let chain = Vec::new(alloc);
+    let walk = Walk::new(alloc, &GEOMETRY)?;
     let journal = no_entries(alloc)?;
     let leaves = one_slot(alloc, &s.supers.geometry)?;
     settle(&mut cache)?;
@@ -100,6 +121,8 @@ pub(crate) fn ready<C: Disk + Drop, B: Disk + Drop>(
         tree,
         buckets,
         reserves,
+        chain,
+        walk,
         journal,
         cache,
         backing,

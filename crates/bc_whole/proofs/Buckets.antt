@@ -1,7 +1,7 @@
 -- Buckets that are taken, let go and given up, and changes of the tree.
 use Rattle.std.proofs.Common.{◌≡◌, ◌⊎◌, inl, inr, ℕ, suc, ◌<◌, Bool, true, false, List, [], ◌∷◌, Option, Some, None, refl, sym, ap, ◌∙◌, subst, arith, if◌then◌else◌}
 use Rattle.bc_books.specs.Index.{put}
-use Rattle.bc_books.specs.Shelves.{Purpose, Priorities, Tree, Plain, Shelf, Loose, Listed, Held, IsFor, taken_to, put_back}
+use Rattle.bc_books.specs.Shelves.{Moving, Purpose, Priorities, Tree, Plain, Shelf, Loose, Listed, Held, IsFor, taken_to, put_back}
 use Rattle.bc_books.specs.Chains.{at_ready, given_up}
 use Rattle.bc_books.specs.Books.{Step, Put, Regroup, Take, Shut, LetGo, Pin, Unpin, Keep, BeginNode, MakeNode, DropNode, Raise, MakeReady, ReadyChain, Seal, SealChain, Sealed, Begin, Walk, End, Drop}
 use Rattle.bc_books.specs.Invariant.{IsInOrder}
@@ -73,7 +73,8 @@ module _ (w : Opening) (st : State) (seat : ℕ) (link : AreLinked (stored w.bef
     nodes = λ q e. put_nodes st.flow.books.node st.flow.books.shelf b (taken_to seat p)
         (λ j. elim can [
           | inl l ↦ not_listed (st.flow.books.shelf b) j Plain l
-          | inr l ↦ not_listed (st.flow.books.shelf b) j p l
+          | inr (inl l) ↦ not_listed (st.flow.books.shelf b) j p l
+          | inr (inr l) ↦ not_listed (st.flow.books.shelf b) j Moving l.1
         ]) q (link.nodes q e);
   }
 

@@ -256,7 +256,7 @@ on0 = record {
 on1 : IsEnabled opening s1 1 (Take Priorities 4)
 on1 = record {
   together = λ e. cc;
-  flow = (record { heard = refl; steps = (inr refl, tt); can = refl }, tt);
+  flow = (record { heard = refl; steps = (inr (inl refl), tt); can = refl }, tt);
   store = (
     refl,
     (vacant 4 (omega arith) (omega arith) refl, tt),
@@ -302,7 +302,7 @@ on2 = record {
 on3 : IsEnabled opening s3 1 (Take Tree 5)
 on3 = record {
   together = λ e. cc;
-  flow = (record { heard = refl; steps = (inr refl, tt); can = refl }, tt);
+  flow = (record { heard = refl; steps = (inr (inl refl), tt); can = refl }, tt);
   store = (
     refl,
     (vacant 5 (omega arith) (omega arith) refl, tt),
@@ -315,7 +315,7 @@ on3 = record {
 on4 : IsEnabled opening s4 1 (Take Tree 6)
 on4 = record {
   together = λ e. cc;
-  flow = (record { heard = refl; steps = (inr refl, tt); can = refl }, tt);
+  flow = (record { heard = refl; steps = (inr (inl refl), tt); can = refl }, tt);
   store = (
     refl,
     (vacant 6 (omega arith) (omega arith) refl, tt),

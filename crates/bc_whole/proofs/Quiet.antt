@@ -97,7 +97,8 @@ quiet_step w k (Regroup leaf changed counts last) is can = absurd (cc)
 quiet_step w k (Take i Plain b) is can = shelved w k (Take i Plain b) refl refl refl refl refl
     (put_nodes k.node k.shelf b Open (λ j. elim can [
       | inl e ↦ not_listed (k.shelf b) j Plain e
-      | inr e ↦ not_listed (k.shelf b) j Plain e
+      | inr (inl e) ↦ not_listed (k.shelf b) j Plain e
+      | inr (inr e) ↦ not_listed (k.shelf b) j Moving e.1
     ]))
 quiet_step w k (Take i Priorities b) is can = absurd (cc)
 quiet_step w k (Take i Moving b) is can = absurd (cc)

@@ -193,7 +193,7 @@ vacant_9 = (
 on2 : IsEnabled opening v2 1 (Take Tree 9)
 on2 = record {
   together = λ e. cc;
-  flow = (record { heard = refl; steps = (inr refl, tt); can = refl }, tt);
+  flow = (record { heard = refl; steps = (inr (inl refl), tt); can = refl }, tt);
   store = (refl, (vacant_9, tt), (omega arith), (refl, refl, (omega arith)), tt);
 }
 
@@ -264,7 +264,7 @@ vacant_10 = (
 on6 : IsEnabled opening v6 1 (Take Tree 10)
 on6 = record {
   together = λ e. cc;
-  flow = (record { heard = refl; steps = (inr refl, tt); can = refl }, tt);
+  flow = (record { heard = refl; steps = (inr (inl refl), tt); can = refl }, tt);
   store = (refl, (vacant_10, tt), (omega arith), (refl, refl, (omega arith)), tt);
 }
 

@@ -60,6 +60,8 @@ pub(crate) fn ready<C: Disk + Drop, B: Disk + Drop>(
         leaves: _,
         buckets,
         reserves,
+        chain,
+        walk,
         journal,
     } = load(alloc, &mut cache, &s, 1)?;
     let leaves = one_slot(alloc, &s.supers.geometry)?;
@@ -75,6 +77,8 @@ pub(crate) fn ready<C: Disk + Drop, B: Disk + Drop>(
         tree,
         buckets,
         reserves,
+        chain,
+        walk,
         journal,
         cache,
         backing,

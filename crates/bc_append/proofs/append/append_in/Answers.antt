@@ -1,10 +1,9 @@
-use Rattle.std.proofs.Common.{◌≡◌, ◌+◌, ◌*◌, ℕ, false, List, Option, Some, refl, sym, ap, ◌∙◌, subst, arith}
+use Rattle.std.proofs.Common.{◌≡◌, ◌+◌, ◌*◌, ℕ, List, Some, refl, sym, ap, ◌∙◌, subst, arith}
 use Rattle.std.specs.Prelude.{Err, Ok, drop, length, slice_get, take, true}
 use Rattle.std.proofs.lemmas.List.{take_at}
 use Rattle.bc_append.proofs.Held.{one_cached}
 use Rattle.bc_append.proofs.Sending.{has_appended, has_lost, holds_err, holds_ok, may_err, may_ok, occupied, same_leaves, there_in, values_are, works_err, works_ok}
-use Rattle.bc_append.specs.Append.{FitsOn, HasAppended, HasLost, IsSent, append_by, lost_by, place_in, values_in}
-use Rattle.bc_cache.specs.Slots.{NodeCache}
+use Rattle.bc_append.specs.Append.{FitsOn, HasAppended, HasLost, IsSent, place_in}
 use Rattle.bc_cache.specs.declared.slots.Cached.{Cached}
 use Rattle.bc_events.specs.declared.event.Deed.{Deed}
 use Rattle.bc_events.specs.declared.event.Deed.TheVariants as deed

@@ -1,4 +1,4 @@
-use Rattle.std.proofs.Common.{◌≡◌, ℕ, ◌+◌, ◌<◌, ◌≤◌, None, Option, Some, refl, sym, ap, ◌∙◌, subst}
+use Rattle.std.proofs.Common.{◌+◌, ◌<◌, ◌≤◌, None, refl, sym, ap, ◌∙◌, subst}
 use Rattle.std.specs.Prelude.{length}
 use Rattle.bc_append.proofs.Lasting.{law_known}
 use Rattle.bc_append.proofs.Returned.{appended_back, appended_keeps, appended_kinds, can_in, full_where, leaf_in, lost_back, lost_keeps, lost_kinds, on_true, outside_where, same_back, sectors_of, some_back}

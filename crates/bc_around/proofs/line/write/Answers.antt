@@ -8,9 +8,7 @@ pub loop-number-init : goal.loop-number-init
 loop-number-init g c = (
   c.requires.idle,
   c.requires.its,
-  c.requires.known,
-  none_yet g.C.Disk.facts g.B.Disk.facts c.args.parts.now c.args.job.now c.args.values.now
-      c.args.heads.now c.first_piece-number.result c.args.seat.now c.first_piece-number.ensures,
+  none_yet g.C.Disk.facts g.B.Disk.facts c.args.parts.now c.args.job.now c.args.values.now c.first_piece-number.result c.args.seat.now c.first_piece-number.ensures,
 )
 
 pub write_at-requires-clause-inside : goal.write_at-requires-clause-inside
@@ -24,11 +22,10 @@ returns-in-Err-clause-err g c =
     let first_ = c.first_piece-number.ensures in
     let end = c.end_piece-number-end.ensures in
     let test = c.loop-number-test.true in
-    refused_at g.C.Disk.facts g.B.Disk.facts c.args.parts.now c.args.job.now c.args.values.now
-    c.args.heads.now c.loop-number.number c.piece-piece.result.first c.piece-piece.result.count
+    refused_at g.C.Disk.facts g.B.Disk.facts c.args.parts.now c.args.job.now c.args.values.now c.loop-number.number c.piece-piece.result.first c.piece-piece.result.count
     (omega arith) c.piece-piece.ensures.first c.piece-piece.ensures.count (omega arith)
     c.in-Err.error c.args.seat.now c.loop-number.seat c.write_at.new.seat
-    c.loop-number.invariant.3 c.in-Err.ensures.err
+    c.loop-number.invariant.2 c.in-Err.ensures.err
 
 pub returns-in-Cached-clause-ok : goal.returns-in-Cached-clause-ok
 returns-in-Cached-clause-ok g c =
@@ -36,11 +33,10 @@ returns-in-Cached-clause-ok g c =
     let first_ = c.first_piece-number.ensures in
     let end = c.end_piece-number-end.ensures in
     let test = c.loop-number-test.true in
-    stopped_at g.C.Disk.facts g.B.Disk.facts c.args.parts.now c.args.job.now c.args.values.now
-    c.args.heads.now c.loop-number.number c.piece-piece.result.first c.piece-piece.result.count
+    stopped_at g.C.Disk.facts g.B.Disk.facts c.args.parts.now c.args.job.now c.args.values.now c.loop-number.number c.piece-piece.result.first c.piece-piece.result.count
     (omega arith) c.piece-piece.ensures.first c.piece-piece.ensures.count (omega arith) _
     c.in-Ok.past past.Cached c.args.seat.now c.loop-number.seat c.write_at.new.seat refl refl refl
-    c.in-Cached.is cached_not c.loop-number.invariant.3 c.in-Ok.ensures.ok
+    c.in-Cached.is cached_not c.loop-number.invariant.2 c.in-Ok.ensures.ok
 
 pub returns-in-Waiting-clause-ok : goal.returns-in-Waiting-clause-ok
 returns-in-Waiting-clause-ok g c =
@@ -48,11 +44,10 @@ returns-in-Waiting-clause-ok g c =
     let first_ = c.first_piece-number.ensures in
     let end = c.end_piece-number-end.ensures in
     let test = c.loop-number-test.true in
-    stopped_at g.C.Disk.facts g.B.Disk.facts c.args.parts.now c.args.job.now c.args.values.now
-    c.args.heads.now c.loop-number.number c.piece-piece.result.first c.piece-piece.result.count
+    stopped_at g.C.Disk.facts g.B.Disk.facts c.args.parts.now c.args.job.now c.args.values.now c.loop-number.number c.piece-piece.result.first c.piece-piece.result.count
     (omega arith) c.piece-piece.ensures.first c.piece-piece.ensures.count (omega arith) _
     c.in-Ok.past past.Waiting c.args.seat.now c.loop-number.seat c.write_at.new.seat refl refl refl
-    c.in-Waiting.is waiting_not c.loop-number.invariant.3 c.in-Ok.ensures.ok
+    c.in-Waiting.is waiting_not c.loop-number.invariant.2 c.in-Ok.ensures.ok
 
 pub loop-number-preserved : goal.loop-number-preserved
 loop-number-preserved g c =
@@ -63,16 +58,14 @@ loop-number-preserved g c =
       for_still g.C.Disk.facts g.B.Disk.facts c.args.job.now c.loop-number.seat
           c.write_at.new.seat
           (gone_passed_at g.C.Disk.facts g.B.Disk.facts c.args.parts.now c.args.job.now
-          c.args.values.now c.args.heads.now c.loop-number.number c.piece-piece.result.first
+          c.args.values.now c.loop-number.number c.piece-piece.result.first
           c.piece-piece.result.count from c.piece-piece.ensures.first c.piece-piece.ensures.count
           c.in-Ok.past c.loop-number.seat c.write_at.new.seat c.in-Ok.ensures.ok)
           c.loop-number.invariant.1,
-      c.write_at.ensures.known,
-      one_more g.C.Disk.facts g.B.Disk.facts c.args.parts.now c.args.job.now c.args.values.now
-          c.args.heads.now c.loop-number.number c.piece-piece.result.first
+      one_more g.C.Disk.facts g.B.Disk.facts c.args.parts.now c.args.job.now c.args.values.now c.loop-number.number c.piece-piece.result.first
           c.piece-piece.result.count from c.piece-piece.ensures.first c.piece-piece.ensures.count
           c.in-Ok.past c.args.seat.now c.loop-number.seat c.write_at.new.seat c.in-Written.is
-          c.loop-number.invariant.3 c.in-Ok.ensures.ok,
+          c.loop-number.invariant.2 c.in-Ok.ensures.ok,
     )
 
 pub returns-clause-ok : goal.returns-clause-ok
@@ -82,6 +75,5 @@ returns-clause-ok g c =
     let end = c.end_piece-number-end.ensures in
     let test = c.loop-number-test.false in
     let most = c.loop-number.auto.number-end in
-    all_of g.C.Disk.facts g.B.Disk.facts c.args.parts.now c.args.job.now c.args.values.now
-    c.args.heads.now c.loop-number.number c.end_piece-number-end.result c.args.seat.now
-    c.loop-number.seat c.end_piece-number-end.ensures (omega arith) c.loop-number.invariant.3
+    all_of g.C.Disk.facts g.B.Disk.facts c.args.parts.now c.args.job.now c.args.values.now c.loop-number.number c.end_piece-number-end.result c.args.seat.now
+    c.loop-number.seat c.end_piece-number-end.ensures (omega arith) c.loop-number.invariant.2

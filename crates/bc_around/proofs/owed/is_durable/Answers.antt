@@ -23,7 +23,7 @@ returns-clause-durable g c = λ none.
     all_durable cf bf c.args.seat.now took.new.seat c.return_journal.new.seat took.result.0
     took.ensures.waited c.return_journal.ensures.waited
     (journal_stands cf bf c.args.parts.now took.new.seat _ took.result.0 took.ensures.lent refl)
-    c.requires.known.0 took.ensures.lent.seat c.requires.known.1
+    took.ensures.lent.seat
     (subst OwesNone c.get.ensures (if_true _ _ c.owes_none-none.result c.owes_none-none.ensures
     none))
 

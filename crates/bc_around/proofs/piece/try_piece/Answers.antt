@@ -1,5 +1,5 @@
 use Rattle.bc_around.proofs.Holding.{still_empty}
-use Rattle.bc_around.proofs.Pieces.{claim_of_all, come_same, halted_or, idle_again, known_claimed, no_memory, not_claimed, stop_same, stopped_there, tried_there}
+use Rattle.bc_around.proofs.Pieces.{claim_of_all, come_same, halted_or, idle_again, no_memory, not_claimed, stop_same, stopped_there, tried_there}
 use Rattle.bc_around.proofs.piece.try_piece.Goals as goal
 
 pub returns-in_default-clause-err : goal.returns-in_default-clause-err
@@ -17,15 +17,6 @@ returns-in-Err-clause-err g c = not_claimed g.C.Disk.facts g.B.Disk.facts c.args
     c.args.force c.args.of c.args.first c.args.values.now c.in-Err.error c.args.seat.now
     c.promise.new.seat c.claim_range.new.seat c.promise.ensures.done c.in-Err.ensures.err.1
     (halted_or c.in-Err.error c.claim_range.new.seat.seen c.in-Err.ensures.err.0)
-
-pub write_past-tried-requires-clause-known : goal.write_past-tried-requires-clause-known
-write_past-tried-requires-clause-known g c = (
-  c.requires.known.0,
-  known_claimed g.C.Disk.facts g.B.Disk.facts c.requires.known.0 c.args.seat.now
-      c.promise.new.seat c.claim_range.new.seat c.args.first c.len-count.result
-      c.promise.ensures.done c.in-Ok-claim_range.ensures.ok.done c.claim_range.ensures.works.seat
-      c.requires.known.1,
-)
 
 pub returns-clause-idle : goal.returns-clause-idle
 returns-clause-idle g c = idle_again g.C.Disk.facts g.B.Disk.facts c.args.parts.now

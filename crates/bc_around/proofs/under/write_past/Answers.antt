@@ -3,7 +3,7 @@ use Rattle.bc_flush.proofs.Syncing.{as_waited}
 use Rattle.bc_flush.proofs.of_bc_reader.Looking.{range_still}
 use Rattle.bc_around.specs.Bare.{AreBare}
 use Rattle.bc_around.specs.Look.{HasLookedFree}
-use Rattle.bc_around.proofs.Looked.{bare_seen, known_looked, looked_on, range_free, range_not_looked}
+use Rattle.bc_around.proofs.Looked.{bare_seen, looked_on, range_free, range_not_looked}
 use Rattle.bc_around.proofs.Owing.{if_true}
 use Rattle.bc_around.proofs.under.write_past.Goals as goal
 
@@ -11,15 +11,6 @@ pub returns-in-Err-clause-claim : goal.returns-in-Err-clause-claim
 returns-in-Err-clause-claim g c = range_not_looked g.C.Disk.facts g.B.Disk.facts
     c.args.parts.now c.args.first c.len.result c.in-Err.error c.args.seat.now c.look_at.new.seat
     c.in-Err.ensures.err
-
-pub is_durable-requires-clause-known : goal.is_durable-requires-clause-known
-is_durable-requires-clause-known g c = (
-  c.requires.known.0,
-  known_looked g.C.Disk.facts g.B.Disk.facts c.args.parts.now c.args.first c.len.result
-      c.args.seat.now c.look_at.new.seat
-      (if_true _ _ c.in-Ok-true.field-0 c.in-Ok-true.ensures.ok c.in-Ok-true.field-0-test)
-      c.requires.known.0 c.look_at.ensures.works.seat c.requires.known.1,
-)
 
 pub returns-then-not-is_durable-clause-ok : goal.returns-then-not-is_durable-clause-ok
 returns-then-not-is_durable-clause-ok g c = record {

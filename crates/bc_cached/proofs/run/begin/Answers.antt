@@ -94,7 +94,8 @@ returns-in-Ok-new-clause-ok g c =
         claims = c.in-Ok.ensures.1;
         candidates = c.in-Ok.ensures.2;
         next = c.in-Ok.ensures.3;
-        buckets = subst (λ (b : BucketsPart). AreUnopened c.args.ready.buckets c.args.ready.reserves b)
+        buckets = subst (λ (b : BucketsPart). AreUnopened c.args.ready.buckets c.args.ready.reserves
+            c.args.ready.chain c.args.ready.walk b)
             (sym c.in-Ok-set_apart.ensures.1) c.unopened-buckets.ensures;
         journal = c.in-Ok-set_apart.ensures.2;
         cache = refl;

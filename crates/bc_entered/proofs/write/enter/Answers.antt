@@ -25,7 +25,7 @@ returns-in-Err-clause-left g c = unmoved c.args.g.now c.args.read.now (g.C.Disk.
 pub write_entry-requires : goal.write_entry-requires
 write_entry-requires g c =
     on_disk c.args.g.now c.args.read.now c.in-Ok-Some.next.sealed c.bytes.result.now c.sector.result (g.C.Disk.facts c.args.cache.now)
-    (subst (λ o. IfSome o (IsBegun c.args.g.now c.args.read.now)) c.in-Ok-Some.field-0-is c.in-Ok-Some.ensures.some).entry c.bytes.ensures c.sector.ensures.value c.requires.division
+    (subst (λ o. IfSome o (IsBegun c.args.g.now c.args.read.now)) c.in-Ok-Some.field-0-is c.in-Ok-Some.ensures.some).entry c.bytes.ensures.bytes c.sector.ensures.value c.requires.division
 
 pub returns-then-is_err-clause-cause : goal.returns-then-is_err-clause-cause
 returns-then-is_err-clause-cause g c =
@@ -41,7 +41,7 @@ returns-then-is_err-clause-left g c =
     let new = g.C.Disk.facts c.write_entry.new.disk in
     let at = c.sector.ensures.value ∙ ap (λ (h : Geometry). sector_at h s.place) next.geometry in
     moved c.args.read.now s bytes old new c.args.g.now next
-    (subst (λ (h : Geometry). AreBytesOf h s.entry bytes) next.geometry c.bytes.ensures)
+    (subst (λ (h : Geometry). AreBytesOf h s.entry bytes) next.geometry c.bytes.ensures.bytes)
     (subst (λ n. IsPartly n (values_of bytes) old new) at c.write_entry.ensures.partly)
 
 pub returns-clause-left : goal.returns-clause-left
@@ -54,7 +54,7 @@ returns-clause-left g c =
     let new = g.C.Disk.facts c.write_entry.new.disk in
     let at = c.sector.ensures.value ∙ ap (λ (h : Geometry). sector_at h s.place) next.geometry in
     moved c.args.read.now s bytes old new c.args.g.now next
-    (subst (λ (h : Geometry). AreBytesOf h s.entry bytes) next.geometry c.bytes.ensures)
+    (subst (λ (h : Geometry). AreBytesOf h s.entry bytes) next.geometry c.bytes.ensures.bytes)
     (subst (λ n. IsPartly n (values_of bytes) old new) at c.write_entry.ensures.partly)
 
 pub returns-clause-ok : goal.returns-clause-ok
@@ -71,7 +71,7 @@ returns-clause-ok g c =
       next = c.in-Ok-Some.next;
       begun = begun;
       bytes = bytes;
-      are = subst (λ (h : Geometry). AreBytesOf h s.entry bytes) next.geometry c.bytes.ensures;
+      are = subst (λ (h : Geometry). AreBytesOf h s.entry bytes) next.geometry c.bytes.ensures.bytes;
       stored = subst (λ n. IsStored n (values_of bytes) old new) at good.0;
       calls = good.1;
       faults = good.2;

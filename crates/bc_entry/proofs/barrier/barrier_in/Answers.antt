@@ -1,3 +1,4 @@
+use Rattle.std.proofs.Common.{arith}
 use Rattle.bc_events.specs.declared.event.Deed.TheVariants as deed
 use Rattle.bc_events.specs.declared.event.Failure.TheVariants as failure
 use Rattle.bc_disk.specs.declared.disk.Device.TheVariants as device
@@ -33,3 +34,11 @@ called-requires-clause-may g c = may_barrier g.C.Disk.facts g.B.Disk.facts c.arg
 pub called-requires-in-Err-clause-may : goal.called-requires-in-Err-clause-may
 called-requires-in-Err-clause-may g c = may_fail_barrier g.C.Disk.facts g.B.Disk.facts
     c.args.seat.now c.requires.seat c.requires.unheard
+
+pub returns-in-Ok-clause-left : goal.returns-in-Ok-clause-left
+returns-in-Ok-clause-left g c = let used = c.called.ensures.did.is.promises in omega (arith, used)
+
+pub returns-in-Err-clause-left : goal.returns-in-Err-clause-left
+returns-in-Err-clause-left g c =
+    let used = c.called-in-Err.ensures.did.is.promises in
+    omega (arith, used)

@@ -1,4 +1,4 @@
-use Rattle.std.proofs.Common.{refl, Some}
+use Rattle.std.proofs.Common.{refl, Some, arith}
 use Rattle.bc_events.specs.declared.event.Deed.TheVariants as deed
 use Rattle.bc_events.specs.declared.event.Failure.TheVariants as failure
 use Rattle.bc_disk.specs.declared.disk.Device.TheVariants as device
@@ -52,3 +52,10 @@ returns-clause-firm g c = map_ok c.barrier_in-done.result (λ did both.
     c.borrow_cache-cache.ensures.still c.borrow_cache-cache.ensures.waited did
     c.return_cache.ensures.waited c.return_cache.ensures.seen c.return_cache.ensures.heard
     c.return_cache.ensures.works.seat)) c.barrier_in-done.ensures.ok
+
+pub returns-clause-left : goal.returns-clause-left
+returns-clause-left g c =
+    let lent = c.borrow_cache-cache.ensures.waited.promises in
+    let done = c.barrier_in-done.ensures.left in
+    let back = c.return_cache.ensures.waited.promises in
+    omega (arith, lent, done, back)

@@ -1,4 +1,4 @@
-use Rattle.std.proofs.Common.{Some, refl, sym, ap, ◌∙◌, subst}
+use Rattle.std.proofs.Common.{Some, refl, sym, ap, ◌∙◌, subst, arith}
 use Rattle.bc_deed.specs.bc_hand.Seats.{Works}
 use Rattle.bc_deed.proofs.of_bc_hand.Lending.{works_waited}
 use Rattle.bc_deed.proofs.May.{did_nothing, holds_only, kept_as}
@@ -51,3 +51,11 @@ returns-clause-knows g c = knows_newest g.C.Disk.facts g.B.Disk.facts c.args.sea
     c.args.seat.now c.args.hand.now c.requires.works
     (some_is c.args.hand.now.journal c.requires.journal.0 c.requires.journal.1)) c.args.entry
     c.requires.safe c.in_default-commit.ensures.ok
+
+pub returns-in-Err-clause-left : goal.returns-in-Err-clause-left
+returns-in-Err-clause-left g c = let none = c.in-Err.ensures.err.is.promises in omega (arith, none)
+
+pub returns-clause-left : goal.returns-clause-left
+returns-clause-left g c =
+    let used = c.in_default-commit.ensures.ok.is.promises in
+    omega (arith, used)

@@ -1,23 +1,12 @@
-use Rattle.std.proofs.Common.{Some, refl, sym, ap, ◌∙◌, subst}
-use Rattle.bc_deed.specs.bc_hand.Seats.{world}
+use Rattle.std.proofs.Common.{Some, refl, sym, ap, ◌∙◌}
 use Rattle.bc_deed.proofs.May.{did_nothing}
-use Rattle.bc_journal.specs.Journal.{Journal}
-use Rattle.bc_sealing.specs.bc_machine.World.{FromEach}
-use Rattle.bc_entry.specs.Seal.{AreNamed}
 use Rattle.bc_entry.proofs.Ending.{works_anew}
-use Rattle.bc_entry.proofs.Sealing.{both_ok, same_some}
+use Rattle.bc_entry.proofs.Sealing.{both_ok}
 use Rattle.bc_entry.proofs.seal.seal.Goals as goal
 
 pub returns-in-Some-clause-err : goal.returns-in-Some-clause-err
 returns-in-Some-clause-err g c = did_nothing g.C.Disk.facts g.B.Disk.facts c.args.seat.now
     c.requires.works.seat
-
-pub seal_in-done-requires-clause-named : goal.seal_in-done-requires-clause-named
-seal_in-done-requires-clause-named g c = subst (λ (j : Journal). FromEach
-    (world g.C.Disk.facts g.B.Disk.facts c.args.seat.now) (AreNamed j.ring.geometry
-    c.args.heads.now))
-    (same_some c.args.hand.now.journal c.requires.journal.0 c.get_mut.result.now
-    c.requires.journal.1 (sym c.take.ensures.value ∙ c.in-Some-take.is ∙ ap Some (sym c.get_mut.ensures.part))) c.requires.journal.3
 
 pub returns-clause-works : goal.returns-clause-works
 returns-clause-works g c = works_anew g.C.Disk.facts g.B.Disk.facts c.args.parts.now c.args.seat.now

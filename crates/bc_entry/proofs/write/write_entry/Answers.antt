@@ -12,10 +12,6 @@ returns-in-Some-clause-err g c = (
   did_nothing g.C.Disk.facts g.B.Disk.facts c.args.seat.now c.requires.works.seat,
 )
 
-pub returns-in_default-values_in-clause-err : goal.returns-in_default-values_in-clause-err
-returns-in_default-values_in-clause-err g c = did_nothing g.C.Disk.facts g.B.Disk.facts
-    c.args.seat.now c.requires.works.seat
-
 pub returns-clause-works : goal.returns-clause-works
 returns-clause-works g c = works_called g.C.Disk.facts g.B.Disk.facts c.args.parts.now
     c.args.seat.now c.write_in-done.new.seat c.args.hand.now c.in-Some-take.cache

@@ -1,4 +1,4 @@
-use Rattle.std.proofs.Common.{◌*◌, ◌≤◌, List, sym, ap, ◌∙◌, subst}
+use Rattle.std.proofs.Common.{◌*◌, ◌≤◌, List, sym, ap, ◌∙◌, subst, arith}
 use Rattle.bc_model.specs.Sector.{Value}
 use Rattle.bc_disk.specs.Disk.{IsFailedWrite, IsWritten}
 use Rattle.bc_parts.specs.Seat.{Run}
@@ -61,3 +61,11 @@ returns-in-Err-clause-cache g c = let v = c.args.seat.now in
     (subst (λ (vs : List Value). IsFailedWrite c.sector-at.result vs
     (g.C.Disk.facts c.args.cache.now) (g.C.Disk.facts c.write.new.self)) (sym c.requires.values)
     c.in-Err.ensures.failed) c.in-Err.ensures.counted)
+
+pub returns-in-Ok-clause-left : goal.returns-in-Ok-clause-left
+returns-in-Ok-clause-left g c = let used = c.called.ensures.did.is.promises in omega (arith, used)
+
+pub returns-in-Err-clause-left : goal.returns-in-Err-clause-left
+returns-in-Err-clause-left g c =
+    let used = c.called-in-Err.ensures.did.is.promises in
+    omega (arith, used)

@@ -1,13 +1,11 @@
 use Rattle.std.proofs.Common.{◌∙◌}
 use Rattle.bc_entry.specs.bc_machine.World.{cache_among}
-use Rattle.bc_flush.proofs.Hands.{journal_same, journal_stands}
-use Rattle.bc_flush.proofs.Syncing.{as_waited, durable_around, known_taken, named_now, refused_around, synced_around, taken_done}
+use Rattle.bc_flush.proofs.Hands.{journal_same}
+use Rattle.bc_flush.proofs.Syncing.{as_waited, durable_around, refused_around, synced_around, taken_done}
 use Rattle.bc_flush.proofs.sync.put_waiting.Goals as goal
 
 pub put_within-done-requires-clause-journal : goal.put_within-done-requires-clause-journal
 put_within-done-requires-clause-journal g c =
-    let cf = g.C.Disk.facts in
-    let bf = g.B.Disk.facts in
     let took = c.borrow_cache-cache in
     let back = c.return_cache in
     let j = c.requires.journal.0 in
@@ -17,11 +15,6 @@ put_within-done-requires-clause-journal g c =
       here,
       c.requires.journal.2,
       c.requires.journal.3,
-      named_now cf bf c.args.heads.now back.new.seat j
-          (journal_stands cf bf c.args.parts.now back.new.seat back.new.hand j back.ensures.works
-          here)
-          (known_taken cf bf c.args.heads.now c.args.seat.now took.new.seat back.new.seat
-          took.ensures.waited back.ensures.waited back.ensures.works.seat c.requires.known),
     )
 
 pub returns-clause-ok : goal.returns-clause-ok
@@ -31,7 +24,7 @@ returns-clause-ok g c =
     let took = c.borrow_cache-cache in
     let back = c.return_cache in
     let last = c.return_cache-2 in
-    synced_around cf bf c.args.heads.now c.args.seat.now back.new.seat c.put_within-done.new.seat
+    synced_around cf bf c.args.seat.now back.new.seat c.put_within-done.new.seat
     last.new.seat
     (taken_done cf bf c.args.seat.now took.new.seat back.new.seat took.ensures.waited
     back.ensures.waited)
@@ -45,7 +38,7 @@ returns-clause-durable g c =
     let took = c.borrow_cache-cache in
     let back = c.return_cache in
     let last = c.return_cache-2 in
-    durable_around cf bf c.args.heads.now c.args.seat.now back.new.seat c.put_within-done.new.seat
+    durable_around cf bf c.args.seat.now back.new.seat c.put_within-done.new.seat
     last.new.seat
     (taken_done cf bf c.args.seat.now took.new.seat back.new.seat took.ensures.waited
     back.ensures.waited)
@@ -59,7 +52,7 @@ returns-clause-err g c =
     let took = c.borrow_cache-cache in
     let back = c.return_cache in
     let last = c.return_cache-2 in
-    refused_around cf bf c.args.heads.now c.args.seat.now back.new.seat c.put_within-done.new.seat
+    refused_around cf bf c.args.seat.now back.new.seat c.put_within-done.new.seat
     last.new.seat
     (taken_done cf bf c.args.seat.now took.new.seat back.new.seat took.ensures.waited
     back.ensures.waited)

@@ -1,7 +1,7 @@
 use Rattle.std.proofs.Common.{◌≢◌, [], refl, sym, subst}
 use Rattle.bc_journal.specs.Journal.{Journal}
 use Rattle.bc_entry.specs.bc_machine.World.{cache_among}
-use Rattle.bc_flush.proofs.Hands.{Fits, both_in, is_off, is_on, same_some}
+use Rattle.bc_flush.proofs.Hands.{Fits, both_in, is_off, is_on, journal_stands, same_some}
 use Rattle.bc_flush.proofs.Putting.{law_put}
 use Rattle.bc_flush.proofs.Syncing.{refused_none, refused_put, synced_put}
 use Rattle.bc_flush.specs.Sync.{HasNotSynced}
@@ -13,13 +13,13 @@ returns-then-not-is_within-clause-err g c =
     let cf = g.C.Disk.facts in
     let bf = g.B.Disk.facts in
     refused_none cf bf (cache_among cf bf c.args.parts.now.run.start).sectors flush.Outside
-    c.args.heads.now c.args.seat.now c.requires.works.seat (
+    c.args.seat.now c.requires.works.seat (
       refl,
       is_off cf bf c.args.parts.now c.args.seat.now c.args.hand.now c.requires.works
           c.requires.journal.0 c.requires.journal.1 (both_in c.args.hand.now c.requires.hand).cache
           (subst (Fits cf bf c.args.hand.now) c.if-not-is_within.true
           c.is_within.ensures),
-    ) tt
+    ) tt tt
 
 pub put_entry-requires-clause-journal : goal.put_entry-requires-clause-journal
 put_entry-requires-clause-journal g c =
@@ -32,19 +32,20 @@ put_entry-requires-clause-journal g c =
       is_on cf bf c.args.parts.now c.args.seat.now c.args.hand.now c.requires.works journal.0
           journal.1 (both_in c.args.hand.now c.requires.hand).cache
           (subst (Fits cf bf c.args.hand.now) c.if-not-is_within.false c.is_within.ensures),
-      journal.4,
     )
 
 pub returns-in-Ok-clause-ok : goal.returns-in-Ok-clause-ok
 returns-in-Ok-clause-ok g c = let put = c.in-Ok.ensures.ok in
-    synced_put g.C.Disk.facts g.B.Disk.facts put.0 c.args.heads.now c.args.seat.now
-    c.put_entry.new.seat
+    synced_put g.C.Disk.facts g.B.Disk.facts put.0 c.args.seat.now c.put_entry.new.seat
+    c.requires.works.seat
+    (journal_stands g.C.Disk.facts g.B.Disk.facts c.args.parts.now c.args.seat.now c.args.hand.now
+    put.0 c.requires.works put.1)
     (subst (λ (j : Journal). j.waiting ≢ []) (same_some c.args.hand.now.journal
     c.requires.journal.0 put.0 c.requires.journal.1 put.1) c.requires.journal.3) put.2
 
 pub returns-in-Ok-clause-durable : goal.returns-in-Ok-clause-durable
 returns-in-Ok-clause-durable g c = let put = c.in-Ok.ensures.ok in
-    λ n. law_put g.C.Disk.facts g.B.Disk.facts put.0 c.args.heads.now c.args.seat.now
+    λ n. law_put g.C.Disk.facts g.B.Disk.facts put.0 c.args.seat.now
     c.put_entry.new.seat n put.2
 
 pub returns-in-Err-clause-err : goal.returns-in-Err-clause-err
@@ -53,7 +54,9 @@ returns-in-Err-clause-err g c =
     let bf = g.B.Disk.facts in
     let sectors = (cache_among cf bf c.args.parts.now.run.start).sectors in
     let cut = c.in-Err.ensures.err in
-    subst (λ e. HasNotSynced cf bf sectors e c.args.heads.now c.args.seat.now
+    subst (λ e. HasNotSynced cf bf sectors e c.args.seat.now
     c.put_entry.new.seat) (sym c.refusal.ensures)
-    (refused_put cf bf sectors c.in-Err.error cut.0 c.args.heads.now c.args.seat.now
-    c.put_entry.new.seat cut.2 c.in-Err.ensures.cause)
+    (refused_put cf bf sectors c.in-Err.error cut.0 c.args.seat.now c.put_entry.new.seat
+    c.requires.works.seat
+    (journal_stands cf bf c.args.parts.now c.args.seat.now c.args.hand.now cut.0 c.requires.works
+    cut.1) cut.2 c.in-Err.ensures.cause)

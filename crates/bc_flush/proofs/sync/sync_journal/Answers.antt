@@ -1,12 +1,6 @@
 use Rattle.bc_entry.specs.bc_machine.World.{cache_among}
-use Rattle.bc_flush.proofs.Syncing.{as_waited, durable_around, known_taken, refused_around, synced_around, taken_done}
+use Rattle.bc_flush.proofs.Syncing.{as_waited, durable_around, refused_around, synced_around, taken_done}
 use Rattle.bc_flush.proofs.sync.sync_journal.Goals as goal
-
-pub sync_in-done-requires-clause-known : goal.sync_in-done-requires-clause-known
-sync_in-done-requires-clause-known g c = known_taken g.C.Disk.facts g.B.Disk.facts
-    c.args.heads.now c.args.seat.now c.borrow_journal-journal.new.seat c.return_journal.new.seat
-    c.borrow_journal-journal.ensures.waited c.return_journal.ensures.waited
-    c.return_journal.ensures.works.seat c.requires.known
 
 pub returns-clause-ok : goal.returns-clause-ok
 returns-clause-ok g c =
@@ -15,7 +9,7 @@ returns-clause-ok g c =
     let took = c.borrow_journal-journal in
     let back = c.return_journal in
     let last = c.return_journal-2 in
-    synced_around cf bf c.args.heads.now c.args.seat.now back.new.seat c.sync_in-done.new.seat
+    synced_around cf bf c.args.seat.now back.new.seat c.sync_in-done.new.seat
     last.new.seat
     (taken_done cf bf c.args.seat.now took.new.seat back.new.seat took.ensures.waited
     back.ensures.waited)
@@ -29,7 +23,7 @@ returns-clause-durable g c =
     let took = c.borrow_journal-journal in
     let back = c.return_journal in
     let last = c.return_journal-2 in
-    durable_around cf bf c.args.heads.now c.args.seat.now back.new.seat c.sync_in-done.new.seat
+    durable_around cf bf c.args.seat.now back.new.seat c.sync_in-done.new.seat
     last.new.seat
     (taken_done cf bf c.args.seat.now took.new.seat back.new.seat took.ensures.waited
     back.ensures.waited)
@@ -43,7 +37,7 @@ returns-clause-err g c =
     let took = c.borrow_journal-journal in
     let back = c.return_journal in
     let last = c.return_journal-2 in
-    refused_around cf bf c.args.heads.now c.args.seat.now back.new.seat c.sync_in-done.new.seat
+    refused_around cf bf c.args.seat.now back.new.seat c.sync_in-done.new.seat
     last.new.seat
     (taken_done cf bf c.args.seat.now took.new.seat back.new.seat took.ensures.waited
     back.ensures.waited)

@@ -1,4 +1,4 @@
-use Rattle.std.proofs.Common.{◌≡◌, true, Some, refl, sym, ap, ◌∙◌, subst}
+use Rattle.std.proofs.Common.{◌≡◌, true, Some, refl, sym, ap, ◌∙◌, subst, arith}
 use Rattle.std.specs.Prelude.{List, ◌++◌, length}
 use Rattle.bc_place.proofs.of_bc_deed.May.{did_nothing}
 use Rattle.bc_events.specs.declared.event.Deed.{Deed}
@@ -17,7 +17,7 @@ use Rattle.bc_seats.specs.Seats.{Kept}
 use Rattle.bc_insert.proofs.Finding.{can_there, only_slot, put_here, put_write, still_buckets}
 use Rattle.bc_insert.proofs.InHand.{holds_changed}
 use Rattle.bc_insert.proofs.Writing.{may_insert, write_into}
-use Rattle.bc_insert.proofs.Written.{has_inserted, write_works}
+use Rattle.bc_insert.proofs.Written.{has_inserted, some_keys, write_works}
 use Rattle.bc_insert.proofs.write.insert_write.Goals as goal
 
 pub returns-in-Some-clause-err : goal.returns-in-Some-clause-err
@@ -161,7 +161,9 @@ returns-clause-works g c =
     (length c.args.parts.now.run.start) slot cached c.args.keys.now can)
     c.requires.ready c.commit.new.seat
     (subst (λ (d : Deed). Did cf bf (Some d) v c.commit.new.seat) same
-    c.in_default-commit.ensures.ok) c.name_in.new.hand
+    c.in_default-commit.ensures.ok)
+    (some_keys c.args.first c.args.places.now c.args.keys.now c.requires.keys
+    (omega (arith, c.requires.some, c.requires.total))) c.name_in.new.hand
     (put_write c.args.hand.now c.put_in.new.hand c.name_in.new.hand slot cached c.args.keys.now
     c.args.places.now
     (put_here c.args.hand.now c.args.leaf c.slot_in-slot.result c.slot_in-slot.ensures

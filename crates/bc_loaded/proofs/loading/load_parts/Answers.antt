@@ -1,13 +1,17 @@
+use Rattle.std.proofs.Common.{Option, subst}
+use Rattle.std.specs.Prelude.{IfNone, IfSome}
+use Rattle.bc_journal.specs.Journal.{Journal}
 use Rattle.bc_prio.proofs.Chains.{kept_both}
 use Rattle.bc_regrow.specs.Tree.{IsTreeCause, IsTreeOf}
 use Rattle.bc_replay.proofs.Pairs.{passed_on}
-use Rattle.bc_loaded.proofs.Held.{cause_back, read_on}
+use Rattle.bc_resume.specs.Resume.{HasNoLevel, IsResumed}
+use Rattle.bc_loaded.proofs.Held.{cause_back, no_level, read_on}
 use Rattle.bc_loaded.proofs.loading.load_parts.Goals as goal
 
 pub returns-in_err-tree-clause-refused : goal.returns-in_err-tree-clause-refused
 returns-in_err-tree-clause-refused g c =
-    passed_on c.from_residual.result c.in_err-tree.field-0.0
-    (IsTreeCause c.args.s.now (g.C.Disk.facts c.args.cache.now)) c.from_residual.ensures.1
+    passed_on c.from_residual-in_err-tree.result c.in_err-tree.field-0.0
+    (IsTreeCause c.args.s.now (g.C.Disk.facts c.args.cache.now)) c.from_residual-in_err-tree.ensures.1
     c.in_err-tree.ensures.refused
 
 pub load_leaves-requires-clause-grown : goal.load_leaves-requires-clause-grown
@@ -44,7 +48,9 @@ returns-clause-loaded g c =
       known = c.in_ok-buckets.ensures.known;
       spare = c.in_ok-buckets.ensures.spare;
       fit = c.in_ok-buckets.ensures.fit;
-      journal = c.in_ok-journal.ensures;
+      chain = c.in_ok-buckets.ensures.chain;
+      walk = c.in_ok-buckets.ensures.walk;
+      journal = subst (λ (o : Option Journal). IfSome o (IsResumed c.args.s.now.supers.geometry c.args.s.now.journal)) c.in-Some.is c.in_ok-journal.ensures.some;
       was = c.tree_of.new.cache;
       kept = c.in_ok-leaves.ensures.kept;
       leaves = c.in_ok-leaves.ensures.found;
@@ -55,7 +61,13 @@ returns-clause-kept g c = kept_both (g.C.Disk.facts c.args.cache.now)
     (g.C.Disk.facts c.tree_of.new.cache) (g.C.Disk.facts c.load_leaves.new.cache)
     c.in_ok-tree.ensures.kept c.in_ok-leaves.ensures.kept
 
-pub returns-in_err-journal-clause-kept : goal.returns-in_err-journal-clause-kept
-returns-in_err-journal-clause-kept g c = kept_both (g.C.Disk.facts c.args.cache.now)
+pub returns-in_default-clause-refused : goal.returns-in_default-clause-refused
+returns-in_default-clause-refused g c = no_level c.args.s.now
+    (g.C.Disk.facts c.args.cache.now)
+    (subst (λ (o : Option Journal). IfNone o (HasNoLevel c.args.s.now.journal)) c.in_default.is
+    c.in_ok-journal.ensures.none)
+
+pub returns-in_err-buckets-clause-kept : goal.returns-in_err-buckets-clause-kept
+returns-in_err-buckets-clause-kept g c = kept_both (g.C.Disk.facts c.args.cache.now)
     (g.C.Disk.facts c.tree_of.new.cache) (g.C.Disk.facts c.load_leaves.new.cache)
     c.in_ok-tree.ensures.kept c.in_ok-leaves.ensures.kept

@@ -57,4 +57,5 @@ returns c =
           changed (with_pins c.args.placed.count) o.bucket c.place.new.b)
           (ap (λ (fs : List Open). get_or fs 0 (record { bucket = 0; next = 0 }))
           (c.open.ensures.value ∙ same.1.were));
+      rest = record { chain = refl; renewing = refl; round = refl; served = refl };
     }

@@ -1,8 +1,7 @@
 use Rattle.std.proofs.Common.{[], ap, sym, subst, arith}
 use Rattle.bc_entry.proofs.of_bc_deed.Sequence.{done_both}
-use Rattle.bc_entry.specs.Seal.{AreNamed}
 use Rattle.bc_entry.specs.bc_hand.declared.hand.Hand.{Hand}
-use Rattle.bc_entry.specs.bc_machine.World.{FromEach, IsJournal, World}
+use Rattle.bc_entry.specs.bc_machine.World.{IsJournal, World}
 use Rattle.bc_started.proofs.Entering.{all_behind, as_waited, at_opening, cut_result, halt_result, put_result, still_all, still_new, with_journal}
 use Rattle.bc_started.proofs.first.put_first.Goals as goal
 
@@ -28,26 +27,12 @@ put_entry-done-requires-clause-promise g c =
     omega (arith, room, first, then)
 
 pub put_entry-done-requires-clause-journal : goal.put_entry-done-requires-clause-journal
-put_entry-done-requires-clause-journal g c =
-    let cf = g.C.Disk.facts in
-    let bf = g.B.Disk.facts in
-    let borrow = c.borrow_journal-began_with in
-    let cache = c.borrow_cache-cache in
-    let lent = borrow.ensures.lent in
-    let one = still_new cf bf c.args.seat.now c.promise.new.seat c.requires.new
-    c.promise.ensures.done c.promise.ensures.works.seat in
-    let two = still_new cf bf c.promise.new.seat borrow.new.seat one
-    (as_waited cf bf c.promise.new.seat borrow.new.seat borrow.ensures.waited) lent.seat in
-    let three = still_new cf bf borrow.new.seat cache.new.seat two
-    (as_waited cf bf borrow.new.seat cache.new.seat cache.ensures.waited) cache.ensures.lent.seat in
-    let now = sym (at_opening cf bf c.args.parts.now cache.new.seat three cache.ensures.lent.run) in (
-      c.args.journal,
-      ap (λ (h : Hand g.row.C.Denot g.row.B.Denot). h.journal) cache.ensures.hand,
-      c.requires.can.can,
-      c.requires.can.disk,
-      subst (λ (x : World). FromEach x (AreNamed c.args.journal.ring.geometry c.args.heads.now)) now
-          c.requires.can.named,
-    )
+put_entry-done-requires-clause-journal g c = (
+  c.args.journal,
+  ap (λ (h : Hand g.row.C.Denot g.row.B.Denot). h.journal) c.borrow_cache-cache.ensures.hand,
+  c.requires.can.can,
+  c.requires.can.disk,
+)
 
 pub returns-clause-all : goal.returns-clause-all
 returns-clause-all g c =
@@ -62,7 +47,7 @@ returns-clause-all g c =
     (as_waited cf bf borrow.new.seat cache.new.seat cache.ensures.waited)) in
     let put = c.put_entry-done in
     still_all cf bf put.new.seat c.give_back.new.seat []
-    (all_behind cf bf put.result cache.new.hand.journal c.args.heads.now cache.new.seat
+    (all_behind cf bf put.result cache.new.hand.journal cache.new.seat
     put.new.seat three put.ensures.ok put.ensures.err)
     (as_waited cf bf put.new.seat c.give_back.new.seat c.give_back.ensures.waited)
 
@@ -74,8 +59,7 @@ returns-clause-ok g c =
     let cache = c.borrow_cache-cache in
     let put = c.put_entry-done in
     put_result cf bf cache.new.hand.journal c.args.journal
-    (ap (λ (h : Hand g.row.C.Denot g.row.B.Denot). h.journal) cache.ensures.hand)
-    c.args.heads.now c.args.seat.now cache.new.seat put.new.seat c.give_back.new.seat
+    (ap (λ (h : Hand g.row.C.Denot g.row.B.Denot). h.journal) cache.ensures.hand) c.args.seat.now cache.new.seat put.new.seat c.give_back.new.seat
     (done_both cf bf [] [] c.args.seat.now borrow.new.seat cache.new.seat
     (done_both cf bf [] [] c.args.seat.now c.promise.new.seat borrow.new.seat
     c.promise.ensures.done (as_waited cf bf c.promise.new.seat borrow.new.seat
@@ -90,8 +74,7 @@ returns-clause-err g c =
     let cache = c.borrow_cache-cache in
     let put = c.put_entry-done in
     cut_result cf bf cache.new.hand.journal c.args.journal
-    (ap (λ (h : Hand g.row.C.Denot g.row.B.Denot). h.journal) cache.ensures.hand)
-    c.args.heads.now c.args.seat.now cache.new.seat put.new.seat c.give_back.new.seat
+    (ap (λ (h : Hand g.row.C.Denot g.row.B.Denot). h.journal) cache.ensures.hand) c.args.seat.now cache.new.seat put.new.seat c.give_back.new.seat
     (done_both cf bf [] [] c.args.seat.now borrow.new.seat cache.new.seat
     (done_both cf bf [] [] c.args.seat.now c.promise.new.seat borrow.new.seat
     c.promise.ensures.done (as_waited cf bf c.promise.new.seat borrow.new.seat
@@ -106,8 +89,7 @@ returns-clause-no_halt g c =
     let cache = c.borrow_cache-cache in
     let put = c.put_entry-done in
     halt_result cf bf cache.new.hand.journal c.args.journal
-    (ap (λ (h : Hand g.row.C.Denot g.row.B.Denot). h.journal) cache.ensures.hand)
-    c.args.heads.now c.args.seat.now cache.new.seat put.new.seat c.give_back.new.seat
+    (ap (λ (h : Hand g.row.C.Denot g.row.B.Denot). h.journal) cache.ensures.hand) c.args.seat.now cache.new.seat put.new.seat c.give_back.new.seat
     (done_both cf bf [] [] c.args.seat.now borrow.new.seat cache.new.seat
     (done_both cf bf [] [] c.args.seat.now c.promise.new.seat borrow.new.seat
     c.promise.ensures.done (as_waited cf bf c.promise.new.seat borrow.new.seat

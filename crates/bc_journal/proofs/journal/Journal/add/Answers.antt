@@ -17,7 +17,7 @@ invariant_of-self c =
     let room = subst (λ (j : Journal). HasRoom j (length (words_of_all more))) (sym c.self.view_is) c.requires.room in
     let numbered = subst (λ (j : Journal). number_of j < 2 ^ 63) (sym c.self.view_is) c.requires.numbered in
     let inside = c.self.inside in
-    let j : Journal = record { ring = inside.ring; durable = inside.durable; sealed = inside.sealed; waiting = inside.waiting.items; needed = inside.needed } in
+    let j : Journal = record { ring = inside.ring; durable = inside.durable; heads = inside.heads; sealed = inside.sealed; waiting = inside.waiting.items; needed = inside.needed } in
     let items = c.append.ensures.items in
     let words = words_append inside.waiting.items more in
     let now = ap (λ (ks : List Key). length (words_of_all ks)) items in (

@@ -11,7 +11,7 @@ use Rattle.bc_journal.proofs.journal.Journal.seal.Goals as goal
 pub invariant_of-self : goal.invariant_of-self
 invariant_of-self c =
     let inside = c.self.inside in
-    let j : Journal = record { ring = inside.ring; durable = inside.durable; sealed = inside.sealed; waiting = inside.waiting.items; needed = inside.needed } in
+    let j : Journal = record { ring = inside.ring; durable = inside.durable; heads = inside.heads; sealed = inside.sealed; waiting = inside.waiting.items; needed = inside.needed } in
     let none = subst (λ (k : Journal). k.sealed ≡ None) (sym c.self.view_is) c.requires.none in
     let number : c.number-number.result ≡ number_of j = c.number-number.ensures.value ∙ ap number_of (sym c.self.view_is) in
     let empty = ap (λ (v : Vec Key Global). v.items) c.replace-keys.ensures.after ∙ c.in-Some-take.buffers.none in (
