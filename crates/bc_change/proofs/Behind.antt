@@ -68,11 +68,7 @@ module _ {C B : Type 0} (cache_facts : C → DiskFacts) (backing_facts : B → D
       cut = inr (inl refl);
       done = done_then cache_facts backing_facts (deed.CacheBarrier ∷ []) None u v w one h.1;
     }
-    cut_write error.Memory w h = record {
-      deeds = deed.CacheBarrier ∷ [];
-      cut = refl;
-      done = done_then cache_facts backing_facts (deed.CacheBarrier ∷ []) None u v w one h;
-    }
+    cut_write error.Memory w h = absurd h
 
     module _ (w : View cache_facts backing_facts)
         (d : HasWritten cache_facts backing_facts s v w) where
@@ -177,7 +173,7 @@ module _ {C B : Type 0} (cache_facts : C → DiskFacts) (backing_facts : B → D
       by_root_did cache_facts backing_facts v k.spine k.live plan c number slot w (lost_by s h.1.0)
       refl refl h.1.2
   keeps_lost (error.Halted device) s v w k h = keeps_none v w k h.1
-  keeps_lost error.Memory s v w k h = keeps_none v w k h
+  keeps_lost error.Memory s v w k h = absurd h
 
   -- one behind the other, of one seat
   pub keeps_both : (u v w : View cache_facts backing_facts) → v.first ≡ u.first → Keeps u v
@@ -204,6 +200,38 @@ has_spine h new same is = ap (λ (k : Kinds). k.spine) same ∙ is
 some_part : {A : Type 0} (o : Option A) → is_some o ≡ true → (a : A) × (o ≡ Some a)
 some_part None is = absurd (cc)
 some_part (Some a) is = (a, refl)
+
+-- ---- the rest of the hand
+
+-- a step changed the cache device alone, and so did two
+pub cache_then : {C B : Type 0} (a b c : Hand C B) → b ≡ record a { cache = b.cache }
+    → c ≡ record b { cache = c.cache } → c ≡ record a { cache = c.cache }
+cache_then a b c first second =
+    second ∙ ap (λ (x : Hand _ _). record x { cache = c.cache }) first
+
+-- with this journal and this device it is the one that it was
+as_it_is : {C B : Type 0} (a b : Hand C B) (j : Option Journal) (d : Option C)
+    → b ≡ record a { journal = j; cache = d }
+    → b ≡ record a { journal = b.journal; cache = b.cache }
+as_it_is a b j d is = is
+    ∙ ap (λ (x : Option Journal). record a { journal = x; cache = d })
+    (sym (ap (λ (x : Hand _ _). x.journal) is))
+    ∙ ap (λ (x : Option _). record a { journal = b.journal; cache = x })
+    (sym (ap (λ (x : Hand _ _). x.cache) is))
+
+pub cache_alone : {C B : Type 0} (a b : Hand C B) → b ≡ record a { cache = b.cache }
+    → b ≡ record a { journal = b.journal; cache = b.cache }
+cache_alone a b is = as_it_is a b a.journal b.cache is
+
+pub rest_ended : {C B E : Type 0} (r : Result (Unit {0}) E) (a b c : Hand C B) (s : Sealed)
+    (j : Journal) → b ≡ record a { cache = b.cache } → b.journal ≡ Some j
+    → OnOk r ((j : Journal) → b.journal ≡ Some j
+    → c ≡ record b { journal = Some (with_durable s j) }) → OnErr r (c ≡ b)
+    → c ≡ record a { journal = c.journal; cache = c.cache }
+rest_ended (Ok z) a b c s j first is good bad = as_it_is a c (Some (with_durable s j)) b.cache
+    (good j is ∙ ap (λ (x : Hand _ _). record x { journal = Some (with_durable s j) }) first)
+rest_ended (Err e) a b c s j first is good bad =
+    as_it_is a c a.journal b.cache (bad ∙ first)
 
 -- the journal once the entry is durable
 pub journal_ended : {C B E : Type 0} (r : Result (Unit {0}) E) (first : Option Journal)

@@ -1,15 +1,20 @@
-mod Lists
+pub mod Lists
 mod Filled
-mod Nexts
+pub mod Nexts
 mod Said
-mod Places
-mod Begins
+pub mod Sites
+pub mod Places
+pub mod Begins
 mod Left
-mod Keeping
+pub mod Keeping
 mod Turned
 mod Rooting
 mod Sealed
-mod Seated
+pub mod Seated
 mod Going
-mod Staying
+pub mod Staying
 mod Behind
+pub use Rattle.bc_entry.proofs.of_bc_deed
+pub use Rattle.bc_entry.proofs as of_bc_entry
+pub use Rattle.bc_entry.proofs.of_bc_hand
+pub use Rattle.bc_nodes_known.proofs as of_bc_nodes_known

@@ -40,7 +40,7 @@ pub record Remains (nodes gone : List Inner) (n : Inner) : Type 0 where
 some_same : (a b : Inner) → Some a ≡ Some b → b ≡ a
 some_same a b e = cc
 
-next_at : (xs : List Inner) (p : ℕ) (c : NodeChange) (j : ℕ) (n : Inner)
+pub next_at : (xs : List Inner) (p : ℕ) (c : NodeChange) (j : ℕ) (n : Inner)
     → slice_get (nodes_next xs p c) j ≡ Some n
     → ((j ≡ p) × ((m : Inner) × (slice_get xs p ≡ Some m) × (n ≡ node_next m c)))
     ⊎ ((j ≢ p) × (slice_get xs j ≡ Some n))
@@ -54,7 +54,7 @@ next_at (x ∷ xs) (suc p) c (suc j) n e = elim (next_at xs p c j n e) [
   | inr other ↦ inr (λ same. other.0 (omega (arith, same)), other.1)
 ]
 
-inserted : (xs : List Inner) (k : ℕ) (y n : Inner) → In n (insert xs k y) → (n ≡ y) ⊎ In n xs
+pub inserted : (xs : List Inner) (k : ℕ) (y n : Inner) → In n (insert xs k y) → (n ≡ y) ⊎ In n xs
 inserted xs zero y n m = elim m [ inl here ↦ inl here | inr later ↦ inr later ]
 inserted [] (suc k) y n m = elim m [ inl here ↦ inl here | inr later ↦ inr later ]
 inserted (x ∷ xs) (suc k) y n (inl here) = inr (inl here)
@@ -63,7 +63,7 @@ inserted (x ∷ xs) (suc k) y n (inr later) = elim (inserted xs k y n later) [
   | inr old ↦ inr (inr old)
 ]
 
-set_in : (xs : List Inner) (k : ℕ) (y n : Inner) → In n (slice_set xs k y)
+pub set_in : (xs : List Inner) (k : ℕ) (y n : Inner) → In n (slice_set xs k y)
     → (n ≡ y) ⊎ ((j : ℕ) × (j ≢ k) × (slice_get xs j ≡ Some n))
 set_in [] zero y n m = absurd m
 set_in [] (suc k) y n m = absurd m
@@ -76,7 +76,7 @@ set_in (x ∷ xs) (suc k) y n (inr later) = elim (set_in xs k y n later) [
   | inr old ↦ inr (suc old.0, (λ same. old.1 (omega (arith, same))), old.2)
 ]
 
-removed : (xs : List Inner) (k : ℕ) (n : Inner) → In n (remove xs k)
+pub removed : (xs : List Inner) (k : ℕ) (n : Inner) → In n (remove xs k)
     → (j : ℕ) × (j ≢ k) × (slice_get xs j ≡ Some n)
 removed [] zero n m = absurd m
 removed [] (suc k) n m = absurd m

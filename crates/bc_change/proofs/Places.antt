@@ -1,10 +1,8 @@
 -- The leaves and the inner nodes of the tree that a change makes, each in its slot.
-use Rattle.std.proofs.Common.{◌≡◌, ◌≢◌, ◌⊎◌, inl, inr, ℕ, zero, suc, ◌+◌, Bool, true, false, List, [], ◌∷◌, ◌++◌, length, take, drop, Option, Some, None, refl, sym, subst, ap, ◌∙◌, arith, if◌then◌else◌}
-use Rattle.std.specs.Prelude.{All, AllPairs, option_to_list, slice_get}
-use Rattle.std.proofs.lemmas.Bool.{cases_lt}
-use Rattle.std.proofs.lemmas.List.{drop-drop, take-append-drop}
+use Rattle.std.proofs.Common.{◌≡◌, ◌≢◌, ◌⊎◌, inl, inr, ℕ, Bool, true, false, List, [], ◌∷◌, length, Option, Some, None, refl, sym, subst, ap, ◌∙◌, arith, if◌then◌else◌}
+use Rattle.std.specs.Prelude.{option_to_list, slice_get}
 use Rattle.bc_events.specs.declared.event.Change.{Change}
-use Rattle.bc_facts.proofs.Stood.{all_in, in_behind, in_contains, in_either, in_front}
+use Rattle.bc_facts.proofs.Stood.{in_contains}
 use Rattle.bc_inner.specs.Inner.{Inner}
 use Rattle.bc_key.specs.Words.{ptr_word}
 use Rattle.bc_key.specs.declared.key.Key.{Key}
@@ -21,19 +19,19 @@ use Rattle.bc_shares.specs.Shares.{inner_share, shape_of}
 use Rattle.bc_spine.specs.Exchange.{coming, going}
 use Rattle.bc_spine.specs.Leaves.{AreLeaves, HaveTwoNumbers}
 use Rattle.bc_spine.specs.declared.leaf.LeafRange.{LeafRange}
-use Rattle.bc_spine.proofs.Lists.{AllPairs-across, AllPairs-right}
+use Rattle.bc_spine.proofs.Lists.{AllPairs-right}
 use Rattle.bc_spine.proofs.Rows.{leaves_replaced}
 use Rattle.bc_tree.specs.LastKeys.{LeafKeys, keys_next, with_keys, with_second}
 use Rattle.bc_tree.specs.Next.{below_next, leaves_next, root_next}
-use Rattle.bc_tree.specs.Spine.{AreInRow, Covers, IsRootOf, NameNodes, Spine}
+use Rattle.bc_tree.specs.Spine.{Spine}
 use Rattle.bc_tree.specs.declared.plan.Plan.{Plan}
-use Rattle.bc_tree.proofs.Spines.{in_row}
 use Rattle.bc_whole.specs.State.{Opening}
 use Rattle.bc_change.specs.Goes.{IsChangeBy, new_leaves, new_nodes, old_nodes, second_comes}
 use Rattle.bc_change.specs.Ready.{IsReadyChange, IsReadyInner, IsReadyLeaf, IsUnchanged}
 use Rattle.bc_change.proofs.Filled.{HasInner, HasLeaf}
-use Rattle.bc_change.proofs.Lists.{get_in, has_not, in_map, map_in, nodes_rise}
+use Rattle.bc_change.proofs.Lists.{get_in, has_not, in_map, map_in}
 use Rattle.bc_change.proofs.Nexts.{Remains, next_is, old_in}
+use Rattle.bc_change.proofs.Sites.{comes_apart, leaf_goes, leaf_next, slots_apart, two_apart}
 
 -- ---- roles
 
@@ -97,12 +95,6 @@ module _ (w : Opening) (st : parts.State) (sp : Spine) (plan : Plan) (keys : Lea
   abbrev goes : List LeafRange
   goes = going sp.leaves plan.leaves
 
-  abbrev front : List LeafRange
-  front = take plan.leaves.place sp.leaves
-
-  abbrev behind : List LeafRange
-  behind = drop (plan.leaves.place + plan.leaves.gone) sp.leaves
-
   abbrev leaves : ℕ → parts.Leaf
   leaves = leaves_changed st c.gone.items c.come.items
 
@@ -111,43 +103,11 @@ module _ (w : Opening) (st : parts.State) (sp : Spine) (plan : Plan) (keys : Lea
 
   -- ---- which leaves stay
 
-  all : front ++ (goes ++ behind) ≡ sp.leaves
-  all =
-      ap (λ (ys : List LeafRange). front ++ (goes ++ ys))
-      (sym (drop-drop plan.leaves.gone plan.leaves.place sp.leaves))
-      ∙ ap (λ (ys : List LeafRange). front ++ ys)
-      (take-append-drop plan.leaves.gone (drop plan.leaves.place sp.leaves))
-      ∙ take-append-drop plan.leaves.place sp.leaves
-
   pub goes_in : (l : LeafRange) → In l goes → In l sp.leaves
-  goes_in l m = subst (λ (ls : List LeafRange). In l ls) all
-      (in_behind l front (goes ++ behind) (in_front l goes behind m))
-
-  front_in : (l : LeafRange) → In l front → In l sp.leaves
-  front_in l m = subst (λ (ls : List LeafRange). In l ls) all (in_front l front (goes ++ behind) m)
-
-  behind_in : (l : LeafRange) → In l behind → In l sp.leaves
-  behind_in l m = subst (λ (ls : List LeafRange). In l ls) all
-      (in_behind l front (goes ++ behind) (in_behind l goes behind m))
-
-  apart : (xs ys : List LeafRange) (x y : LeafRange) → AllPairs HaveTwoNumbers (xs ++ ys) → In x xs
-      → In y ys → x.number ≢ y.number
-  apart xs ys x y pairs m n = all_in (HaveTwoNumbers x) ys y
-      (all_in (λ z. All (HaveTwoNumbers z) ys) xs x (AllPairs-across HaveTwoNumbers xs ys pairs) m) n
+  goes_in l m = leaf_goes sp plan l m
 
   come_apart : (x y : LeafRange) → In x sp.leaves → In y come → x.number ≢ y.number
-  come_apart x y m n = apart sp.leaves come x y ready.fits.leaves_fit.fits.numbers m n
-
-  parts_apart : AllPairs HaveTwoNumbers (front ++ (goes ++ behind))
-  parts_apart = subst (λ (ls : List LeafRange). AllPairs HaveTwoNumbers ls) (sym all)
-      ready.tree.leaves.numbers
-
-  front_apart : (x y : LeafRange) → In x front → In y goes → x.number ≢ y.number
-  front_apart x y m n = apart front (goes ++ behind) x y parts_apart m (in_front y goes behind n)
-
-  behind_apart : (x y : LeafRange) → In x goes → In y behind → x.number ≢ y.number
-  behind_apart x y m n = apart goes behind x y
-      (AllPairs-right HaveTwoNumbers front (goes ++ behind) parts_apart) m n
+  come_apart x y m n = comes_apart sp plan ready.tree ready.fits x y m n
 
   -- its number isn't one of those that go
   kept : (l : LeafRange) → ((g : LeafRange) → In g goes → l.number ≢ g.number)
@@ -201,13 +161,9 @@ module _ (w : Opening) (st : parts.State) (sp : Spine) (plan : Plan) (keys : Lea
   -- each leaf of the tree that is made has its place
   pub leaf_place : (l : LeafRange) → In l (leaves_next sp.leaves plan.leaves)
       → HasLeaf w leaves inner_nodes l
-  leaf_place l m = elim (in_either l (front ++ come) behind m) [
-    | inl low ↦ elim (in_either l front come low) [
-      | inl before ↦ old_place l (front_in l before) (λ g at. front_apart l g before at)
-      | inr new ↦ new_place l new
-    ]
-    | inr after ↦ old_place l (behind_in l after)
-        (λ g at same. behind_apart g l at after (sym same))
+  leaf_place l m = elim (leaf_next sp plan ready.tree ready.fits l m) [
+    | inl new ↦ new_place l new
+    | inr old ↦ old_place l old.0 old.1
   ]
 
   pub leaves_row : AreLeaves (leaves_next sp.leaves plan.leaves) sp.root.end
@@ -251,7 +207,7 @@ module _ (w : Opening) (st : parts.State) (sp : Spine) (plan : Plan) (keys : Lea
           -- the two have numbers of their own
           pairs : plan.leaves.second ≡ Some range
               → plan.leaves.first.number ≡ range.number → ⊥
-          pairs there same = apart (plan.leaves.first ∷ []) (option_to_list plan.leaves.second)
+          pairs there same = two_apart (plan.leaves.first ∷ []) (option_to_list plan.leaves.second)
               plan.leaves.first range
               (AllPairs-right HaveTwoNumbers sp.leaves come ready.fits.leaves_fit.fits.numbers)
               (inl refl)
@@ -271,68 +227,11 @@ module _ (w : Opening) (st : parts.State) (sp : Spine) (plan : Plan) (keys : Lea
   pub inner_ready : (n : Inner) → In n (new_nodes plan) → IsReadyInner w st n
   inner_ready n m = ready.ready.new n (in_contains (new_nodes plan) n m)
 
-  below_covers : (n : Inner) → In n sp.below → Covers n
-  below_covers n m = all_in Covers sp.below n ready.tree.spine_is.cover.1 m
-
-  below_named : (below : List Inner) → sp.below ≡ below → (b : Inner) → In b below
-      → NameNodes sp.root.from sp.root.children below × (sp.root.level ≡ 2)
-  below_named [] at b m = absurd m
-  below_named (x ∷ xs) at b m = let named = subst (λ (bs : List Inner). IsRootOf sp.root bs) at
-      ready.tree.spine_is.inner.root_of in (named.1, named.0)
-
-  level_one : (from : ℕ) (ks : List Key) (ns : List Inner) (n : Inner) → NameNodes from ks ns
-      → In n ns → n.level ≡ 1
-  level_one from [] [] n names m = absurd m
-  level_one from [] (x ∷ xs) n names m = absurd names
-  level_one from (k ∷ ks) [] n names m = absurd names
-  level_one from (k ∷ ks) (x ∷ xs) n names (inl here) = ap (λ (y : Inner). y.level) here ∙ names.0
-  level_one from (k ∷ ks) (x ∷ xs) n names (inr later) = level_one k.end ks xs n names.4 later
-
-  -- nodes of one slot begin at one sector, on one level
-  one_site : (a b : Inner) → In a nodes → In b nodes → inner_slot w a ≡ inner_slot w b
-      → (a.from ≡ b.from) × (a.level ≡ b.level)
-  one_site a b m n same =
-      let one = tree_inner a m in
-      let two = subst (λ k. IsTreeInner w st.change k b (inner_share st k)) (sym same)
-      (tree_inner b n) in (sym one.first ∙ two.first, sym one.level ∙ two.level)
-
-  -- so two nodes at two places have two slots
+  -- two nodes at two places have two slots
   pub two_slots : (i j : ℕ) (a b : Inner) → slice_get nodes i ≡ Some a → slice_get nodes j ≡ Some b
       → i ≢ j → inner_slot w a ≡ inner_slot w b → ⊥
-  two_slots i j a b at there other same = go i j at there other
-      (one_site a b (get_in nodes i a at) (get_in nodes j b there) same)
-    where
-      is_some : (x y : Inner) → Some x ≡ Some y → y ≡ x
-      is_some x y e = cc
-
-      under : (k : ℕ) (x : Inner) → slice_get sp.below k ≡ Some x → (x.level ≡ 1) × (sp.root.level ≡ 2)
-      under k x e = let m = get_in sp.below k x e in let named = below_named sp.below refl x m in
-          (level_one sp.root.from sp.root.children sp.below x named.0 m, named.1)
-
-      row : (k : ℕ) (x : Inner) → slice_get sp.below k ≡ Some x → AreInRow sp.root.from sp.below
-      row k x e = (in_row sp.root.from sp.root.children sp.below
-          (below_named sp.below refl x (get_in sp.below k x e)).0).0
-
-      go : (k l : ℕ) → slice_get nodes k ≡ Some a → slice_get nodes l ≡ Some b → k ≢ l
-          → (a.from ≡ b.from) × (a.level ≡ b.level) → ⊥
-      go zero zero e f apart_ site = apart_ refl
-      go zero (suc l) e f apart_ site =
-          let low = under l b f in
-          let high = ap (λ (x : Inner). x.level) (is_some sp.root a e) in
-          let one = low.0 in let two = low.1 in let both = site.1 in
-          omega (arith, one, two, both, high)
-      go (suc k) zero e f apart_ site =
-          let low = under k a e in
-          let high = ap (λ (x : Inner). x.level) (is_some sp.root b f) in
-          let one = low.0 in let two = low.1 in let both = site.1 in
-          omega (arith, one, two, both, high)
-      go (suc k) (suc l) e f apart_ site = elim (cases_lt k l) [
-        | inl lt ↦ (let up = nodes_rise sp.root.from sp.below k l a b (row k a e) below_covers e f lt in
-            let from = site.0 in omega (arith, up, from))
-        | inr ge ↦ (let up = nodes_rise sp.root.from sp.below l k b a (row k a e) below_covers f e
-            (omega (arith, ge, λ (x : k ≡ l). apart_ (ap suc x))) in
-            let from = site.0 in omega (arith, up, from))
-      ]
+  two_slots i j a b at there other same =
+      slots_apart w st sp ready.tree ready.stands i j a b at there other same
 
   -- the slot isn't one of those that go
   stays_there : (n : Inner) → ((o : Inner) → In o (old_nodes sp plan) → inner_slot w o ≢ inner_slot w n)

@@ -1,40 +1,32 @@
 -- When an entry with a new root may be sealed, and what that leaves.
-use Rattle.std.proofs.Common.{◌≡◌, ℕ, suc, ◌+◌, ◌<◌, ◌≤◌, Bool, true, false, List, [], Some, None, refl, sym, ap, ◌∙◌, subst, arith}
-use Rattle.std.specs.Prelude.{reverse, slice_index}
-use Rattle.std.proofs.lemmas.List.{reverse-reverse}
-use Rattle.std.proofs.lemmas.List.Elements.{All-get_or}
+use Rattle.std.proofs.Common.{◌≡◌, ℕ, suc, ◌+◌, ◌<◌, ◌≤◌, Bool, true, false, List, None, refl, sym, ap, ◌∙◌, subst, arith}
 use Rattle.bc_disk.specs.declared.geometry.Geometry.{Geometry}
 use Rattle.bc_events.specs.declared.event.Change.{Change}
 use Rattle.bc_events.specs.declared.event.Event.{Event}
-use Rattle.bc_facts.specs.Layout.{IsLayoutOf}
-use Rattle.bc_facts.specs.Seen.{bucket_of, counted, entry_rest, seen_entry, word_of}
+use Rattle.bc_facts.specs.Seen.{counted, entry_rest, seen_entry}
 use Rattle.bc_facts.proofs.Stood.{in_contains}
 use Rattle.bc_inner.specs.Inner.{Inner}
 use Rattle.bc_journal.specs.Journal.{IsJournal as IsGoodJournal, IsSealed, Journal, newest_of, number_of}
-use Rattle.bc_journal.specs.Ring.{is_free, with_entry}
-use Rattle.bc_journal.specs.Sealed.{Sealed, sector_at}
+use Rattle.bc_journal.specs.Ring.{is_free}
+use Rattle.bc_journal.specs.Sealed.{Sealed}
 use Rattle.bc_journal.specs.declared.heads.Heads.{Heads}
 use Rattle.bc_journal.specs.declared.place.Numbers.{Numbers}
-use Rattle.bc_journal.specs.declared.place.Place.{Place}
-use Rattle.bc_jset.specs.Records.{entry_sectors}
-use Rattle.bc_key.specs.declared.key.Key.{Key}
 use Rattle.bc_known.specs.Acts.{Act, BeginBucket, BeginChange, Seal, State, after}
 use Rattle.bc_known.specs.Run.{IsEnabled}
 use Rattle.bc_known.specs.Laws.{IsSound}
 use Rattle.bc_leaves.specs.Enabled.{CanBegin, CanSealNext, CanSealRoot}
 use Rattle.bc_leaves.specs.Keys.{last_said, ref_said}
 use Rattle.bc_leaves.specs.Parts.{keys_in_leaf}
-use Rattle.bc_entry.specs.bc_machine.Containers.{IsJournalOf, IsLeafFor, IsRingOf, numbers_in, sealed_numbers}
+use Rattle.bc_entry.specs.bc_machine.Containers.{IsJournalOf, IsLeafFor, sealed_numbers}
 use Rattle.bc_entry.specs.bc_machine.World.{IsCourseOf, Origin, replay}
 use Rattle.bc_meta.specs.Entries.{Entry}
-use Rattle.bc_meta.specs.Layout.{entry_len}
 use Rattle.bc_meta.specs.Records.{Fixed, Nothing, Ready, Records, Safe, Sent, Stage}
 use Rattle.bc_needs.specs.Needs.{NeedsNone}
 use Rattle.bc_node.specs.Leaf.{Leaf}
 use Rattle.bc_nodes_known.specs.Nodes.{AreStill}
-use Rattle.bc_entry.specs.bc_sealing.Laws.{IsNew, Seals, front_of}
+use Rattle.bc_entry.specs.bc_sealing.Laws.{Seals, front_of}
 use Rattle.bc_entry.proofs.of_bc_sealing.Acts.{law_acts}
-use Rattle.bc_entry.proofs.of_bc_sealing.Ring.{law_places, law_ring}
+use Rattle.bc_entry.proofs.of_bc_sealing.Ring.{law_places}
 use Rattle.bc_shares.specs.Shares.{JournalShare, books_of, if_sealed, journal_share, leaf_share}
 use Rattle.bc_shares.proofs.Acts.{journal_kept}
 use Rattle.bc_tree.specs.LastKeys.{LeafKeys}
@@ -43,9 +35,9 @@ use Rattle.bc_tree.specs.declared.plan.Plan.{Plan}
 use Rattle.bc_whole.specs.State as whole
 use Rattle.bc_whole.specs.State.{NewRoot, SameChain}
 use Rattle.bc_whole.specs.Together.{AreHeldFor, entry_of}
-use Rattle.bc_entry.specs.Entry.{IsSealedAs}
 use Rattle.bc_entry.specs.Seal.{CanSeal}
 use Rattle.bc_entry.proofs.Course.{is_sealed, nothing_course, waits_course}
+use Rattle.bc_entry.proofs.Sealing.{Leaves, Names, entry_is, has_rest, named_so, sealed_behind, sealed_in_front}
 use Rattle.bc_change.specs.Goes.{BringsRoot, IsChangeBy, new_nodes}
 use Rattle.bc_change.specs.Laws.{unused_for}
 use Rattle.bc_change.specs.Ready.{HoldsNew, IsReadyChange}
@@ -73,6 +65,7 @@ module _ (o : Origin) (sound : IsSound o.opening.machine o.parts) (es : List Eve
     (is_change : IsChangeBy o.opening.machine sp plan c)
     (root : Inner) (brings : BringsRoot sp plan root) (heads : Heads) (slot : ℕ)
     (names : NamesNext j.ring.geometry heads root slot o (replay o es))
+    (prio : heads.prio ≡ j.heads.prio)
     (said : (k s : ℕ) (leaf : Leaf)
     → IsLeafFor o.opening.machine (leaf_share (replay o es).machine.whole.parts k) leaf
     → leaf.from ≤ s → s < leaf.end → ref_said (last_said leaf.keys s)
@@ -207,58 +200,31 @@ module _ (o : Origin) (sound : IsSound o.opening.machine o.parts) (es : List Eve
     abbrev e : Entry
     e = seen_entry g s.entry
 
-    pub entry_is : entry_of (after w st i begin).whole j.needed rest (NewRoot slot) SameChain ≡ e
-    entry_is =
-        let at = is.entry in
-        let number : suc r.newest.number ≡ s.entry.seq =
-        let seq = seq_is in
-        let all = number_is in
-        let same = ap (λ x. x.seq) at in omega (arith, seq, all, same) in
-        let new_root = ready.ready.new root (in_contains (new_nodes plan) root
-        (root_new w st.whole.parts sp plan keys c ready is_change said still root brings)) in
-        let here = names.slot_is in
-        let low = sym (ap (λ x. x.last_seq) at) in
-        let bucket = ap (λ k. (st.whole.parts.inner_nodes k).bucket) (sym here)
-        ∙ new_root.new.bucket ∙ here ∙ names.bucket ∙ sym (ap (λ x. bucket_of g x.root) at) in
-        let word = ap (λ k. (st.whole.parts.inner_nodes k).word) (sym here)
-        ∙ new_root.new.word ∙ names.word ∙ sym (ap (λ x. word_of x.root) at) in
-        let level = ap (λ k. suc (st.whole.parts.inner_nodes k).height) (sym here)
-        ∙ new_root.new.level ∙ names.level ∙ sym (ap (λ x. x.level) at) in
-        let prio = names.prio ∙ sym (ap (λ x. counted g x.prio) at) in
-        let keys_are : r.waiting ≡ reverse s.entry.keys = sym (reverse-reverse r.waiting)
-        ∙ ap (λ (ks : List Key). reverse ks) (sym h.waiting)
-        ∙ ap (λ x. reverse x.keys) (sym at) in
-        λ n. record {
-          number = number n;
-          last_seq = low n;
-          root = bucket n;
-          word = word n;
-          level = level n;
-          prio = prio n;
-          keys = keys_are n;
-          rest = rest_is n;
-        }
-
     abbrev x : JournalShare
     x = journal_share st
 
-    none_before : x.entries.sealed ≡ None
-    none_before = ap (λ a. if_sealed a r.entry) idle
+    -- what the machine's entry names
+    named : Names g heads
+        (entry_of (after w st i begin).whole j.needed rest (NewRoot slot) SameChain)
+    named =
+        let new_root = ready.ready.new root (in_contains (new_nodes plan) root
+        (root_new w st.whole.parts sp plan keys c ready is_change said still root brings)) in
+        let here = names.slot_is in
+        let old = named_so g j.heads r.newest h.heads in record {
+          root = ap (λ k. (st.whole.parts.inner_nodes k).bucket) (sym here)
+              ∙ new_root.new.bucket ∙ here ∙ names.bucket;
+          word = ap (λ k. (st.whole.parts.inner_nodes k).word) (sym here)
+              ∙ new_root.new.word ∙ names.word;
+          level = ap (λ k. suc (st.whole.parts.inner_nodes k).height) (sym here)
+              ∙ new_root.new.level ∙ names.level;
+          prio = old.prio ∙ ap (λ n. counted g n) (sym prio);
+        }
 
-    sectors_are : entry_sectors g s.entry ≡ entry_len w.layout e
-    sectors_are = sym (h.ring.layout.entries.long tt s.entry)
-
-    is_new : (b : ℕ) → b < g.journal → IsNew w j.ring b e (entry_sectors g s.entry)
-    is_new b in_ = record {
-      long = sectors_are;
-      within = let all = good.ring.buckets in omega (arith, in_, all);
-      number =
-          let all = good.ring.buckets in
-          let below : slice_index j.ring.newest b < number_of j =
-          All-get_or (λ n. n < number_of j) j.ring.newest b 0 (omega (arith, in_, all))
-          good.newest in
-          let same = ap (λ y. y.seq) is.entry in omega (arith, below, same);
-    }
+    pub entry_same : entry_of (after w st i begin).whole j.needed rest (NewRoot slot) SameChain ≡ e
+    entry_same = entry_is w x j good can h heads s new is (after w st i begin).whole.parts.records
+        refl refl rest rest_is
+        (entry_of (after w st i begin).whole j.needed rest (NewRoot slot) SameChain)
+        (has_rest (after w st i begin).whole j.needed rest (NewRoot slot) SameChain) named
 
     sealed_as : (before : State) → Seals (entry_of before.whole j.needed rest (NewRoot slot) SameChain)
         (journal_share before) (journal_share (after w before i (seal rest)))
@@ -272,60 +238,24 @@ module _ (o : Origin) (sound : IsSound o.opening.machine o.parts) (es : List Eve
         → journal_share (after w (begun_bucket b) i begin) ≡ journal_share (begun_bucket b)
     same_share_behind b = journal_kept.one w (begun_bucket b) i begin refl (may_begin_behind b)
 
-    -- of a share in which the ring has it at its place
-    module _ (y : JournalShare) (sealed : y.entries.sealed ≡ Some e) (waiting : y.entries.waiting ≡
-        [])
-        (newest : y.entries.newest ≡ r.newest)
-        (ring : IsRingOf w y (with_entry j.ring s.place (entry_sectors g s.entry) s.entry.seq))
-      where
-        journal_is : IsJournalOf w y new
-        journal_is = subst (IsJournalOf w y) (sym is.journal) (record {
-          waiting = ap (λ (ks : List Key). reverse ks) (sym waiting);
-          durable = h.durable ∙ ap numbers_in (sym newest);
-          sealed = ap sealed_numbers (sym sealed);
-          ring = ring;
-        })
+    abbrev LeftIn : State → Type 0
+    LeftIn a = Leaves w x j good can h heads s new is (journal_share a)
 
-        sealed_is_as : IsSealedAs s w y
-        sealed_is_as = record {
-          layout = subst (λ (k : Geometry). IsLayoutOf k w.layout) (sym is.geometry) h.ring.layout;
-          entry = sealed ∙ ap (λ (k : Geometry). Some (seen_entry k s.entry)) (sym is.geometry);
-          bucket = sym ring.bucket;
-          next = law_places.place w y j.ring s.place e (entry_sectors g s.entry) ring sealed
-              sectors_are
-              ∙ ap (λ (k : Geometry). sector_at k s.place) (sym is.geometry);
-        }
-
-    abbrev Leaves : State → Type 0
-    Leaves a = IsJournalOf w (journal_share a) new × IsSealedAs s w (journal_share a)
-
-    pub leaves_behind : s.place ≡ j.ring.next → Leaves (after w (after w st i begin) i (seal rest))
+    pub leaves_behind : s.place ≡ j.ring.next → LeftIn (after w (after w st i begin) i (seal rest))
     leaves_behind place =
         let y = journal_share (after w (after w st i begin) i (seal rest)) in
-        let seals = subst (λ (z : Entry). Seals z x y) entry_is
+        sealed_behind w x j good can h heads s new is y
+        (subst (λ (z : Entry). Seals z x y) entry_same
         (subst (λ (a : JournalShare). Seals (entry_of (after w st i begin).whole j.needed rest
-        (NewRoot slot) SameChain) a y) same_share (sealed_as (after w st i begin))) in
-        let ring = subst (λ (p : Place). IsRingOf w y
-        (with_entry j.ring p (entry_sectors g s.entry) s.entry.seq)) (sym place)
-        (law_ring.behind w x y j.ring e (entry_sectors g s.entry) h.ring none_before seals
-        (is_new j.ring.next.bucket good.ring.next.bucket)) in (
-          journal_is y seals.sealed refl refl ring,
-          sealed_is_as y seals.sealed refl refl ring,
-        )
+        (NewRoot slot) SameChain) a y) same_share (sealed_as (after w st i begin)))) place
 
     pub leaves_in_front : (b : ℕ) → b < g.journal → s.place ≡ front_of b
-        → Leaves (after w (after w (begun_bucket b) i begin) i (seal rest))
+        → LeftIn (after w (after w (begun_bucket b) i begin) i (seal rest))
     leaves_in_front b in_ place =
         let y = journal_share (begun_bucket b) in
         let z = journal_share (after w (after w (begun_bucket b) i begin) i (seal rest)) in
-        let seals = subst (λ (d : Entry). Seals d y z) entry_is
+        sealed_in_front w x j good can h heads s new is b y z (law_acts.begins w st i b)
+        (subst (λ (d : Entry). Seals d y z) entry_same
         (subst (λ (a : JournalShare). Seals (entry_of (after w (begun_bucket b) i begin).whole
         j.needed rest (NewRoot slot) SameChain) a z) (same_share_behind b)
-        (sealed_as (after w (begun_bucket b) i begin))) in
-        let ring = subst (λ (p : Place). IsRingOf w z
-        (with_entry j.ring p (entry_sectors g s.entry) s.entry.seq)) (sym place)
-        (law_ring.front w x y z j.ring b e (entry_sectors g s.entry) h.ring
-        (law_acts.begins w st i b) seals (is_new b in_)) in (
-          journal_is z seals.sealed refl refl ring,
-          sealed_is_as z seals.sealed refl refl ring,
-        )
+        (sealed_as (after w (begun_bucket b) i begin)))) in_ place

@@ -73,6 +73,7 @@ module _ (o : Origin) (sound : IsSound o.opening.machine o.parts)
     (is_change : IsChangeBy o.opening.machine sp.spine plan c)
     (root : Inner) (brings : BringsRoot sp.spine plan root) (heads : Heads) (slot : ℕ)
     (names : NamesNext j.ring.geometry heads root slot o (replay o es))
+    (prio : heads.prio ≡ j.heads.prio)
     (said : (k s : ℕ) (leaf : Leaf)
     → IsLeafFor o.opening.machine (leaf_share (replay o es).machine.whole.parts k) leaf
     → leaf.from ≤ s → s < leaf.end → ref_said (last_said leaf.keys s)
@@ -87,10 +88,10 @@ module _ (o : Origin) (sound : IsSound o.opening.machine o.parts)
         seat = lt-ltb i 320 few;
         course = (
           may_begin o sound es on j good can h sp.spine plan keys c i ready holds is_change root
-              brings heads slot names said still,
+              brings heads slot names prio said still,
           (
             may_seal o sound es on j good can h sp.spine plan keys c i ready holds is_change root
-                brings heads slot names said still needs rest.items running,
+                brings heads slot names prio said still needs rest.items running,
             tt,
           ),
         );
@@ -104,13 +105,13 @@ module _ (o : Origin) (sound : IsSound o.opening.machine o.parts)
         seat = lt-ltb i 320 few;
         course = (
           may_begin_bucket o sound es on j good can h sp.spine plan keys c i ready holds is_change
-              root brings heads slot names said still b in_ free,
+              root brings heads slot names prio said still b in_ free,
           (
             may_begin_behind o sound es on j good can h sp.spine plan keys c i ready holds
-                is_change root brings heads slot names said still b,
+                is_change root brings heads slot names prio said still b,
             (
               may_seal_behind o sound es on j good can h sp.spine plan keys c i ready holds
-                  is_change root brings heads slot names said still needs rest.items b running,
+                  is_change root brings heads slot names prio said still needs rest.items b running,
               tt,
             ),
           ),
@@ -128,15 +129,15 @@ module _ (o : Origin) (sound : IsSound o.opening.machine o.parts)
     number : suc (replay o es).machine.whole.parts.records.newest.number ≡ s.entry.seq
     number =
         let seq = seq_is o sound es on j good can h sp.spine plan keys c i ready holds is_change root
-        brings heads slot names said still in
+        brings heads slot names prio said still in
         let all = number_is o sound es on j good can h sp.spine plan keys c i ready holds is_change
-        root brings heads slot names said still in
+        root brings heads slot names prio said still in
         let same = ap (λ x. x.seq) is.entry in omega (arith, seq, all, same)
 
     begins : CanBegin (replay o es).machine.whole.parts c.low c.high c.gone.items c.come.items
         c.old.items c.new.items (unused_for (replay o es).machine.whole.parts c)
     begins = can_begin o sound es on j good can h sp.spine plan keys c i ready holds is_change root
-        brings heads slot names said still
+        brings heads slot names prio said still
 
     -- the root's bucket is its slot
     root_bucket : ((replay o es).machine.whole.parts.inner_nodes slot).bucket ≡ slot
@@ -154,7 +155,7 @@ module _ (o : Origin) (sound : IsSound o.opening.machine o.parts)
     left begun (inl (none, place)) = subst (λ (b : Option ℕ). IsLeft o es sp plan c i slot s new
         (core.after o.opening (replay o es) (by i (sealing j b rest slot c)))) (sym none)
         (let both = leaves_behind o sound es on j good can h sp.spine plan keys c i ready holds
-        is_change root brings heads slot names said still s new is rest.items rest_is place in
+        is_change root brings heads slot names prio said still s new is rest.items rest_is place in
         let e = by i (sealing j None rest slot c) in
         let a = core.after o.opening (replay o es) e in
         let r = a.machine.whole.parts.records in
@@ -185,7 +186,7 @@ module _ (o : Origin) (sound : IsSound o.opening.machine o.parts)
     left begun (inr (b, some, place, in_, free)) = subst (λ (x : Option ℕ). IsLeft o es sp plan c i slot s new
         (core.after o.opening (replay o es) (by i (sealing j x rest slot c)))) (sym some)
         (let both = leaves_in_front o sound es on j good can h sp.spine plan keys c i ready holds
-        is_change root brings heads slot names said still s new is rest.items rest_is b in_ place in
+        is_change root brings heads slot names prio said still s new is rest.items rest_is b in_ place in
         let e = by i (sealing j (Some b) rest slot c) in
         let a = core.after o.opening (replay o es) e in
         let r = a.machine.whole.parts.records in

@@ -37,9 +37,8 @@ use Rattle.bc_nodes_known.proofs.Law.{law_said, law_still}
 use Rattle.bc_parts.specs.Seat.{Holds, PartsView, Run}
 use Rattle.bc_seats.specs.Seats.{Kept, Since}
 use Rattle.bc_seats.proofs.Knowing.{held, still}
-use Rattle.bc_shares.specs.Shares.{JournalShare, journal_share, leaf_share}
+use Rattle.bc_shares.specs.Shares.{journal_share, leaf_share}
 use Rattle.bc_shares.specs.Touched.{touches_journal}
-use Rattle.bc_shares.proofs.Law.{law_journal}
 use Rattle.bc_spine.specs.Exchange.{going}
 use Rattle.bc_spine.specs.declared.leaf.LeafRange.{LeafRange}
 use Rattle.bc_tree.specs.declared.plan.Plan.{Plan}
@@ -138,7 +137,6 @@ names_kept g heads root slot o st e on off h = record {
   bucket = h.bucket;
   word = h.word;
   level = h.level;
-  prio = ap (λ (x : JournalShare). x.entries.newest.prio) (law_journal o.opening st e on off) ∙ h.prio;
 }
 
 -- what is pending is durable
@@ -284,7 +282,7 @@ module _ {C B : Type 0} (cache_facts : C → DiskFacts) (backing_facts : B → D
                 ((journal_at x since).stands o seen.origin seen.course) sp plan may.keys c v.first
                 (ready_change x since o seen.origin seen.course) known.holds
                 (change_at x since o seen.origin seen.course) may.root may.brings heads slot
-                (names_at x since o seen.origin seen.course) (law_said x o seen.origin seen.course)
+                (names_at x since o seen.origin seen.course) may.prio (law_said x o seen.origin seen.course)
                 (law_still x o seen.origin seen.course) rest (begun_by j) place.0
                 (goes_to j place.0 good place.1) (low cache_facts backing_facts v works.seat)
                 ((journal_at x since).needs o seen.origin seen.course).needs running;
@@ -367,7 +365,7 @@ module _ {C B : Type 0} (cache_facts : C → DiskFacts) (backing_facts : B → D
         ((journal_at before since).stands o origin course) sp plan may.keys c v.first
         (ready_change before since o origin course) (ready_at before since o origin course).holds
         (change_at before since o origin course) may.root may.brings heads slot
-        (names_at before since o origin course) (law_said before o origin course)
+        (names_at before since o origin course) may.prio (law_said before o origin course)
         (law_still before o origin course) rest may.can.changing
         (spine_at before since o origin course).next_seq s new is rest_is (begun_by j)
         (goes_to j s.place good is.place)

@@ -7,7 +7,7 @@ use Rattle.bc_disk.specs.declared.geometry.Geometry.{Geometry}
 use Rattle.bc_events.specs.Run as core
 use Rattle.bc_events.specs.declared.event.Change.{Change}
 use Rattle.bc_events.specs.declared.event.Deed.TheVariants as deed
-use Rattle.bc_facts.specs.Seen.{bucket_of, counted, entry_rest, word_of}
+use Rattle.bc_facts.specs.Seen.{bucket_of, entry_rest, word_of}
 use Rattle.bc_entry.specs.bc_hand.Seats.{Did, View}
 use Rattle.bc_entry.specs.bc_hand.declared.hand.Hand.{Hand}
 use Rattle.bc_entry.specs.bc_hand.declared.hand.LeafHand.{LeafHand}
@@ -20,14 +20,12 @@ use Rattle.bc_entry.specs.bc_machine.Containers.{inner_slot}
 use Rattle.bc_entry.specs.bc_machine.World.{FromEach, Origin, World}
 use Rattle.bc_entry.specs.bc_machine.declared.part.SpinePart.{SpinePart}
 use Rattle.bc_node.specs.declared.pending.Entries.{Entries}
-use Rattle.bc_shares.specs.Shares.{journal_share}
 use Rattle.bc_spine.specs.Exchange.{going}
 use Rattle.bc_spine.specs.declared.leaf.LeafRange.{LeafRange}
 use Rattle.bc_tree.specs.LastKeys.{LeafKeys, StandIn}
 use Rattle.bc_tree.specs.Plan.{Fits}
 use Rattle.bc_tree.specs.declared.plan.Plan.{Plan}
-use Rattle.bc_entry.specs.Seal.{CanSeal, begun_by, rest_of}
-use Rattle.bc_change.specs.declared.root.Next.{Next}
+use Rattle.bc_entry.specs.Seal.{CanSeal, begun_by}
 use Rattle.bc_change.specs.Goes.{BringsRoot, IsChangeBy, numbers}
 use Rattle.bc_change.specs.Ready.{HasBoth, IsReadyFor}
 
@@ -65,23 +63,16 @@ pub record HasInHand {C B : Type 0} (h : Hand C B) (parts : ℕ) (plan : Plan) (
 
 -- ---- the entry
 
--- what the next entry is sealed with
-pub record IsNext (j : Journal) (heads : Heads) (next : Next) : Type 0 where
-  pub last_seq : next.last_seq ≡ j.needed
-  pub bucket : next.bucket ≡ begun_by j
-  pub rest : next.rest.items ≡ rest_of heads j.waiting
-
--- It names this inner node as the root, and the priorities that the one before names.
+-- It names this inner node as the root.
 pub record NamesNext (g : Geometry) (heads : Heads) (root : Inner) (slot : ℕ) (o : Origin)
     (st : core.State) : Type 0 where
   pub slot_is : inner_slot o.opening.machine root ≡ slot
   pub bucket : slot ≡ bucket_of g heads.root
   pub word : ptr_word root.ptr ≡ word_of heads.root
   pub level : root.level ≡ heads.level
-  pub prio : (journal_share st.machine).entries.newest.prio ≡ counted g heads.prio
 
--- A seat may seal it: the plan moves the nodes that change up to this root, their new ones are
--- ready, and the change is what it makes of the tree.
+-- A seat may seal it: it names the priorities that the one before names, the plan moves the nodes
+-- that change up to this root, their new ones are ready, and the change is what it makes of the tree.
 pub record MaySealRoot {C B : Type 0} (h : Hand C B) (parts i : ℕ) (plan : Plan) (heads : Heads)
     (slot : ℕ) (c : Change) (x : World) : Type 0 where
   pub keys : LeafKeys
@@ -89,6 +80,7 @@ pub record MaySealRoot {C B : Type 0} (h : Hand C B) (parts i : ℕ) (plan : Pla
   pub root : Inner
   pub brings : BringsRoot can.spine.spine plan root
   pub seals : CanSeal can.journal
+  pub prio : heads.prio ≡ can.journal.heads.prio
   pub names : FromEach x (NamesNext can.journal.ring.geometry heads root slot)
   -- the leaves that go are known outright, since their part has to be in hand
   pub gone : c.gone.items ≡ numbers (going can.spine.spine.leaves plan.leaves)

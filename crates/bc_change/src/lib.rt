@@ -15,3 +15,7 @@
 pub mod laws;
 pub mod put;
 pub mod root;
+
+// Passed on, so that a crate above need not list these.
+pub use bc_entry;
+pub use bc_entry::{bc_hand, bc_machine};

@@ -1,12 +1,12 @@
 //! A sealed entry, as the steps that make it durable.
-ghost use Rattle.std.specs.Prelude.{◌≡◌, ◌*◌, ◌≤◌, false, true, is_some, None, Some, IfErr, OnOk};
+ghost use Rattle.std.specs.Prelude.{◌≡◌, ◌+◌, ◌*◌, ◌≤◌, false, true, is_some, None, Some, IfErr, OnOk};
 ghost use Rattle.bc_change.specs.Put.{HasCutBehind, HasPutBehind, KeepsByRoot};
 ghost use Rattle.bc_entry.specs.Entry.{HasJournalAndCache, IsFixedEntry, IsNewestEntry};
 ghost use Rattle.bc_entry.specs.Put.{IsCause};
 ghost use Rattle.bc_entry.specs.bc_hand.Seats.{Works, kinds, world};
 ghost use Rattle.bc_entry.specs.bc_machine.World.{FromEach, are_plain, cache_among};
 ghost use Rattle.bc_journal.specs.Journal.{Journal};
-ghost use Rattle.bc_journal.specs.Sealed.{numbers_of};
+ghost use Rattle.bc_journal.specs.Sealed.{heads_of, numbers_of};
 
 use bc_disk::disk::Disk;
 use bc_entry::barrier::cache_barrier;
@@ -14,9 +14,9 @@ use bc_entry::bc_hand::error::StepError;
 use bc_entry::bc_hand::hand::Hand;
 use bc_entry::bc_machine::machine::{CoreParts, CoreSeat};
 use bc_entry::durable::make_durable;
+use bc_entry::room::EntryRoom;
 use bc_entry::write::write_entry;
 use bc_journal::Sealed;
-use std::alloc::Global;
 use std::sync::Wait;
 
 /// Makes an entry durable that the journal in hand has sealed: a barrier, it is written, a
@@ -24,16 +24,16 @@ use std::sync::Wait;
 /// is in hand too, so what the seat knows of its change goes on to hold, whatever comes of the
 /// entry.
 ///
-/// An error is a call of the device that failed, which is the last deed then; a device that had
-/// halted the run before; or want of memory, before the write. How far the entry came is told by
-/// the seat's own deeds.
+/// An error is a call of the device that failed, which is the last deed then, or a device that had
+/// halted the run before. How far the entry came is told by the seat's own deeds. All memory is
+/// there before the seal, so there is never want of it.
 pub fn put_sealed<C: Disk + Drop, B: Disk + Drop, R: Wait>(
     rt: &R,
-    alloc: Global,
     parts: &CoreParts<C, B>,
     seat: &mut CoreSeat<C, B>,
     hand: &mut Hand<C, B>,
     entry: Sealed,
+    room: EntryRoom,
 ) -> Result<(), StepError>
     requires works { Works C.facts B.facts parts.now seat.old hand.old }
     requires cached { are_plain C.facts B.facts parts.now.run.start ≡ false }
@@ -46,11 +46,17 @@ pub fn put_sealed<C: Disk + Drop, B: Disk + Drop, R: Wait>(
         ≤ (cache_among C.facts B.facts parts.now.run.start).sectors }
     requires fixed { FromEach (world C.facts B.facts seat.old) (IsFixedEntry entry) }
     ensures works { Works C.facts B.facts parts.now seat.new hand.new }
+    ensures left { seat.old.promises ≤ seat.new.promises + 4 }
     ensures hand { HasJournalAndCache hand.new }
     ensures kinds { kinds hand.new ≡ kinds hand.old }
+    ensures rest { hand.new ≡ record hand.old {
+      journal = hand.new.journal;
+      cache = hand.new.cache;
+    } }
     ensures journal { OnOk result ((j : Journal) → hand.old.journal ≡ Some j
         → hand.new.journal ≡ Some (record j {
           durable = numbers_of entry.entry;
+          heads = heads_of entry.entry;
           sealed = None;
         })) }
     ensures newest { OnOk result (FromEach (world C.facts B.facts seat.new)
@@ -65,7 +71,7 @@ pub fn put_sealed<C: Disk + Drop, B: Disk + Drop, R: Wait>(
         Ok(()) => {}
         Err(error) => return Err(error),
     }
-    match write_entry(rt, alloc, parts, seat, hand, &entry) {
+    match write_entry(rt, parts, seat, hand, &entry, room) {
         Ok(()) => {}
         Err(error) => return Err(error),
     }

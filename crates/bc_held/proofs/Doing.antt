@@ -1,9 +1,8 @@
 -- The deeds that take a bucket and let it go, as a seat does them.
-use Rattle.std.proofs.Common.{◌≡◌, ◌≢◌, inl, inr, ℕ, ◌-◌, Bool, true, false, List, [], Option, Some, None, refl, sym, ap, ◌∙◌, subst}
-use Rattle.std.specs.Prelude.{Err, Ok, OnErr, Result, is_some, if◌then◌else◌}
+use Rattle.std.proofs.Common.{◌≡◌, inl, inr, ℕ, ◌-◌, Bool, true, false, List, [], Option, Some, None, refl, sym, ap, ◌∙◌, subst}
+use Rattle.std.specs.Prelude.{Err, Ok, OnErr, OnOk, Result, is_some, if◌then◌else◌}
 use Rattle.bc_alloc.specs.declared.purpose.NoBucket.{NoBucket}
 use Rattle.bc_alloc.specs.Reserves.{serving}
-use Rattle.bc_alloc.specs.declared.purpose.Purpose as list_purpose
 use Rattle.bc_alloc.specs.declared.purpose.Purpose.TheVariants as list
 use Rattle.bc_books.specs.Shelves.{Held, Listed, Purpose, Shelf}
 use Rattle.bc_data.specs.Seats.{Seat, put_seat}
@@ -16,9 +15,10 @@ use Rattle.bc_held.proofs.Keeping.{held_since, keeps_let_go, keeps_then, keeps_w
 use Rattle.bc_held.proofs.LettingGo.{is_taken, let_go_stands, may_go}
 use Rattle.bc_held.proofs.Taking.{holds, may_take, take_stands, was_listed}
 use Rattle.bc_held.specs.Held.{AreOther, IsHeldFor, IsVacantIn, number_in}
-use Rattle.bc_held.specs.Next.{IsNextFor, IsTakenIn, LetsGo, TakesBucket, can_go}
-use Rattle.bc_held.specs.Taken.{HasLetGoOr, HasTakenOr, IsNewBucket, KeepsHeldBut, LetGo, LetGoOr, Took, TookOr, let_go_by, take_by}
+use Rattle.bc_held.specs.Next.{IsNextFor, IsTakenIn, LetsGo, TakesBucket, list_for, takes_back}
+use Rattle.bc_held.specs.Taken.{HasLetGo, HasTakenOr, IsNewBucket, KeepsHeldBut, LetGo, Took, TookOr, let_go_by, take_by}
 use Rattle.bc_held.specs.declared.held.HeldBucket.{HeldBucket}
+use Rattle.bc_held.specs.declared.held.Want.{Want}
 use Rattle.bc_nodes_known.proofs.Law.{law_listed}
 use Rattle.bc_meta.proofs.Lists.{by_test}
 use Rattle.bc_parts.specs.Seat.{Holds, PartsView}
@@ -49,16 +49,16 @@ module _ {C B : Type 0} (cache_facts : C → DiskFacts) (backing_facts : B → D
     (first : FromEach (world cache_facts backing_facts v) (HasBefore before)) (b : HeldBucket) where
   -- ---- a bucket is taken
 
-  module _ (other : b.purpose ≢ list.Plain) (next : IsNextFor b.purpose p b) where
+  module _ (x : Want) (next : IsNextFor x p b) where
     pub may_take_it : MayDo cache_facts backing_facts v (take_by before b)
     may_take_it = may_from cache_facts backing_facts v cached (take_by before b) refl
-        (λ o x since is course running. (
-          subst (λ n. core.IsEnabled o.opening (replay o x.log)
+        (λ o y since is course running. (
+          subst (λ n. core.IsEnabled o.opening (replay o y.log)
               (by v.first (deed.Take b.purpose (b.bucket - n))))
-              (before_since cache_facts backing_facts v before first x since o is course)
-              (may_take o is.sound is.cached x.log course p
-              (buckets_since cache_facts backing_facts v seat holds_buckets p on x since o is course)
-              v.first b other next (few cache_facts backing_facts v seat) running),
+              (before_since cache_facts backing_facts v before first y since o is course)
+              (may_take o is.sound is.cached y.log course p
+              (buckets_since cache_facts backing_facts v seat holds_buckets p on y since o is course)
+              v.first b x next (few cache_facts backing_facts v seat) running),
           tt,
           tt,
         ))
@@ -69,7 +69,7 @@ module _ {C B : Type 0} (cache_facts : C → DiskFacts) (backing_facts : B → D
       stood_before = buckets_since cache_facts backing_facts v seat holds_buckets p on did.is.before
           did.is.since
 
-      module _ (q : BucketsPart) (t : TakesBucket b.purpose b p q) where
+      module _ (q : BucketsPart) (t : TakesBucket x b p q) where
         pub taken_after : AreBuckets q (world cache_facts backing_facts w)
         taken_after = known_committed cache_facts backing_facts v w (take_by before b)
             (λ o st. AreBucketsOf o.opening.machine (books_of st.machine) q) did (λ o is course.
@@ -78,7 +78,7 @@ module _ {C B : Type 0} (cache_facts : C → DiskFacts) (backing_facts : B → D
             (before_since cache_facts backing_facts v before first did.is.before did.is.since o is
             course)
             (take_stands o is.sound is.cached did.is.before.log course p
-            (stood_before o is course) v.first b other next q t))
+            (stood_before o is course) v.first b x next q t))
 
         pub holds_it : FromEach (world cache_facts backing_facts w) (IsHeldFor w.first b)
         holds_it = subst (λ i. FromEach (world cache_facts backing_facts w) (IsHeldFor i b))
@@ -89,15 +89,15 @@ module _ {C B : Type 0} (cache_facts : C → DiskFacts) (backing_facts : B → D
             (before_since cache_facts backing_facts v before first did.is.before did.is.since o is
             course)
             (holds o is.sound is.cached did.is.before.log course p
-            (stood_before o is course) v.first b other next q t)))
+            (stood_before o is course) v.first b x next q t)))
 
         -- no node lay in it
         pub is_vacant : FromEach (world cache_facts backing_facts w) (IsVacantIn b)
         is_vacant = vacant_behind cache_facts backing_facts v w (take_by before b) refl did b
             (λ o is course. law_listed did.is.before o is course (number_in b o)
-            (purpose_of (serving b.purpose p.reserves))
+            (purpose_of (serving (list_for x) p.reserves))
             (was_listed o is.sound is.cached did.is.before.log course p (stood_before o is course)
-            v.first b other next q t))
+            v.first b x next q t))
 
         -- none that the seat held was on a list
         pub is_new_bucket : IsNewBucket cache_facts backing_facts b v w
@@ -105,9 +105,9 @@ module _ {C B : Type 0} (cache_facts : C → DiskFacts) (backing_facts : B → D
             (IsHeldFor v.first a) (AreOther b a) did
             (λ o is course enabled held same. listed_held
             ((books_of (replay o did.is.before.log).machine).shelf (number_in b o))
-            (purpose_of (serving b.purpose p.reserves)) (purpose_of a.purpose) v.first
+            (purpose_of (serving (list_for x) p.reserves)) (purpose_of a.purpose) v.first
             (was_listed o is.sound is.cached did.is.before.log course p (stood_before o is course)
-            v.first b other next q t)
+            v.first b x next q t)
             (ap (books_of (replay o did.is.before.log).machine).shelf same ∙ held.held))
             (held_since cache_facts backing_facts v did.is.before seat did.is.since a h)
 
@@ -117,11 +117,15 @@ module _ {C B : Type 0} (cache_facts : C → DiskFacts) (backing_facts : B → D
       (tree : b.purpose ≡ list.Tree → Holds v.parts 0)
       (vacant : b.purpose ≡ list.Tree → FromEach (world cache_facts backing_facts v) (IsVacantIn b))
     where
-      pub may_let_go_it : MayDo cache_facts backing_facts v (let_go_by before b)
-      may_let_go_it = may_from cache_facts backing_facts v cached (let_go_by before b) refl
+      -- what the deed says of its list
+      abbrev back : Bool
+      back = takes_back b.purpose p.reserves
+
+      pub may_let_go_it : MayDo cache_facts backing_facts v (let_go_by before b back)
+      may_let_go_it = may_from cache_facts backing_facts v cached (let_go_by before b back) refl
           (λ o x since is course running. (
             subst (λ n. core.IsEnabled o.opening (replay o x.log)
-                (by v.first (deed.Unpin (unpin.Hold (b.bucket - n) true))))
+                (by v.first (deed.Unpin (unpin.Hold (b.bucket - n) back))))
                 (before_since cache_facts backing_facts v before first x since o is course)
                 (may_go o is.cached x.log p
                 (buckets_since cache_facts backing_facts v seat holds_buckets p on x since o is course)
@@ -134,94 +138,85 @@ module _ {C B : Type 0} (cache_facts : C → DiskFacts) (backing_facts : B → D
           ))
 
       module _ (w : View cache_facts backing_facts)
-          (did : Did cache_facts backing_facts (Some (let_go_by before b)) v w) (q : BucketsPart)
-          (room : can_go b.purpose p.reserves ≡ true) (goes : IsTakenIn p b.bucket → LetsGo b p q)
-        where
-          pub gone_after : AreBuckets q (world cache_facts backing_facts w)
-          gone_after = known_committed cache_facts backing_facts v w (let_go_by before b)
-              (λ o st. AreBucketsOf o.opening.machine (books_of st.machine) q) did (λ o is course.
-              let stood = buckets_since cache_facts backing_facts v seat holds_buckets p on
-              did.is.before did.is.since o is course in
-              let its = held_since cache_facts backing_facts v did.is.before seat did.is.since b mine o
-              is course in
-              subst (λ n. AreBucketsOf o.opening.machine (books_of (core.after o.opening
-              (replay o did.is.before.log)
-              (by v.first (deed.Unpin (unpin.Hold (b.bucket - n) true)))).machine) q)
-              (before_since cache_facts backing_facts v before first did.is.before did.is.since o is
-              course)
-              (let_go_stands o is.cached did.is.before.log p stood v.first b its q room
-              (goes (is_taken o is.cached did.is.before.log p stood v.first b its))))
+          (did : Did cache_facts backing_facts (Some (let_go_by before b back)) v w)
+          (q : BucketsPart) (goes : IsTakenIn p b.bucket → LetsGo b p q) where
+        pub gone_after : AreBuckets q (world cache_facts backing_facts w)
+        gone_after = known_committed cache_facts backing_facts v w (let_go_by before b back)
+            (λ o st. AreBucketsOf o.opening.machine (books_of st.machine) q) did (λ o is course.
+            let stood = buckets_since cache_facts backing_facts v seat holds_buckets p on
+            did.is.before did.is.since o is course in
+            let its = held_since cache_facts backing_facts v did.is.before seat did.is.since b mine o
+            is course in
+            subst (λ n. AreBucketsOf o.opening.machine (books_of (core.after o.opening
+            (replay o did.is.before.log)
+            (by v.first (deed.Unpin (unpin.Hold (b.bucket - n) back)))).machine) q)
+            (before_since cache_facts backing_facts v before first did.is.before did.is.since o is
+            course)
+            (let_go_stands o is.cached did.is.before.log p stood v.first b its q
+            (goes (is_taken o is.cached did.is.before.log p stood v.first b its))))
 
-          pub goes_there : FromEach (world cache_facts backing_facts w) (λ o st. LetsGo b p q)
-          goes_there = known_committed cache_facts backing_facts v w (let_go_by before b)
-              (λ o st. LetsGo b p q) did (λ o is course.
-              let stood = buckets_since cache_facts backing_facts v seat holds_buckets p on
-              did.is.before did.is.since o is course in
-              goes (is_taken o is.cached did.is.before.log p stood v.first b
-              (held_since cache_facts backing_facts v did.is.before seat did.is.since b mine o is
-              course)))
+        pub goes_there : FromEach (world cache_facts backing_facts w) (λ o st. LetsGo b p q)
+        goes_there = known_committed cache_facts backing_facts v w (let_go_by before b back)
+            (λ o st. LetsGo b p q) did (λ o is course.
+            let stood = buckets_since cache_facts backing_facts v seat holds_buckets p on
+            did.is.before did.is.since o is course in
+            goes (is_taken o is.cached did.is.before.log p stood v.first b
+            (held_since cache_facts backing_facts v did.is.before seat did.is.since b mine o is
+            course)))
 
 -- ---- as the steps do them
 
-same_deed : (b : HeldBucket) (pp : list_purpose.Purpose) (before n : ℕ) → b.purpose ≡ pp
-    → n ≡ b.bucket - before → take_by before b ≡ deed.Take pp n
-same_deed b pp before n its number = ap (λ r. deed.Take r (b.bucket - before)) its
-    ∙ ap (λ q. deed.Take pp q) (sym number)
+same_deed : (b : HeldBucket) (before n : ℕ) → n ≡ b.bucket - before
+    → take_by before b ≡ deed.Take b.purpose n
+same_deed b before n number = ap (λ q. deed.Take b.purpose q) (sym number)
 
 module _ {C B : Type 0} (cache_facts : C → DiskFacts) (backing_facts : B → DiskFacts)
     (v : View cache_facts backing_facts) (seat : IsCoreSeat cache_facts backing_facts v)
     (cached : are_plain cache_facts backing_facts v.run.start ≡ false) (holds_buckets : Holds v.parts 2)
     (p : BucketsPart) (on : AreBuckets p (world cache_facts backing_facts v)) (before : ℕ)
     (first : FromEach (world cache_facts backing_facts v) (HasBefore before)) (b : HeldBucket)
-    (pp : list_purpose.Purpose) (other : pp ≢ list.Plain) (next : IsNextFor pp p b) (n : ℕ)
-    (number : n ≡ b.bucket - before) where
-  own_other : b.purpose ≢ list.Plain
-  own_other is = other (sym next.purpose ∙ is)
-
-  own_next : IsNextFor b.purpose p b
-  own_next = subst (λ r. IsNextFor r p b) (sym next.purpose) next
-
-  pub may_as : MayDo cache_facts backing_facts v (deed.Take pp n)
-  may_as = subst (MayDo cache_facts backing_facts v) (same_deed b pp before n next.purpose number)
-      (may_take_it cache_facts backing_facts v seat cached holds_buckets p on before first b own_other
-      own_next)
+    (x : Want) (next : IsNextFor x p b) (n : ℕ) (number : n ≡ b.bucket - before) where
+  pub may_as : MayDo cache_facts backing_facts v (deed.Take b.purpose n)
+  may_as = subst (MayDo cache_facts backing_facts v) (same_deed b before n number)
+      (may_take_it cache_facts backing_facts v seat cached holds_buckets p on before first b x next)
 
   module _ (w : View cache_facts backing_facts)
-      (did : Did cache_facts backing_facts (Some (deed.Take pp n)) v w) (q : BucketsPart)
-      (t : TakesBucket b.purpose b p q) where
+      (did : Did cache_facts backing_facts (Some (deed.Take b.purpose n)) v w) (q : BucketsPart)
+      (t : TakesBucket x b p q) where
     its_did : Did cache_facts backing_facts (Some (take_by before b)) v w
     its_did = subst (λ d. Did cache_facts backing_facts (Some d) v w)
-        (sym (same_deed b pp before n next.purpose number)) did
+        (sym (same_deed b before n number)) did
 
-    pub took_as : Took cache_facts backing_facts before pp b p q v w
+    pub took_as : Took cache_facts backing_facts before x b p q v w
     took_as = record {
-      takes = subst (λ r. TakesBucket r b p q) next.purpose t;
+      takes = t;
       did = its_did;
       state = its_did.is.before;
       behind = its_did.is.state;
       stood = stood_before cache_facts backing_facts v seat cached holds_buckets p on before first b
-          own_other own_next w its_did;
+          x next w its_did;
     }
 
     pub buckets_as : AreBuckets q (world cache_facts backing_facts w)
     buckets_as = taken_after cache_facts backing_facts v seat cached holds_buckets p on before first b
-        own_other own_next w its_did q t
+        x next w its_did q t
 
     pub holds_as : FromEach (world cache_facts backing_facts w) (IsHeldFor w.first b)
-    holds_as = holds_it cache_facts backing_facts v seat cached holds_buckets p on before first b
-        own_other own_next w its_did q t
+    holds_as = holds_it cache_facts backing_facts v seat cached holds_buckets p on before first b x
+        next w its_did q t
 
     pub vacant_as : FromEach (world cache_facts backing_facts w) (IsVacantIn b)
-    vacant_as = is_vacant cache_facts backing_facts v seat cached holds_buckets p on before first b
-        own_other own_next w its_did q t
+    vacant_as = is_vacant cache_facts backing_facts v seat cached holds_buckets p on before first b x
+        next w its_did q t
 
     pub new_as : IsNewBucket cache_facts backing_facts b v w
-    new_as = is_new_bucket cache_facts backing_facts v seat cached holds_buckets p on before first b
-        own_other own_next w its_did q t
+    new_as = is_new_bucket cache_facts backing_facts v seat cached holds_buckets p on before first b x
+        next w its_did q t
 
-let_go_deed : (b : HeldBucket) (before n : ℕ) → n ≡ b.bucket - before
-    → let_go_by before b ≡ deed.Unpin (unpin.Hold n true)
-let_go_deed b before n number = ap (λ q. deed.Unpin (unpin.Hold q true)) (sym number)
+let_go_deed : (b : HeldBucket) (before n : ℕ) (f g : Bool) → n ≡ b.bucket - before → g ≡ f
+    → let_go_by before b f ≡ deed.Unpin (unpin.Hold n g)
+let_go_deed b before n f g number back = ap (λ q. deed.Unpin (unpin.Hold q f)) (sym number)
+    ∙ ap (λ x. deed.Unpin (unpin.Hold n x)) (sym back)
 
 module _ {C B : Type 0} (cache_facts : C → DiskFacts) (backing_facts : B → DiskFacts)
     (v : View cache_facts backing_facts) (seat : IsCoreSeat cache_facts backing_facts v)
@@ -231,36 +226,46 @@ module _ {C B : Type 0} (cache_facts : C → DiskFacts) (backing_facts : B → D
     (mine : FromEach (world cache_facts backing_facts v) (IsHeldFor v.first b))
     (tree : b.purpose ≡ list.Tree → Holds v.parts 0)
     (vacant : b.purpose ≡ list.Tree → FromEach (world cache_facts backing_facts v) (IsVacantIn b))
-    (n : ℕ) (number : n ≡ b.bucket - before) where
-  pub may_go_as : MayDo cache_facts backing_facts v (deed.Unpin (unpin.Hold n true))
-  may_go_as = subst (MayDo cache_facts backing_facts v) (let_go_deed b before n number)
-      (may_let_go_it cache_facts backing_facts v seat cached holds_buckets p on before first b mine
-      tree vacant)
+    (n : ℕ) (number : n ≡ b.bucket - before) (g : Bool) (says : g ≡ takes_back b.purpose p.reserves)
+  where
+    abbrev flag : Bool
+    flag = takes_back b.purpose p.reserves
 
-  module _ (w : View cache_facts backing_facts)
-      (did : Did cache_facts backing_facts (Some (deed.Unpin (unpin.Hold n true))) v w)
-      (q : BucketsPart) (room : can_go b.purpose p.reserves ≡ true)
-      (goes : IsTakenIn p b.bucket → LetsGo b p q) where
-    pub went_did : Did cache_facts backing_facts (Some (let_go_by before b)) v w
-    went_did = subst (λ d. Did cache_facts backing_facts (Some d) v w)
-        (sym (let_go_deed b before n number)) did
+    pub may_go_as : MayDo cache_facts backing_facts v (deed.Unpin (unpin.Hold n g))
+    may_go_as = subst (MayDo cache_facts backing_facts v) (let_go_deed b before n flag g number says)
+        (may_let_go_it cache_facts backing_facts v seat cached holds_buckets p on before first b mine
+        tree vacant)
 
-    pub went_as : LetGo cache_facts backing_facts before b p q v w
-    went_as = record {
-      room = room;
-      goes = goes_there cache_facts backing_facts v seat cached holds_buckets p on before first b mine
-          tree vacant w went_did q room goes;
-      did = went_did;
-    }
+    module _ (w : View cache_facts backing_facts)
+        (did : Did cache_facts backing_facts (Some (deed.Unpin (unpin.Hold n g))) v w)
+        (q : BucketsPart) (goes : IsTakenIn p b.bucket → LetsGo b p q) where
+      pub went_did : Did cache_facts backing_facts (Some (let_go_by before b flag)) v w
+      went_did = subst (λ d. Did cache_facts backing_facts (Some d) v w)
+          (sym (let_go_deed b before n flag g number says)) did
 
-    pub gone_as : AreBuckets q (world cache_facts backing_facts w)
-    gone_as = gone_after cache_facts backing_facts v seat cached holds_buckets p on before first b mine
-        tree vacant w went_did q room goes
+      pub went_as : LetGo cache_facts backing_facts before b p q v w
+      went_as = record {
+        goes = goes_there cache_facts backing_facts v seat cached holds_buckets p on before first b mine
+            tree vacant w went_did q goes;
+        did = went_did;
+        state = went_did.is.before;
+        behind = went_did.is.state;
+        stood = buckets_since cache_facts backing_facts v seat holds_buckets p on
+            went_did.is.before went_did.is.since;
+      }
 
-    pub keeps_as : KeepsHeldBut cache_facts backing_facts (Some b) v w
-    keeps_as = keeps_let_go cache_facts backing_facts v w before b seat first mine went_did
+      pub gone_as : AreBuckets q (world cache_facts backing_facts w)
+      gone_as = gone_after cache_facts backing_facts v seat cached holds_buckets p on before first b mine
+          tree vacant w went_did q goes
+
+      pub keeps_as : KeepsHeldBut cache_facts backing_facts (Some b) v w
+      keeps_as = keeps_let_go cache_facts backing_facts v w before b flag seat first mine went_did
 
 -- ---- between borrowing the buckets and returning them
+
+pub map_on_ok : {A E P Q : Type 0} (r : Result A E) → (P → Q) → OnOk r P → OnOk r Q
+map_on_ok (Ok a) f h = f h
+map_on_ok (Err e) f h = tt
 
 pub map_on_err : {A E P Q : Type 0} (r : Result A E) → (P → Q) → OnErr r P → OnErr r Q
 map_on_err (Ok a) f h = tt
@@ -281,10 +286,10 @@ module _ {C B : Type 0} (cache_facts : C → DiskFacts) (backing_facts : B → D
       (first : Waited (m cache_facts backing_facts) u v)
       (last : Waited (m cache_facts backing_facts) w x) (seen : x.seen ≡ w.seen)
       (told : x.heard ≡ w.heard) (end : IsCoreSeat cache_facts backing_facts x) where
-    pub took_between : (before : ℕ) (p : list_purpose.Purpose) (r : Result HeldBucket NoBucket)
-        (old new : BucketsPart) → TookOr cache_facts backing_facts before p r old new v w
-        → TookOr cache_facts backing_facts before p r old new u x
-    took_between before p (Ok b) old new h = record {
+    pub took_between : (before : ℕ) (y : Want) (r : Result HeldBucket NoBucket)
+        (old new : BucketsPart) → TookOr cache_facts backing_facts before y r old new v w
+        → TookOr cache_facts backing_facts before y r old new u x
+    took_between before y (Ok b) old new h = record {
       takes = h.takes;
       did = did_between cache_facts backing_facts (Some (take_by before b)) u v w x still first h.did
           last seen told end;
@@ -293,7 +298,7 @@ module _ {C B : Type 0} (cache_facts : C → DiskFacts) (backing_facts : B → D
           ∙ ap (λ i. after h.state (by i (take_by before b))) first.same.first;
       stood = h.stood;
     }
-    took_between before p (Err none) old new h = record {
+    took_between before y (Err none) old new h = record {
       none_is = h.none_is;
       empty = h.empty;
       same = h.same;
@@ -302,40 +307,33 @@ module _ {C B : Type 0} (cache_facts : C → DiskFacts) (backing_facts : B → D
           (sym (seen_alike (m cache_facts backing_facts) w x last.same seen)) h.stood;
     }
 
-    pub taken_between : (before : ℕ) (p : list_purpose.Purpose) (r : Result HeldBucket NoBucket)
-        (old new : BucketsPart) → TookOr cache_facts backing_facts before p r old new v w
-        → HasTakenOr cache_facts backing_facts before p r u x
-    taken_between before p r old new h = record {
+    pub taken_between : (before : ℕ) (y : Want) (r : Result HeldBucket NoBucket)
+        (old new : BucketsPart) → TookOr cache_facts backing_facts before y r old new v w
+        → HasTakenOr cache_facts backing_facts before y r u x
+    taken_between before y r old new h = record {
       old = old;
       new = new;
-      took = took_between before p r old new h;
+      took = took_between before y r old new h;
     }
 
-    pub went_between : (before : ℕ) (b : HeldBucket) (r : Bool) (old new : BucketsPart)
-        → LetGoOr cache_facts backing_facts before b r old new v w
-        → LetGoOr cache_facts backing_facts before b r old new u x
-    went_between before b true old new h = record {
-      room = h.room;
-      goes = subst (λ (y : World). FromEach y (λ o st. LetsGo b old new))
-          (sym (seen_alike (m cache_facts backing_facts) w x last.same seen)) h.goes;
-      did = did_between cache_facts backing_facts (Some (let_go_by before b)) u v w x still first h.did
-          last seen told end;
-    }
-    went_between before b false old new h = record {
-      full = h.full;
-      same = h.same;
-      did = did_between cache_facts backing_facts None u v w x still first h.did last seen told end;
-      stood = subst (AreBuckets old)
-          (sym (seen_alike (m cache_facts backing_facts) w x last.same seen)) h.stood;
-    }
-
-    pub let_go_between : (before : ℕ) (b : HeldBucket) (r : Bool) (old new : BucketsPart)
-        → LetGoOr cache_facts backing_facts before b r old new v w
-        → HasLetGoOr cache_facts backing_facts before b r u x
-    let_go_between before b r old new h = record {
+    pub let_go_between : (before : ℕ) (b : HeldBucket) (old new : BucketsPart)
+        → LetGo cache_facts backing_facts before b old new v w
+        → HasLetGo cache_facts backing_facts before b u x
+    let_go_between before b old new h = record {
       old = old;
       new = new;
-      went = went_between before b r old new h;
+      went = record {
+        goes = subst (λ (y : World). FromEach y (λ o st. LetsGo b old new))
+            (sym (seen_alike (m cache_facts backing_facts) w x last.same seen)) h.goes;
+        did = did_between cache_facts backing_facts
+            (Some (let_go_by before b (takes_back b.purpose old.reserves))) u v w x still first h.did
+            last seen told end;
+        state = h.state;
+        behind = seen_alike (m cache_facts backing_facts) w x last.same seen ∙ h.behind
+            ∙ ap (λ i. after h.state
+            (by i (let_go_by before b (takes_back b.purpose old.reserves)))) first.same.first;
+        stood = h.stood;
+      };
     }
 
     -- what the seat knows of what it holds
@@ -393,14 +391,14 @@ module _ {C B : Type 0} (cache_facts : C → DiskFacts) (backing_facts : B → D
   -- ---- places
 
   -- a bucket that is let go leaves the seat's places alone
-  pub places_held : (v w : View cache_facts backing_facts) (n : ℕ)
+  pub places_held : (v w : View cache_facts backing_facts) (n : ℕ) (back : Bool)
       → IsCoreSeat cache_facts backing_facts v
-      → Did cache_facts backing_facts (Some (deed.Unpin (unpin.Hold n true))) v w
+      → Did cache_facts backing_facts (Some (deed.Unpin (unpin.Hold n back))) v w
       → KeepsPlaces cache_facts backing_facts v w
-  places_held v w n seat did = record {
-    opening = opening_deed cache_facts backing_facts v w (deed.Unpin (unpin.Hold n true)) seat did;
+  places_held v w n back seat did = record {
+    opening = opening_deed cache_facts backing_facts v w (deed.Unpin (unpin.Hold n back)) seat did;
     own = λ p. made_by cache_facts backing_facts (λ i. IsOwn i p) (λ i. IsOwn i p) (own_lasts p) v w
-        (deed.Unpin (unpin.Hold n true)) seat did (λ o st on h. record {
+        (deed.Unpin (unpin.Hold n back)) seat did (λ o st on h. record {
           some = h.some;
           own = h.own;
           bucket = h.bucket;
@@ -408,7 +406,7 @@ module _ {C B : Type 0} (cache_facts : C → DiskFacts) (backing_facts : B → D
           generation = h.generation;
         });
     written = λ known. made_by cache_facts backing_facts (λ i. HasWritten i known)
-        (λ i. HasWritten i known) (written_lasts known) v w (deed.Unpin (unpin.Hold n true)) seat did
+        (λ i. HasWritten i known) (written_lasts known) v w (deed.Unpin (unpin.Hold n back)) seat did
         (λ o st on h t x is. let was = h t x is in record {
           own = was.own;
           placed = ap (λ (s : Seat). s.placed t) (put_own st.machine.whole.flow.seats v.first _)

@@ -1,6 +1,6 @@
 -- What a seat knows of the buckets that it holds goes on, whatever others do, and while it leaves them
 -- alone itself.
-use Rattle.std.proofs.Common.{◌≡◌, ◌≢◌, ℕ, ◌-◌, ◌%◌, true, false, Option, Some, None, refl, sym, ap, ◌∙◌, subst, arith}
+use Rattle.std.proofs.Common.{◌≡◌, ◌≢◌, ℕ, ◌-◌, ◌%◌, Bool, true, false, Option, Some, None, refl, sym, ap, ◌∙◌, subst, arith}
 use Rattle.std.specs.Prelude.{◌==◌, not}
 use Rattle.bc_disk.specs.Disk.{DiskFacts}
 use Rattle.bc_events.specs.Acts.{purpose_of}
@@ -176,7 +176,7 @@ module _ {C B : Type 0} (cache_facts : C → DiskFacts) (backing_facts : B → D
   vacant_behind v w d off did b h = subst (λ (x : World). FromEach x (IsVacantIn b))
       (sym did.is.state) (law_vacant did.is.before (by v.first d) b off h)
 
-  other_deed : (v w : View cache_facts backing_facts) (d : Deed)
+  pub other_deed : (v w : View cache_facts backing_facts) (d : Deed)
       → IsCoreSeat cache_facts backing_facts v → Did cache_facts backing_facts (Some d) v w
       → (a b : HeldBucket) → FromEach (world cache_facts backing_facts v) (AreOther a b)
       → FromEach (world cache_facts backing_facts w) (AreOther a b)
@@ -184,34 +184,41 @@ module _ {C B : Type 0} (cache_facts : C → DiskFacts) (backing_facts : B → D
       (λ i. AreOther a b) (other_lasts a b) v w d seat did (λ o st on h. h)
 
   -- one that leaves all held buckets alone
+  pub held_deed : (v w : View cache_facts backing_facts) (d : Deed)
+      → IsCoreSeat cache_facts backing_facts v → ((q : ℕ) → leaves_held q d ≡ true)
+      → Did cache_facts backing_facts (Some d) v w → (b : HeldBucket)
+      → FromEach (world cache_facts backing_facts v) (IsHeldFor v.first b)
+      → FromEach (world cache_facts backing_facts w) (IsHeldFor w.first b)
+  held_deed v w d seat leaves did b = made_by cache_facts backing_facts (λ i. IsHeldFor i b)
+      (λ i. IsHeldFor i b) (held_lasts b) v w d seat did
+      (λ o st on h. held_event (by v.first d) v.first b o st on (λ same. leaves (number_in b o)) h)
+
   pub keeps_deed : (v w : View cache_facts backing_facts) (d : Deed)
       → IsCoreSeat cache_facts backing_facts v → ((q : ℕ) → leaves_held q d ≡ true)
       → touches_spine d ≡ false → Did cache_facts backing_facts (Some d) v w
       → KeepsHeld cache_facts backing_facts v w
   keeps_deed v w d seat leaves off did = record {
-    held = λ b other. made_by cache_facts backing_facts (λ i. IsHeldFor i b) (λ i. IsHeldFor i b)
-        (held_lasts b) v w d seat did
-        (λ o st on h. held_event (by v.first d) v.first b o st on (λ same. leaves (number_in b o)) h);
+    held = λ b other. held_deed v w d seat leaves did b;
     vacant = vacant_deed v w d off did;
     other = other_deed v w d seat did;
   }
 
   -- the one that lets a bucket go
-  pub keeps_let_go : (v w : View cache_facts backing_facts) (n : ℕ) (a : HeldBucket)
+  pub keeps_let_go : (v w : View cache_facts backing_facts) (n : ℕ) (a : HeldBucket) (back : Bool)
       → IsCoreSeat cache_facts backing_facts v
       → FromEach (world cache_facts backing_facts v) (HasBefore n)
       → FromEach (world cache_facts backing_facts v) (IsHeldFor v.first a)
-      → Did cache_facts backing_facts (Some (let_go_by n a)) v w
+      → Did cache_facts backing_facts (Some (let_go_by n a back)) v w
       → KeepsHeldBut cache_facts backing_facts (Some a) v w
-  keeps_let_go v w n a seat first held did = record {
+  keeps_let_go v w n a back seat first held did = record {
     held = λ b other h. made_by cache_facts backing_facts (LetGoBeside n a b) (λ i. IsHeldFor i b)
-        (beside_lasts n a b) v w (let_go_by n a) seat did
-        (λ o st on both. held_event (by v.first (let_go_by n a)) v.first b o st on
+        (beside_lasts n a b) v w (let_go_by n a back) seat did
+        (λ o st on both. held_event (by v.first (let_go_by n a back)) v.first b o st on
         (λ same. leaves_other (a.bucket - n) (number_in b o)
         (λ e. both.0.1 (sym (number_of n a o both.0.0 both.1.0.lies) ∙ e))) both.1.1)
         (λ o is course. ((first o is course, other o is course), (held o is course, h o is course)));
-    vacant = vacant_deed v w (let_go_by n a) refl did;
-    other = other_deed v w (let_go_by n a) seat did;
+    vacant = vacant_deed v w (let_go_by n a back) refl did;
+    other = other_deed v w (let_go_by n a back) seat did;
   }
 
   -- ---- one behind the other

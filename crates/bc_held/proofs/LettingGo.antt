@@ -11,6 +11,7 @@ use Rattle.bc_alloc.specs.declared.purpose.Purpose.{Purpose}
 use Rattle.bc_alloc.specs.declared.purpose.Purpose.TheVariants as list
 use Rattle.bc_books.specs.After as books
 use Rattle.bc_books.specs.Books.{Books, LetGo}
+use Rattle.bc_books.specs.Chains.{Many}
 use Rattle.bc_books.specs.Shelves.{Held, Listed, Loose, Open, Priorities, Raised, Shelf, put_back}
 use Rattle.bc_books.specs.Shelves as shelf
 use Rattle.bc_bucket.specs.Bucket.{with_held}
@@ -23,13 +24,15 @@ use Rattle.bc_events.specs.declared.event.Event.{Event}
 use Rattle.bc_events.specs.declared.event.UnpinKind.TheVariants as unpin
 use Rattle.bc_fill.specs.Fill.{bucket_numbers}
 use Rattle.bc_fill.specs.declared.fill.Open.{Open as OpenBucket}
-use Rattle.bc_held.proofs.Lists.{put_first, put_others, with_first}
+use Rattle.bc_held.proofs.Lists.{put_first, put_none, put_others, put_room, with_first}
+use Rattle.bc_held.proofs.Many.{many_on, no_room, once_listed}
 use Rattle.bc_held.specs.Held.{IsHeldFor, IsVacantIn, number_in}
-use Rattle.bc_held.specs.Next.{IsTakenIn, LetsGo, can_go, is_among, lists_behind}
+use Rattle.bc_held.specs.Next.{IsTakenIn, LetsGo, is_among, lists_behind, takes_back}
 use Rattle.bc_held.specs.declared.held.HeldBucket.{HeldBucket}
 use Rattle.bc_leaves.specs.Enabled.{IsVacant}
 use Rattle.bc_leaves.proofs.Chains.{put_else, put_there}
 use Rattle.bc_meta.proofs.Lists.{by_test}
+use Rattle.bc_place.proofs.of_bc_machine.Buckets.{chain_stays, mark_stays, round_stays}
 use Rattle.bc_place.specs.bc_hand.Seats.{by}
 use Rattle.bc_place.specs.bc_machine.Containers.{AreBucketsOf, IsBucketFor, is_held, pins_in}
 use Rattle.bc_place.specs.bc_machine.World.{Origin, replay}
@@ -64,23 +67,43 @@ held_tree x i p a b = go p (sym a ∙ b)
 -- ---- where it goes
 
 -- it stands nowhere but on the list for priority sets, if it was taken for them
-goes_open : (i : ℕ) (p : Purpose) → put_back true (Held i (purpose_of p)) ≡ Open → ⊥
-goes_open i list.Priorities e = cc
-goes_open i list.Moving e = cc
-goes_open i list.Tree e = cc
-goes_open i list.Plain e = cc
+goes_open : (f : Bool) (i : ℕ) (p : Purpose) → put_back f (Held i (purpose_of p)) ≡ Open → ⊥
+goes_open true i list.Priorities e = cc
+goes_open false i list.Priorities e = cc
+goes_open f i list.Moving e = cc
+goes_open f i list.Tree e = cc
+goes_open f i list.Plain e = cc
 
-goes_raised : (i : ℕ) (p : Purpose) → put_back true (Held i (purpose_of p)) ≡ Raised → ⊥
-goes_raised i list.Priorities e = cc
-goes_raised i list.Moving e = cc
-goes_raised i list.Tree e = cc
-goes_raised i list.Plain e = cc
+goes_raised : (f : Bool) (i : ℕ) (p : Purpose) → put_back f (Held i (purpose_of p)) ≡ Raised → ⊥
+goes_raised true i list.Priorities e = cc
+goes_raised false i list.Priorities e = cc
+goes_raised f i list.Moving e = cc
+goes_raised f i list.Tree e = cc
+goes_raised f i list.Plain e = cc
 
-goes_unheld : (i : ℕ) (p : Purpose) → is_held (put_back true (Held i (purpose_of p))) ≡ false
-goes_unheld i list.Priorities = refl
-goes_unheld i list.Moving = refl
-goes_unheld i list.Tree = refl
-goes_unheld i list.Plain = refl
+goes_unheld : (f : Bool) (i : ℕ) (p : Purpose)
+    → is_held (put_back f (Held i (purpose_of p))) ≡ false
+goes_unheld true i list.Priorities = refl
+goes_unheld false i list.Priorities = refl
+goes_unheld f i list.Moving = refl
+goes_unheld f i list.Tree = refl
+goes_unheld f i list.Plain = refl
+
+-- one that isn't taken back was taken for priority sets, and their list is full
+not_back : (p : Purpose) (r : Reserves) → takes_back p r ≡ false
+    → (p ≡ list.Priorities) × (has_room (list_of list.Priorities r) ≡ false)
+not_back list.Priorities r full = (refl, full)
+not_back list.Moving r full = absurd (cc)
+not_back list.Tree r full = absurd (cc)
+not_back list.Plain r full = absurd (cc)
+
+-- the list for priority sets has the room that it had
+behind_room : (p : Purpose) (n : ℕ) (r : Reserves)
+    → (list_of list.Priorities (lists_behind p n r)).room ≡ (list_of list.Priorities r).room
+behind_room list.Priorities n r = put_room r n
+behind_room list.Moving n r = refl
+behind_room list.Tree n r = refl
+behind_room list.Plain n r = refl
 
 loose_listed : (p : shelf.Purpose) → Loose ≡ Listed p → ⊥
 loose_listed p e = cc
@@ -145,12 +168,67 @@ module _ (o : Origin) (not_plain : o.opening.machine.flow.plain ≡ false) (es :
   mine_at : k.shelf (n - w.before) ≡ Held i (purpose_of b.purpose)
   mine_at = ap k.shelf number_is ∙ mine.held
 
+  -- ---- the books behind it
+
+  -- whether its list takes it back
+  abbrev back : Bool
+  back = takes_back b.purpose p.reserves
+
+  abbrev then_ : Books
+  then_ = books.after w.flow.books k (LetGo i (n - w.before) back)
+
+  is_now : then_.shelf (n - w.before) ≡ put_back back (Held i (purpose_of b.purpose))
+  is_now = put_there k.shelf (n - w.before) (put_back back (k.shelf (n - w.before)))
+      ∙ ap (put_back back) mine_at
+
+  elsewhere : (j : ℕ) → j ≢ n - w.before → then_.shelf j ≡ k.shelf j
+  elsewhere j ne = put_else k.shelf (n - w.before) (put_back back (k.shelf (n - w.before))) j ne
+
+  -- where it goes, by what it was taken for
+  goes_is : (r : Purpose) (f : Bool) → b.purpose ≡ r → takes_back r p.reserves ≡ f
+      → then_.shelf (n - w.before) ≡ put_back f (Held i (purpose_of r))
+  goes_is r f its is = is_now
+      ∙ ap (λ (x : Purpose). put_back (takes_back x p.reserves) (Held i (purpose_of x))) its
+      ∙ ap (λ g. put_back g (Held i (purpose_of r))) is
+
+  -- one that goes to no list comes to none
+  loose_for : (r : Purpose) (f : Bool) → b.purpose ≡ r → takes_back r p.reserves ≡ f
+      → put_back f (Held i (purpose_of r)) ≡ Loose → (s : Purpose)
+      → then_.shelf (n - w.before) ≡ Listed (purpose_of s) → ⊥
+  loose_for r f its is loose s on = loose_listed (purpose_of s)
+      (sym loose ∙ sym (goes_is r f its is) ∙ on)
+
+  -- a list that it doesn't come to
+  other_list : (r : Purpose) → (then_.shelf (n - w.before) ≡ Listed (purpose_of r) → ⊥)
+      → AreJust w.before (list_of r p.reserves).buckets (λ j. then_.shelf j ≡ Listed (purpose_of r))
+  other_list r never = apart w.before n (list_of r p.reserves).buckets
+      (λ j. k.shelf j ≡ Listed (purpose_of r)) (λ j. then_.shelf j ≡ Listed (purpose_of r)) low
+      (h.places.lists.lists r)
+      (held_listed (k.shelf (n - w.before)) i (purpose_of b.purpose) (purpose_of r) mine_at)
+      (λ j ne is. elsewhere j ne ∙ is) (λ j ne is. sym (elsewhere j ne) ∙ is) never
+
   -- ---- when it may be
 
-  -- it goes back where there is room for it, or to no list
+  -- a list that is full has as many buckets as a chain
+  roomy : (back ≡ true) ⊎ Many w.flow.books.sets (λ c. then_.shelf c ≡ Listed Priorities)
+  roomy = go back refl
+    where
+      go : (f : Bool) → back ≡ f → (back ≡ true)
+          ⊎ Many w.flow.books.sets (λ c. then_.shelf c ≡ Listed Priorities)
+      go true is = inl is
+      go false is =
+          let full = not_back b.purpose p.reserves is in
+          inr (many_on w.flow.books.sets w.before (list_of list.Priorities p.reserves).buckets
+          (λ c. then_.shelf c ≡ Listed Priorities)
+          (other_list list.Priorities
+          (loose_for list.Priorities false full.0 full.1 refl list.Priorities))
+          (once_listed p.reserves p.order)
+          (let long = no_room (list_of list.Priorities p.reserves) full.1 in
+          let same = h.room in omega (arith, long, same)))
+
   pub may_go : i < 320 → (replay o es).machine.whole.flow.halted ≡ false
       → (b.purpose ≡ list.Tree → IsVacantIn b o (replay o es))
-      → core.IsEnabled o.opening (replay o es) (by i (deed.Unpin (unpin.Hold (n - w.before) true)))
+      → core.IsEnabled o.opening (replay o es) (by i (deed.Unpin (unpin.Hold (n - w.before) back)))
   may_go few running vacant = record {
     seat = lt-ltb i 320 few;
     course = (
@@ -167,7 +245,7 @@ module _ (o : Origin) (not_plain : o.opening.machine.flow.plain ≡ false) (es :
           tt,
         );
         asks = (
-          inl refl,
+          roomy,
           λ tree. subst (IsVacant (replay o es).machine.whole.parts) (sym number_is)
               (vacant (held_tree (k.shelf (n - w.before)) i b.purpose mine_at tree)),
         );
@@ -213,20 +291,7 @@ module _ (o : Origin) (not_plain : o.opening.machine.flow.plain ≡ false) (es :
 
   -- ---- what it leaves
 
-  module _ (q : BucketsPart) (room : can_go b.purpose p.reserves ≡ true) (t : LetsGo b p q) where
-    abbrev then_ : Books
-    then_ = books.after w.flow.books k (LetGo i (n - w.before) true)
-
-    abbrev goes_to : Shelf
-    goes_to = put_back true (Held i (purpose_of b.purpose))
-
-    is_now : then_.shelf (n - w.before) ≡ goes_to
-    is_now = put_there k.shelf (n - w.before) (put_back true (k.shelf (n - w.before)))
-        ∙ ap (put_back true) mine_at
-
-    elsewhere : (j : ℕ) → j ≢ n - w.before → then_.shelf j ≡ k.shelf j
-    elsewhere j ne = put_else k.shelf (n - w.before) (put_back true (k.shelf (n - w.before))) j ne
-
+  module _ (q : BucketsPart) (t : LetsGo b p q) where
     record_then : (j : ℕ) → w.before + j < length p.buckets.records
         → (j ≡ n - w.before) ⊎ (j ≢ n - w.before)
         → IsBucketFor (w.flow.books.version j) j (buckets_in then_)
@@ -247,7 +312,7 @@ module _ (o : Origin) (not_plain : o.opening.machine.flow.plain ≡ false) (es :
           last_gc = r.last_gc;
           mark = r.mark;
           pins = r.pins;
-          held = sym (ap is_held (ap then_.shelf e ∙ is_now) ∙ goes_unheld i b.purpose);
+          held = sym (ap is_held (ap then_.shelf e ∙ is_now) ∙ goes_unheld back i b.purpose);
         })
     record_then j within (inr ne) =
         let r = h.records j within in
@@ -265,16 +330,6 @@ module _ (o : Origin) (not_plain : o.opening.machine.flow.plain ≡ false) (es :
           held = r.held ∙ sym (ap is_held (elsewhere j ne));
         })
 
-    -- a list that it doesn't come to
-    other_list : (r : Purpose) → (goes_to ≡ Listed (purpose_of r) → ⊥)
-        → AreJust w.before (list_of r p.reserves).buckets (λ j. then_.shelf j ≡ Listed (purpose_of r))
-    other_list r never = apart w.before n (list_of r p.reserves).buckets
-        (λ j. k.shelf j ≡ Listed (purpose_of r)) (λ j. then_.shelf j ≡ Listed (purpose_of r)) low
-        (h.places.lists.lists r)
-        (held_listed (k.shelf (n - w.before)) i (purpose_of b.purpose) (purpose_of r) mine_at)
-        (λ j ne is. elsewhere j ne ∙ is) (λ j ne is. sym (elsewhere j ne) ∙ is)
-        (λ is. never (sym is_now ∙ is))
-
     raised_then : (r : Reserves) → r.raised ≡ p.reserves.raised
         → AreJust w.before r.raised (λ j. then_.shelf j ≡ Raised)
     raised_then r same = subst (λ ks. AreJust w.before ks (λ j. then_.shelf j ≡ Raised)) (sym same)
@@ -282,31 +337,18 @@ module _ (o : Origin) (not_plain : o.opening.machine.flow.plain ≡ false) (es :
         low h.places.lists.raised
         (held_raised (k.shelf (n - w.before)) i (purpose_of b.purpose) mine_at)
         (λ j ne is. elsewhere j ne ∙ is) (λ j ne is. sym (elsewhere j ne) ∙ is)
-        (λ is. goes_raised i b.purpose (sym is_now ∙ is)))
-
-    -- one that wasn't taken for priority sets comes to none
-    loose_for : (r : Purpose) → b.purpose ≡ r → r ≢ list.Priorities → (s : Purpose)
-        → goes_to ≡ Listed (purpose_of s) → ⊥
-    loose_for r its other s is = go r other
-        (sym (ap (λ (x : Purpose). put_back true (Held i (purpose_of x))) its) ∙ is)
-      where
-        go : (r : Purpose) → r ≢ list.Priorities
-            → put_back true (Held i (purpose_of r)) ≡ Listed (purpose_of s) → ⊥
-        go list.Priorities other e = other refl
-        go list.Moving other e = loose_listed (purpose_of s) e
-        go list.Tree other e = loose_listed (purpose_of s) e
-        go list.Plain other e = loose_listed (purpose_of s) e
-
-    back_other : b.purpose ≡ list.Priorities → (r : Purpose) → r ≢ list.Priorities
-        → (Priorities ≡ purpose_of r → ⊥) → AreJust w.before
-        (list_of r (lists_behind list.Priorities n p.reserves)).buckets
-        (λ j. then_.shelf j ≡ Listed (purpose_of r))
-    back_other its r other apart_ = subst (λ (l : Reserve). AreJust w.before l.buckets
-        (λ j. then_.shelf j ≡ Listed (purpose_of r))) (sym (put_others p.reserves n r other))
-        (other_list r (λ is. apart_ (listed_one (purpose_of r)
-        (sym (ap (λ (x : Purpose). put_back true (Held i (purpose_of x))) its) ∙ is))))
+        (λ is. goes_raised back i b.purpose (sym is_now ∙ is)))
 
     -- where it comes to the list for priority sets
+    back_other : b.purpose ≡ list.Priorities → has_room (list_of list.Priorities p.reserves) ≡ true
+        → (r : Purpose) → r ≢ list.Priorities → (Priorities ≡ purpose_of r → ⊥)
+        → AreJust w.before (list_of r (lists_behind list.Priorities n p.reserves)).buckets
+        (λ j. then_.shelf j ≡ Listed (purpose_of r))
+    back_other its free r other apart_ = subst (λ (l : Reserve). AreJust w.before l.buckets
+        (λ j. then_.shelf j ≡ Listed (purpose_of r))) (sym (put_others p.reserves n r other))
+        (other_list r (λ on. apart_ (listed_one (purpose_of r)
+        (sym (goes_is list.Priorities true its free) ∙ on))))
+
     back_list : b.purpose ≡ list.Priorities → has_room (list_of list.Priorities p.reserves) ≡ true
         → (r : Purpose) → AreJust w.before
         (list_of r (lists_behind list.Priorities n p.reserves)).buckets
@@ -318,28 +360,44 @@ module _ (o : Origin) (not_plain : o.opening.machine.flow.plain ≡ false) (es :
         (λ j. k.shelf j ≡ Listed Priorities) (λ j. then_.shelf j ≡ Listed Priorities) low
         (h.places.lists.lists list.Priorities)
         (λ j ne is. elsewhere j ne ∙ is) (λ j ne is. sym (elsewhere j ne) ∙ is)
-        (is_now ∙ ap (λ (r : Purpose). put_back true (Held i (purpose_of r))) its)
+        (goes_is list.Priorities true its free)
         (held_listed (k.shelf (n - w.before)) i (purpose_of b.purpose) Priorities mine_at))
-    back_list its free list.Moving = back_other its list.Moving (λ e. cc) (λ e. cc)
-    back_list its free list.Tree = back_other its list.Tree (λ e. cc) (λ e. cc)
-    back_list its free list.Plain = back_other its list.Plain (λ e. cc) (λ e. cc)
+    back_list its free list.Moving = back_other its free list.Moving (λ e. cc) (λ e. cc)
+    back_list its free list.Tree = back_other its free list.Tree (λ e. cc) (λ e. cc)
+    back_list its free list.Plain = back_other its free list.Plain (λ e. cc) (λ e. cc)
 
-    lists_for : (r : Purpose) → b.purpose ≡ r → can_go r p.reserves ≡ true
-        → AreListedIn w.before (lists_behind r n p.reserves) then_
-    lists_for list.Priorities its free = record {
-      lists = back_list its free;
+    -- where that has no room
+    full_list : b.purpose ≡ list.Priorities
+        → has_room (list_of list.Priorities p.reserves) ≡ false → (r : Purpose) → AreJust w.before
+        (list_of r (lists_behind list.Priorities n p.reserves)).buckets
+        (λ j. then_.shelf j ≡ Listed (purpose_of r))
+    full_list its full r = subst (λ (l : Reserve). AreJust w.before l.buckets
+        (λ j. then_.shelf j ≡ Listed (purpose_of r))) (sym (put_none p.reserves n full r))
+        (other_list r (loose_for list.Priorities false its full refl r))
+
+    priorities_for : b.purpose ≡ list.Priorities → (f : Bool)
+        → has_room (list_of list.Priorities p.reserves) ≡ f
+        → (r : Purpose) → AreJust w.before
+        (list_of r (lists_behind list.Priorities n p.reserves)).buckets
+        (λ j. then_.shelf j ≡ Listed (purpose_of r))
+    priorities_for its true is = back_list its is
+    priorities_for its false is = full_list its is
+
+    lists_for : (r : Purpose) → b.purpose ≡ r → AreListedIn w.before (lists_behind r n p.reserves) then_
+    lists_for list.Priorities its = record {
+      lists = priorities_for its (has_room (list_of list.Priorities p.reserves)) refl;
       raised = raised_then (lists_behind list.Priorities n p.reserves) refl;
     }
-    lists_for list.Moving its free = record {
-      lists = λ r. other_list r (loose_for list.Moving its (λ e. cc) r);
+    lists_for list.Moving its = record {
+      lists = λ r. other_list r (loose_for list.Moving true its refl refl r);
       raised = raised_then p.reserves refl;
     }
-    lists_for list.Tree its free = record {
-      lists = λ r. other_list r (loose_for list.Tree its (λ e. cc) r);
+    lists_for list.Tree its = record {
+      lists = λ r. other_list r (loose_for list.Tree true its refl refl r);
       raised = raised_then p.reserves refl;
     }
-    lists_for list.Plain its free = record {
-      lists = λ r. other_list r (loose_for list.Plain its (λ e. cc) r);
+    lists_for list.Plain its = record {
+      lists = λ r. other_list r (loose_for list.Plain true its refl refl r);
       raised = raised_then p.reserves refl;
     }
 
@@ -350,12 +408,12 @@ module _ (o : Origin) (not_plain : o.opening.machine.flow.plain ≡ false) (es :
             (λ j. then_.shelf j ≡ Open) low h.places.opens.buckets
             (held_open (k.shelf (n - w.before)) i (purpose_of b.purpose) mine_at)
             (λ j ne is. elsewhere j ne ∙ is) (λ j ne is. sym (elsewhere j ne) ∙ is)
-            (λ is. goes_open i b.purpose (sym is_now ∙ is));
+            (λ is. goes_open back i b.purpose (sym is_now ∙ is));
         free = h.places.opens.free;
         given = h.places.opens.given;
       };
       lists = subst (λ r. AreListedIn w.before r then_) (sym t.reserves)
-          (lists_for b.purpose refl room);
+          (lists_for b.purpose refl);
     }
 
     are_then : AreBucketsOf w then_ q
@@ -374,9 +432,17 @@ module _ (o : Origin) (not_plain : o.opening.machine.flow.plain ≡ false) (es :
           (sym t.buckets)
           (subst (λ (fs : List OpenBucket). StandFor w.before p.buckets.size fs q.reserves then_)
           (sym t.fill) places_then);
+      outside = λ m less. ap (λ (y : Buckets). (bucket_of y m).mark) t.buckets
+          ∙ mark_stays (with_held false) (λ y. refl) n p.buckets m ∙ h.outside m less;
+      room = ap (λ (r : Reserves). (list_of list.Priorities r).room) t.reserves
+          ∙ behind_room b.purpose n p.reserves ∙ h.room;
+      chain = chain_stays w.before w.flow.books.sets k.chains.of k.chains.ready k.chains.sealed p q
+          t.rest h.chain;
+      round = round_stays w.flow.books w.before k.round p q (changed (with_held false) n p.buckets)
+          t.rest t.buckets (same_length (with_held false) n p.buckets) refl h.round;
     }
 
     pub let_go_stands : AreBucketsOf w
         (books_of (core.after o.opening (replay o es)
-        (by i (deed.Unpin (unpin.Hold (n - w.before) true)))).machine) q
+        (by i (deed.Unpin (unpin.Hold (n - w.before) back)))).machine) q
     let_go_stands = are_then

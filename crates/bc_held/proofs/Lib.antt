@@ -3,10 +3,11 @@ mod Rows
 pub mod Keeping
 mod Fresh
 mod Lists
+mod Many
 mod Parting
 mod Taking
 mod LettingGo
-mod Doing
+pub mod Doing
 pub use Rattle.bc_place.proofs.of_bc_deed
 pub use Rattle.bc_place.proofs.of_bc_hand
 pub use Rattle.bc_place.proofs as of_bc_place

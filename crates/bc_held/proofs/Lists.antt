@@ -1,9 +1,9 @@
 -- The lists behind a bucket that is taken, and behind one that goes back to the list for priority
 -- sets.
-use Rattle.std.proofs.Common.{◌≡◌, ◌≢◌, ◌⊎◌, inl, inr, ℕ, ◌+◌, ◌-◌, ◌<◌, ◌≤◌, true, List, [], ◌∷◌, ◌++◌, length, set, refl, sym, ap, ◌∙◌, subst, arith, get_or-set_other, length-set}
+use Rattle.std.proofs.Common.{◌≡◌, ◌≢◌, ◌⊎◌, inl, inr, ℕ, ◌+◌, ◌-◌, ◌<◌, ◌≤◌, Bool, true, false, List, [], ◌∷◌, ◌++◌, length, set, refl, sym, ap, ◌∙◌, subst, arith, get_or-set_other, get_or-set_same, length-set}
 use Rattle.std.specs.Prelude.{slice_index_or, if◌then◌else◌}
-use Rattle.std.proofs.lemmas.Bool.{cases_eq}
-use Rattle.std.proofs.lemmas.List.{map-append}
+use Rattle.std.proofs.lemmas.Bool.{cases_eq, cases_lt}
+use Rattle.std.proofs.lemmas.List.{map-append, set_past}
 use Rattle.bc_alloc.proofs.Times.{short_set, times-append, times_first, times_got}
 use Rattle.bc_alloc.specs.Buckets.{AreFor}
 use Rattle.bc_alloc.specs.Reserve.{Reserve, has_room, no_reserve, prepended, times}
@@ -42,6 +42,32 @@ same_times r q n j s p t ne = go (cases_eq (place_of p) (place_of s))
     go (inr other) = ap (λ (x : Reserves). times j (list_of p x).buckets) t.others
         ∙ ap (λ (l : Reserve). times j l.buckets) (get_or-set_other r.lists (place_of s) (place_of p)
         (record (list_of s r) { buckets = (list_of s q).buckets }) no_reserve other)
+
+-- nor does any list get another room
+abbrev cut_off : Purpose → Reserves → Reserves → Reserve
+cut_off s r q = record (list_of s r) { buckets = (list_of s q).buckets }
+
+pub room_stays : (r q : Reserves) (n : ℕ) (s p : Purpose) → TakesFirst s n r q
+    → (list_of p q).room ≡ (list_of p r).room
+room_stays r q n s p t = go (cases_eq (place_of p) (place_of s))
+  where
+    go : (place_of p ≡ place_of s) ⊎ (place_of p ≢ place_of s)
+        → (list_of p q).room ≡ (list_of p r).room
+    go (inl e) = by_place (cases_lt (place_of s) (length r.lists))
+      where
+        by_place : (place_of s < length r.lists) ⊎ (length r.lists ≤ place_of s)
+            → (list_of p q).room ≡ (list_of p r).room
+        by_place (inl there) = ap (λ (x : Reserves). (list_of p x).room) t.others
+            ∙ ap (λ m. (slice_index_or (set r.lists (place_of s) (cut_off s r q)) m no_reserve).room) e
+            ∙ ap (λ (l : Reserve). l.room)
+            (get_or-set_same r.lists (place_of s) (cut_off s r q) no_reserve there)
+            ∙ ap (λ m. (slice_index_or r.lists m no_reserve).room) (sym e)
+        by_place (inr past) = ap (λ (x : Reserves). (list_of p x).room) t.others
+            ∙ ap (λ (ls : List Reserve). (slice_index_or ls (place_of p) no_reserve).room)
+            (set_past r.lists (place_of s) (cut_off s r q) past)
+    go (inr other) = ap (λ (x : Reserves). (list_of p x).room) t.others
+        ∙ ap (λ (l : Reserve). l.room)
+        (get_or-set_other r.lists (place_of s) (place_of p) (cut_off s r q) no_reserve other)
 
 none_open : (r : Reserves) (b : Buckets) → AreOpen [] r b
 none_open r b = record {
@@ -118,6 +144,33 @@ put_first r n four room = go r.lists four room
         ≡ n ∷ (slice_index_or ls 0 no_reserve).buckets
     go [] four room = absurd (omega (arith, four))
     go (l ∷ ls) four room = ap (λ b. (if b then prepended n l else l).buckets) room
+
+-- or is on none, where that is full
+pub put_none : (r : Reserves) (n : ℕ) → has_room (list_of list.Priorities r) ≡ false
+    → (p : Purpose) → list_of p (record r { lists = put_back n r.lists }) ≡ list_of p r
+put_none r n full p = go r.lists full
+  where
+    go : (ls : List Reserve) → has_room (slice_index_or ls 0 no_reserve) ≡ false
+        → slice_index_or (put_back n ls) (place_of p) no_reserve
+        ≡ slice_index_or ls (place_of p) no_reserve
+    go [] full = refl
+    go (l ∷ ls) full = ap (λ b. slice_index_or ((if b then prepended n l else l) ∷ ls) (place_of p)
+        no_reserve) full
+
+-- the lists have the room that they had
+pub put_room : (r : Reserves) (n : ℕ)
+    → (list_of list.Priorities (record r { lists = put_back n r.lists })).room
+    ≡ (list_of list.Priorities r).room
+put_room r n = go r.lists
+  where
+    one : (b : Bool) (l : Reserve) → (if b then prepended n l else l).room ≡ l.room
+    one true l = refl
+    one false l = refl
+
+    go : (ls : List Reserve) → (slice_index_or (put_back n ls) 0 no_reserve).room
+        ≡ (slice_index_or ls 0 no_reserve).room
+    go [] = refl
+    go (l ∷ ls) = one (has_room l) l
 
 pub put_others : (r : Reserves) (n : ℕ) (p : Purpose) → p ≢ list.Priorities
     → list_of p (record r { lists = put_back n r.lists }) ≡ list_of p r

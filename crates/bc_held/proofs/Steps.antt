@@ -124,7 +124,8 @@ module _ (w : Setup) (i q : ℕ) (p : Purpose) (n : ℕ) (k : Books) (h : Stands
   step_stands (Take j r b) can spares = elsewhere b (taken_to j r) (Take j r b)
       (λ same. elim can [
         | inl e ↦ apart b (Listed Plain) e (held_listed (k.shelf q) i p Plain h.held) same
-        | inr e ↦ apart b (Listed r) e (held_listed (k.shelf q) i p r h.held) same
+        | inr (inl e) ↦ apart b (Listed r) e (held_listed (k.shelf q) i p r h.held) same
+        | inr (inr e) ↦ apart b (Listed Moving) e.1 (held_listed (k.shelf q) i p Moving h.held) same
       ]) refl refl refl refl
   step_stands (Shut b) can spares = elsewhere b Loose (Shut b)
       (apart b Open can (held_open (k.shelf q) i p h.held)) refl refl refl refl

@@ -9,7 +9,7 @@ use Rattle.bc_alloc.specs.declared.purpose.Purpose.TheVariants as list
 use Rattle.bc_books.specs.After as books
 use Rattle.bc_books.specs.Books.{Books, Take}
 use Rattle.bc_books.specs.Enabled.{CanStep}
-use Rattle.bc_books.specs.Shelves.{Held, Listed, Open, Plain, Raised, Shelf, taken_to}
+use Rattle.bc_books.specs.Shelves.{Held, IsFor, Listed, Open, Plain, Raised, Shelf, taken_to}
 use Rattle.bc_books.specs.Shelves as shelf
 use Rattle.bc_bucket.specs.Bucket.{with_held}
 use Rattle.bc_bucket.specs.Buckets.{Buckets, bucket_of, changed}
@@ -21,14 +21,17 @@ use Rattle.bc_events.specs.declared.event.Event.{Event}
 use Rattle.bc_fill.specs.declared.fill.Open as fill
 use Rattle.bc_fill.specs.Fill.{bucket_numbers}
 use Rattle.bc_held.proofs.Fresh.{fresh_listed, unnamed_listed}
-use Rattle.bc_held.proofs.Lists.{its, same_times, serving_is}
+use Rattle.bc_held.proofs.Lists.{its, room_stays, same_times, serving_is}
 use Rattle.bc_held.specs.Held.{IsHeldFor, LiesAt, number_in}
-use Rattle.bc_held.specs.Next.{IsNextFor, TakesBucket}
+use Rattle.bc_held.specs.Next.{IsNextFor, TakesBucket, list_for, purpose_for}
 use Rattle.bc_held.specs.declared.held.HeldBucket.{HeldBucket}
+use Rattle.bc_held.specs.declared.held.Want.{Want}
+use Rattle.bc_held.specs.declared.held.Want.TheVariants as want
 use Rattle.bc_known.specs.Acts as known
 use Rattle.bc_known.specs.Laws.{IsSound}
 use Rattle.bc_leaves.proofs.Chains.{put_else, put_there}
 use Rattle.bc_place.proofs.Parts.{order_course, spread}
+use Rattle.bc_place.proofs.of_bc_machine.Buckets.{chain_stays, mark_stays, round_stays}
 use Rattle.bc_place.specs.bc_hand.Seats.{by}
 use Rattle.bc_place.specs.bc_machine.Containers.{AreBucketsOf, IsBucketFor, is_held, pins_in}
 use Rattle.bc_place.specs.bc_machine.World.{IsCourseOf, Origin, replay}
@@ -70,6 +73,22 @@ not_plain_purpose list.Moving other e = absurd (cc)
 not_plain_purpose list.Tree other e = absurd (cc)
 not_plain_purpose list.Plain other e = other refl
 
+-- ---- what is wanted
+
+not_data : (x : Want) → purpose_for x ≢ list.Plain
+not_data want.Chain e = absurd (cc)
+not_data want.Data e = absurd (cc)
+not_data want.Node e = absurd (cc)
+not_data want.Rewrite e = absurd (cc)
+
+-- a bucket of the list that is asked may be taken so
+asks_own : (x : Want) (y : Shelf) → y ≡ Listed (purpose_of (list_for x))
+    → IsFor (purpose_of (purpose_for x)) y
+asks_own want.Chain y on = inr (inl on)
+asks_own want.Data y on = inr (inl on)
+asks_own want.Node y on = inr (inl on)
+asks_own want.Rewrite y on = inr (inr (refl, on))
+
 -- ---- shelves
 
 listed_open : (x : Shelf) (p : shelf.Purpose) → x ≡ Listed p → x ≡ Open → ⊥
@@ -94,12 +113,15 @@ module _ (o : Origin) (sound : IsSound o.opening.machine o.parts)
     (not_plain : o.opening.machine.flow.plain ≡ false) (es : List Event) (on : IsCourseOf o es)
     (p : BucketsPart)
     (h : AreBucketsOf o.opening.machine (books_of (replay o es).machine) p) (i : ℕ) (b : HeldBucket)
-    (other : b.purpose ≢ list.Plain) (next : IsNextFor b.purpose p b) where
+    (x : Want) (next : IsNextFor x p b) where
   abbrev w : whole.Opening
   w = o.opening.machine
 
   abbrev pp : Purpose
   pp = b.purpose
+
+  other : pp ≢ list.Plain
+  other is = not_data x (sym next.purpose ∙ is)
 
   abbrev k : Books
   k = books_of (replay o es).machine
@@ -109,7 +131,7 @@ module _ (o : Origin) (sound : IsSound o.opening.machine o.parts)
 
   -- the list that serves
   abbrev s : Purpose
-  s = serving pp p.reserves
+  s = serving (list_for x) p.reserves
 
   on_list : 0 < times n (list_of s p.reserves).buckets
   on_list = subst (λ (ks : List ℕ). 0 < times n ks) (sym next.first) (first_in n next.rest)
@@ -122,9 +144,11 @@ module _ (o : Origin) (sound : IsSound o.opening.machine o.parts)
       (h.places.lists.lists s) on_list
 
   can_take : CanStep w.flow.books k (Take i (purpose_of pp) (n - w.before))
-  can_take = elim (serving_is pp p.reserves) [
+  can_take = elim (serving_is (list_for x) p.reserves) [
     | inl e ↦ inl (subst (λ r. k.shelf (n - w.before) ≡ Listed (purpose_of r)) e was)
-    | inr e ↦ inr (subst (λ r. k.shelf (n - w.before) ≡ Listed (purpose_of r)) e was)
+    | inr e ↦ subst (λ r. IsFor (purpose_of r) (k.shelf (n - w.before))) (sym next.purpose)
+        (asks_own x (k.shelf (n - w.before))
+        (subst (λ r. k.shelf (n - w.before) ≡ Listed (purpose_of r)) e was))
   ]
 
   pub may_take : i < 320 → (replay o es).machine.whole.flow.halted ≡ false
@@ -148,7 +172,7 @@ module _ (o : Origin) (sound : IsSound o.opening.machine o.parts)
 
   -- ---- what it leaves
 
-  module _ (q : BucketsPart) (t : TakesBucket pp b p q) where
+  module _ (q : BucketsPart) (t : TakesBucket x b p q) where
     abbrev then_ : Books
     then_ = books.after w.flow.books k (Take i (purpose_of pp) (n - w.before))
 
@@ -249,6 +273,13 @@ module _ (o : Origin) (sound : IsSound o.opening.machine o.parts)
           (sym t.buckets)
           (subst (λ (fs : List fill.Open). StandFor w.before p.buckets.size fs q.reserves then_)
           (sym t.fill) places_then);
+      outside = λ m less. ap (λ (y : Buckets). (bucket_of y m).mark) t.buckets
+          ∙ mark_stays (with_held true) (λ y. refl) n p.buckets m ∙ h.outside m less;
+      room = room_stays p.reserves q.reserves n s list.Priorities t.taken ∙ h.room;
+      chain = chain_stays w.before w.flow.books.sets k.chains.of k.chains.ready k.chains.sealed p q
+          t.rest h.chain;
+      round = round_stays w.flow.books w.before k.round p q (changed (with_held true) n p.buckets)
+          t.rest t.buckets (same_length (with_held true) n p.buckets) refl h.round;
     }
 
     pub take_stands : AreBucketsOf w

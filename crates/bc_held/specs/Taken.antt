@@ -1,14 +1,14 @@
 -- What a step did that takes a bucket, and one that lets it go.
-use Rattle.std.specs.Prelude.{◌≡◌, ℕ, ◌-◌, Bool, true, false, Option, Some, None, Result, Ok, Err}
+use Rattle.std.specs.Prelude.{◌≡◌, ℕ, ◌-◌, Bool, Option, Some, None, Result, Ok, Err}
 use Rattle.bc_alloc.specs.declared.purpose.NoBucket.{NoBucket}
-use Rattle.bc_alloc.specs.declared.purpose.Purpose.{Purpose}
 use Rattle.bc_disk.specs.Disk.{DiskFacts}
 use Rattle.bc_events.specs.declared.event.Deed.{Deed}
 use Rattle.bc_events.specs.declared.event.Deed.TheVariants as deed
 use Rattle.bc_events.specs.declared.event.UnpinKind.TheVariants as unpin
 use Rattle.bc_held.specs.Held.{AreOther, IsHeldFor, IsVacantIn}
-use Rattle.bc_held.specs.Next.{HasNoneFor, LetsGo, TakesBucket, can_go, none_for}
+use Rattle.bc_held.specs.Next.{HasNoneFor, LetsGo, TakesBucket, none_for, takes_back}
 use Rattle.bc_held.specs.declared.held.HeldBucket.{HeldBucket}
+use Rattle.bc_held.specs.declared.held.Want.{Want}
 use Rattle.bc_parts.specs.Seat.{Holds}
 use Rattle.bc_place.specs.bc_hand.Seats.{Did, View, by, world}
 use Rattle.bc_place.specs.bc_machine.World.{AreBuckets, FromEach, World, after}
@@ -18,71 +18,62 @@ use Rattle.bc_place.specs.bc_machine.declared.part.BucketsPart.{BucketsPart}
 abbrev pub take_by : ℕ → HeldBucket → Deed
 take_by before b = deed.Take b.purpose (b.bucket - before)
 
--- the core's flag says nothing of a bucket that goes to no list
-abbrev pub let_go_by : ℕ → HeldBucket → Deed
-let_go_by before b = deed.Unpin (unpin.Hold (b.bucket - before) true)
+abbrev pub let_go_by : ℕ → HeldBucket → Bool → Deed
+let_go_by before b back = deed.Unpin (unpin.Hold (b.bucket - before) back)
 
 module _ {C B : Type 0} (cache_facts : C → DiskFacts) (backing_facts : B → DiskFacts) where
   -- ---- of the part in hand
 
-  -- The seat took this bucket, for this purpose; and the buckets of which it is the first one stood
-  -- for the state in which it was taken.
-  pub record Took (before : ℕ) (p : Purpose) (b : HeldBucket) (old new : BucketsPart)
+  -- The seat took this bucket, for what it wanted it; and the buckets of which it is the first one
+  -- stood for the state in which it was taken.
+  pub record Took (before : ℕ) (x : Want) (b : HeldBucket) (old new : BucketsPart)
       (v w : View cache_facts backing_facts) : Type 0 where
-    pub takes : TakesBucket p b old new
+    pub takes : TakesBucket x b old new
     pub did : Did cache_facts backing_facts (Some (take_by before b)) v w
     pub state : World
     pub behind : world cache_facts backing_facts w ≡ after state (by v.first (take_by before b))
     pub stood : AreBuckets old state
 
   -- There was none, and nothing was done.
-  pub record TookNone (p : Purpose) (none : NoBucket) (old new : BucketsPart)
+  pub record TookNone (x : Want) (none : NoBucket) (old new : BucketsPart)
       (v w : View cache_facts backing_facts) : Type 0 where
-    pub none_is : none ≡ none_for p
-    pub empty : HasNoneFor p old
+    pub none_is : none ≡ none_for x
+    pub empty : HasNoneFor x old
     pub same : new ≡ old
     pub did : Did cache_facts backing_facts None v w
     pub stood : AreBuckets old (world cache_facts backing_facts w)
 
-  abbrev pub TookOr : ℕ → Purpose → Result HeldBucket NoBucket → BucketsPart → BucketsPart
+  abbrev pub TookOr : ℕ → Want → Result HeldBucket NoBucket → BucketsPart → BucketsPart
       → View cache_facts backing_facts → View cache_facts backing_facts → Type 0
-  TookOr before p (Ok b) old new v w = Took before p b old new v w
-  TookOr before p (Err none) old new v w = TookNone p none old new v w
+  TookOr before x (Ok b) old new v w = Took before x b old new v w
+  TookOr before x (Err none) old new v w = TookNone x none old new v w
 
-  -- The seat let it go, which was its own from each opening.
+  -- The seat let it go, which was its own from each opening; and the buckets stood for the state in
+  -- which it was let go. The deed says whether its list takes it back.
   pub record LetGo (before : ℕ) (b : HeldBucket) (old new : BucketsPart)
       (v w : View cache_facts backing_facts) : Type 0 where
-    pub room : can_go b.purpose old.reserves ≡ true
     pub goes : FromEach (world cache_facts backing_facts w) (λ o st. LetsGo b old new)
-    pub did : Did cache_facts backing_facts (Some (let_go_by before b)) v w
-
-  -- The list that it goes back to has no room for it, and nothing was done.
-  pub record StaysHeld (b : HeldBucket) (old new : BucketsPart) (v w : View cache_facts backing_facts) :
-      Type 0 where
-    pub full : can_go b.purpose old.reserves ≡ false
-    pub same : new ≡ old
-    pub did : Did cache_facts backing_facts None v w
-    pub stood : AreBuckets old (world cache_facts backing_facts w)
-
-  abbrev pub LetGoOr : ℕ → HeldBucket → Bool → BucketsPart → BucketsPart
-      → View cache_facts backing_facts → View cache_facts backing_facts → Type 0
-  LetGoOr before b true old new v w = LetGo before b old new v w
-  LetGoOr before b false old new v w = StaysHeld b old new v w
+    pub did : Did cache_facts backing_facts
+        (Some (let_go_by before b (takes_back b.purpose old.reserves))) v w
+    pub state : World
+    pub behind : world cache_facts backing_facts w
+        ≡ after state (by v.first (let_go_by before b (takes_back b.purpose old.reserves)))
+    pub stood : AreBuckets old state
 
   -- ---- of whichever buckets the step had
 
   -- They are in the seat's hand, or in their slot among the parts.
-  pub record HasTakenOr (before : ℕ) (p : Purpose) (r : Result HeldBucket NoBucket)
+  pub record HasTakenOr (before : ℕ) (x : Want) (r : Result HeldBucket NoBucket)
       (v w : View cache_facts backing_facts) : Type 0 where
     pub old : BucketsPart
     pub new : BucketsPart
-    pub took : TookOr before p r old new v w
+    pub took : TookOr before x r old new v w
 
-  pub record HasLetGoOr (before : ℕ) (b : HeldBucket) (r : Bool)
-      (v w : View cache_facts backing_facts) : Type 0 where
+  pub record HasLetGo (before : ℕ) (b : HeldBucket) (v w : View cache_facts backing_facts) :
+      Type 0 where
     pub old : BucketsPart
     pub new : BucketsPart
-    pub went : LetGoOr before b r old new v w
+    pub went : LetGo before b old new v w
 
   -- ---- what the seat knows still
 

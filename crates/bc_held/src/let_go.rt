@@ -1,8 +1,8 @@
 //! The step that lets a bucket go.
-ghost use Rattle.std.specs.Prelude.{◌≡◌, ◌+◌, ◌<◌, ◌≤◌, ◌==◌, true, false, None, Some, is_some, IfOk, IfErr, OnErr};
+ghost use Rattle.std.specs.Prelude.{◌≡◌, ◌+◌, ◌<◌, ◌≤◌, ◌==◌, true, false, None, Some, is_some, IfErr, OnErr, OnOk};
 ghost use Rattle.bc_alloc.specs.declared.purpose.Purpose.TheVariants as list;
 ghost use Rattle.bc_held.specs.Held.{IsHeldFor, IsVacantIn};
-ghost use Rattle.bc_held.specs.Taken.{HasLetGoOr, KeepsHeldBut, LetGoOr};
+ghost use Rattle.bc_held.specs.Taken.{HasLetGo, KeepsHeldBut, LetGo};
 ghost use Rattle.bc_parts.specs.Seat.{Holds};
 ghost use Rattle.bc_place.specs.Place.{HasBefore};
 ghost use Rattle.bc_place.specs.Written.{KeepsPlaces};
@@ -12,7 +12,7 @@ ghost use Rattle.bc_place.specs.bc_machine.World.{FromEach, AreBuckets, are_plai
 ghost use Rattle.bc_seats.specs.Seats.{Kept};
 
 use crate::held::HeldBucket;
-use crate::part::{can_go, put_down};
+use crate::part::{put_down, takes_back};
 use bc_disk::disk::Disk;
 use bc_events::event::{Deed, UnpinKind};
 use bc_place::bc_hand::error::StepError;
@@ -24,13 +24,12 @@ use bc_place::bc_machine::part::BucketsPart;
 use std::sync::Wait;
 
 /// Lets a bucket go that the seat holds and that nothing names. One that was taken for priority sets
-/// is the first of their list then, and another one is on no list: it may be given up and raised
-/// anew. Of one that was taken for the tree the seat has to know that no node lies in it, with the
-/// tree in hand.
+/// is the first of their list then, where that has room; it has as much as a chain has buckets. Any
+/// other one is on no list: it may be given up and raised anew. Of one that was taken for the tree
+/// the seat has to know that no node lies in it, with the tree in hand.
 ///
-/// `false` says that the list for priority sets has no room, so that nothing was done and the bucket
-/// is still the seat's, for the next chain. `Halted` names the device that halted the run, which
-/// keeps it out: then nothing is done, and nobody needs the bucket in this run.
+/// `Halted` names the device that halted the run, which keeps the bucket out: then nothing is done,
+/// and nobody needs it in this run.
 pub fn let_go_bucket<C: Disk + Drop, B: Disk + Drop, R: Wait>(
     rt: &R,
     parts: &CoreParts<C, B>,
@@ -38,7 +37,7 @@ pub fn let_go_bucket<C: Disk + Drop, B: Disk + Drop, R: Wait>(
     hand: &mut Hand<C, B>,
     before: u32,
     bucket: HeldBucket,
-) -> Result<bool, StepError>
+) -> Result<(), StepError>
     requires works { Works C.facts B.facts parts.now seat.old hand.old }
     requires cached { are_plain C.facts B.facts parts.now.run.start ≡ false }
     requires promise { 0 < seat.old.promises }
@@ -51,8 +50,7 @@ pub fn let_go_bucket<C: Disk + Drop, B: Disk + Drop, R: Wait>(
     ensures works { Works C.facts B.facts parts.now seat.new hand.new }
     ensures hand { kinds hand.new ≡ kinds hand.old }
     ensures rest { hand.new ≡ record hand.old { buckets = hand.new.buckets } }
-    ensures ok { IfOk result (λ gone. HasLetGoOr C.facts B.facts before bucket gone
-        seat.old seat.new) }
+    ensures ok { OnOk result (HasLetGo C.facts B.facts before bucket seat.old seat.new) }
     ensures err { OnErr result (Did C.facts B.facts None seat.old seat.new) }
     ensures cause { IfErr result (λ error. IsHalted error seat.new.seen) }
     ensures left { seat.old.promises ≤ seat.new.promises + 1 }
@@ -76,7 +74,7 @@ fn let_go_in<C: Disk, B: Disk, R: Wait>(
     part: &mut BucketsPart,
     before: u32,
     bucket: HeldBucket,
-) -> Result<bool, StepError>
+) -> Result<(), StepError>
     requires run { seat.old.run ≡ parts.now.run }
     requires seat { IsCoreSeat C.facts B.facts seat.old }
     requires cached { are_plain C.facts B.facts parts.now.run.start ≡ false }
@@ -91,7 +89,7 @@ fn let_go_in<C: Disk, B: Disk, R: Wait>(
     ensures seat { IsCoreSeat C.facts B.facts seat.new }
     ensures kept { Kept (core C.facts B.facts) seat.old seat.new (λ k. k == 2) }
     ensures buckets { AreBuckets part.new (world C.facts B.facts seat.new) }
-    ensures ok { IfOk result (λ gone. LetGoOr C.facts B.facts before bucket gone part.old part.new
+    ensures ok { OnOk result (LetGo C.facts B.facts before bucket part.old part.new
         seat.old seat.new) }
     ensures err { OnErr result (Did C.facts B.facts None seat.old seat.new) }
     ensures same { OnErr result (part.new ≡ part.old) }
@@ -100,17 +98,15 @@ fn let_go_in<C: Disk, B: Disk, R: Wait>(
     ensures keeps { KeepsHeldBut C.facts B.facts (Some bucket) seat.old seat.new }
     ensures places { KeepsPlaces C.facts B.facts seat.old seat.new }
 {
-    if !can_go(part, bucket.purpose) {
-        return Ok(false);
-    }
+    let back = takes_back(part, bucket.purpose);
     let number = bucket.bucket.saturating_sub(before);
     let kind = UnpinKind::Hold {
         bucket: number,
-        back: true,
+        back,
     };
     if let Err(device) = commit(rt, parts, seat, Deed::Unpin { kind }) {
         return Err(StepError::Halted(device));
     }
     put_down(part, bucket);
-    Ok(true)
+    Ok(())
 }

@@ -1,24 +1,25 @@
 //! What is done to the buckets in hand.
 ghost use Rattle.std.specs.Prelude.{◌≡◌, ◌↔◌, ◌<◌, ℕ, ◌∷◌, List, IfNone, IfSome, IsTrue, length};
 ghost use Rattle.bc_alloc.specs.Reserves.{list_of};
-ghost use Rattle.bc_held.specs.Next.{HasNoneFor, IsNextFor, IsPlaceOf, IsTakenIn, LetsGo, TakesBucket, can_go, is_among};
+ghost use Rattle.bc_held.specs.Next.{HasNoneFor, IsNextFor, IsPlaceOf, IsTakenIn, LetsGo, TakesBucket, is_among, takes_back};
 
-use crate::held::HeldBucket;
+use crate::held::{HeldBucket, Want};
 use bc_alloc::Purpose;
 use bc_fill::Open;
 use bc_key::Ptr;
 use bc_place::bc_machine::part::BucketsPart;
 
-// The bucket that is taken next for this purpose, if there is one.
-pub(crate) fn next_bucket(part: &BucketsPart, purpose: Purpose) -> Option<HeldBucket>
-    ensures some { IfSome result (λ b. IsNextFor purpose part.now b) }
-    ensures none { IfNone result (HasNoneFor purpose part.now) }
+// The bucket that is taken next for this, if there is one.
+pub(crate) fn next_bucket(part: &BucketsPart, want: Want) -> Option<HeldBucket>
+    ensures some { IfSome result (λ b. IsNextFor want part.now b) }
+    ensures none { IfNone result (HasNoneFor want part.now) }
 {
     if part.reserves.len(Purpose::Plain) > 0 {
-        return Some(first_of(part, Purpose::Plain, purpose));
+        return Some(first_of(part, Purpose::Plain, want.purpose()));
     }
-    if part.reserves.len(purpose) > 0 {
-        return Some(first_of(part, purpose, purpose));
+    let own = want.list();
+    if part.reserves.len(own) > 0 {
+        return Some(first_of(part, own, want.purpose()));
     }
     None
 }
@@ -41,11 +42,11 @@ fn first_of(part: &BucketsPart, list: Purpose, purpose: Purpose) -> HeldBucket
 }
 
 // Takes that bucket from its list, and holds it.
-pub(crate) fn hold_next(part: &mut BucketsPart, next: HeldBucket)
-    requires { IsNextFor next.purpose part.old next }
-    ensures { TakesBucket next.purpose next part.old part.new }
+pub(crate) fn hold_next(part: &mut BucketsPart, want: Want, next: HeldBucket)
+    requires { IsNextFor want part.old next }
+    ensures { TakesBucket want next part.old part.new }
 {
-    let Ok(_) = part.reserves.take(&mut part.buckets, next.purpose) else {
+    let Ok(_) = part.reserves.take(&mut part.buckets, want.list()) else {
         unreachable!()
     };
 }
@@ -63,9 +64,10 @@ fn place_of(part: &BucketsPart, bucket: u32) -> Ptr
     }
 }
 
-// Whether a bucket that was taken for this purpose may be let go.
-pub(crate) fn can_go(part: &BucketsPart, purpose: Purpose) -> bool
-    ensures { result ≡ can_go purpose part.now.reserves }
+// What the deed says of a bucket that was taken for this purpose and is let go: whether its list
+// takes it back.
+pub(crate) fn takes_back(part: &BucketsPart, purpose: Purpose) -> bool
+    ensures { result ≡ takes_back purpose part.now.reserves }
 {
     match purpose {
         Purpose::Priorities => part.reserves.len(purpose) < part.reserves.room(purpose),

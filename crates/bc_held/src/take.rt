@@ -1,6 +1,5 @@
 //! The step that takes a bucket.
-ghost use Rattle.std.specs.Prelude.{◌≡◌, ◌≢◌, ◌+◌, ◌<◌, ◌≤◌, ◌==◌, false, None, Some, IfOk, IfErr, OnErr};
-ghost use Rattle.bc_alloc.specs.declared.purpose.Purpose.TheVariants as list;
+ghost use Rattle.std.specs.Prelude.{◌≡◌, ◌+◌, ◌<◌, ◌≤◌, ◌==◌, false, None, Some, IfOk, IfErr, OnErr};
 ghost use Rattle.bc_held.specs.Held.{IsHeldFor, IsVacantIn};
 ghost use Rattle.bc_held.specs.Taken.{HasTakenOr, IsNewBucket, KeepsHeld, TookOr};
 ghost use Rattle.bc_parts.specs.Seat.{Holds};
@@ -11,9 +10,9 @@ ghost use Rattle.bc_place.specs.bc_hand.Seats.{core, world, kinds, IsCoreSeat, W
 ghost use Rattle.bc_place.specs.bc_machine.World.{FromEach, AreBuckets, are_plain};
 ghost use Rattle.bc_seats.specs.Seats.{Kept};
 
-use crate::held::HeldBucket;
+use crate::held::{HeldBucket, Want};
 use crate::part::{hold_next, next_bucket};
-use bc_alloc::{NoBucket, Purpose};
+use bc_alloc::NoBucket;
 use bc_disk::disk::Disk;
 use bc_events::event::Deed;
 use bc_place::bc_hand::error::StepError;
@@ -24,14 +23,16 @@ use bc_place::bc_machine::machine::{CoreParts, CoreSeat};
 use bc_place::bc_machine::part::BucketsPart;
 use std::sync::Wait;
 
-/// Takes a bucket for priority sets, for what moves, or for the tree: the first one of the plain
-/// list, or where that is empty the first one of the purpose's own. `before` buckets of the device
+/// Takes a bucket for priority sets, for data that moves, or for a node: the first one of the plain
+/// list, or where that is empty the first one of the list that is asked then, which for a node is
+/// the tree's, and for one that is written anew the one for moving. `before` buckets of the device
 /// lie before the journal's.
 ///
 /// From then on the seat holds it: nobody else writes there, raises it or names it. As it was taken,
 /// no node lay in it, and while the seat keeps the tree in hand none comes to lie there.
 ///
-/// An inner `Err` says that both lists are empty, with their lengths; then nothing is done. `Halted`
+/// An inner `Err` says that both lists are empty, with the name of the second one and with their
+/// lengths; then nothing is done. `Halted`
 /// names the device that halted the run; nothing is done then either. Whatever comes, the seat knows
 /// of the places and of the other buckets that it holds what it knew.
 pub fn take_bucket<C: Disk + Drop, B: Disk + Drop, R: Wait>(
@@ -40,18 +41,17 @@ pub fn take_bucket<C: Disk + Drop, B: Disk + Drop, R: Wait>(
     seat: &mut CoreSeat<C, B>,
     hand: &mut Hand<C, B>,
     before: u32,
-    purpose: Purpose,
+    want: Want,
 ) -> Result<Result<HeldBucket, NoBucket>, StepError>
     requires works { Works C.facts B.facts parts.now seat.old hand.old }
     requires cached { are_plain C.facts B.facts parts.now.run.start ≡ false }
     requires promise { 0 < seat.old.promises }
     requires order { hand.old.buckets ≡ None → HasNoneBehindBuckets hand.old }
     requires before { FromEach (world C.facts B.facts seat.old) (HasBefore before) }
-    requires not_data { purpose ≢ list.Plain }
     ensures works { Works C.facts B.facts parts.now seat.new hand.new }
     ensures hand { kinds hand.new ≡ kinds hand.old }
     ensures rest { hand.new ≡ record hand.old { buckets = hand.new.buckets } }
-    ensures ok { IfOk result (λ answer. HasTakenOr C.facts B.facts before purpose answer
+    ensures ok { IfOk result (λ answer. HasTakenOr C.facts B.facts before want answer
         seat.old seat.new) }
     ensures knows { IfOk result (λ answer. IfOk answer (λ b.
         FromEach (world C.facts B.facts seat.new) (IsHeldFor seat.new.first b))) }
@@ -69,7 +69,7 @@ pub fn take_bucket<C: Disk + Drop, B: Disk + Drop, R: Wait>(
         return Err(StepError::Halted(device));
     }
     let (mut buckets, taken) = borrow_buckets(rt, parts, seat, hand);
-    let done = take_in(rt, parts, seat, buckets.get_mut(), before, purpose);
+    let done = take_in(rt, parts, seat, buckets.get_mut(), before, want);
     return_buckets(parts, seat, hand, buckets, taken);
     done
 }
@@ -81,7 +81,7 @@ fn take_in<C: Disk, B: Disk, R: Wait>(
     seat: &mut CoreSeat<C, B>,
     part: &mut BucketsPart,
     before: u32,
-    purpose: Purpose,
+    want: Want,
 ) -> Result<Result<HeldBucket, NoBucket>, StepError>
     requires run { seat.old.run ≡ parts.now.run }
     requires seat { IsCoreSeat C.facts B.facts seat.old }
@@ -90,11 +90,10 @@ fn take_in<C: Disk, B: Disk, R: Wait>(
     requires holds { Holds seat.old.parts 2 }
     requires buckets { AreBuckets part.old (world C.facts B.facts seat.old) }
     requires before { FromEach (world C.facts B.facts seat.old) (HasBefore before) }
-    requires not_data { purpose ≢ list.Plain }
     ensures seat { IsCoreSeat C.facts B.facts seat.new }
     ensures kept { Kept (core C.facts B.facts) seat.old seat.new (λ k. k == 2) }
     ensures buckets { AreBuckets part.new (world C.facts B.facts seat.new) }
-    ensures ok { IfOk result (λ answer. TookOr C.facts B.facts before purpose answer part.old
+    ensures ok { IfOk result (λ answer. TookOr C.facts B.facts before want answer part.old
         part.new seat.old seat.new) }
     ensures knows { IfOk result (λ answer. IfOk answer (λ b.
         FromEach (world C.facts B.facts seat.new) (IsHeldFor seat.new.first b))) }
@@ -109,20 +108,21 @@ fn take_in<C: Disk, B: Disk, R: Wait>(
     ensures keeps { KeepsHeld C.facts B.facts seat.old seat.new }
     ensures places { KeepsPlaces C.facts B.facts seat.old seat.new }
 {
-    let next = match next_bucket(part, purpose) {
+    let next = match next_bucket(part, want) {
         Some(next) => next,
         None => {
             return Ok(Err(NoBucket {
-                purpose,
+                purpose: want.list(),
                 none_len: 0,
                 own_len: 0,
             }));
         }
     };
     let bucket = next.bucket.saturating_sub(before);
+    let purpose = next.purpose;
     if let Err(device) = commit(rt, parts, seat, Deed::Take { purpose, bucket }) {
         return Err(StepError::Halted(device));
     }
-    hold_next(part, next);
+    hold_next(part, want, next);
     Ok(Ok(next))
 }

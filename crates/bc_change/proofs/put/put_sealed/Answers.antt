@@ -1,6 +1,6 @@
 use Rattle.std.proofs.Common.{◌∙◌}
 use Rattle.bc_entry.proofs.Putting.{cache_kinds, cause_barrier, cause_end, cause_write, ended_hand, ended_kinds, has_cache}
-use Rattle.bc_change.proofs.Behind.{all_done, cut_again, cut_end, cut_first, cut_write, has_spine, journal_ended, keeps_any, keeps_barrier, keeps_both, keeps_failed, keeps_lost, keeps_tree, keeps_write, still_journal}
+use Rattle.bc_change.proofs.Behind.{all_done, cache_alone, cache_then, cut_again, cut_end, cut_first, cut_write, has_spine, journal_ended, keeps_any, keeps_barrier, keeps_both, keeps_failed, keeps_lost, keeps_tree, keeps_write, rest_ended, still_journal}
 use Rattle.bc_change.proofs.put.put_sealed.Goals as goal
 
 pub returns-in-Err-clause-err : goal.returns-in-Err-clause-err
@@ -180,3 +180,32 @@ returns-clause-under g c = keeps_both g.C.Disk.facts g.B.Disk.facts c.args.seat.
     ∙ c.cache_barrier.ensures.hand))
     c.requires.tree))
     c.make_durable.ensures.ok c.make_durable.ensures.err)
+
+pub returns-in-Err-clause-rest : goal.returns-in-Err-clause-rest
+returns-in-Err-clause-rest g c = cache_alone c.args.hand.now c.cache_barrier.new.hand
+    c.cache_barrier.ensures.rest
+
+pub returns-in-Err-write_entry-clause-rest : goal.returns-in-Err-write_entry-clause-rest
+returns-in-Err-write_entry-clause-rest g c = cache_alone c.args.hand.now c.write_entry.new.hand
+    (cache_then c.args.hand.now c.cache_barrier.new.hand c.write_entry.new.hand
+    c.cache_barrier.ensures.rest c.write_entry.ensures.rest)
+
+pub returns-in-Err-cache_barrier-clause-rest : goal.returns-in-Err-cache_barrier-clause-rest
+returns-in-Err-cache_barrier-clause-rest g c =
+    cache_alone c.args.hand.now c.cache_barrier-2.new.hand
+    (cache_then c.args.hand.now c.write_entry.new.hand c.cache_barrier-2.new.hand
+    (cache_then c.args.hand.now c.cache_barrier.new.hand c.write_entry.new.hand
+    c.cache_barrier.ensures.rest c.write_entry.ensures.rest) c.cache_barrier-2.ensures.rest)
+
+pub returns-clause-rest : goal.returns-clause-rest
+returns-clause-rest g c =
+    let all = cache_then c.args.hand.now c.write_entry.new.hand c.cache_barrier-2.new.hand
+    (cache_then c.args.hand.now c.cache_barrier.new.hand c.write_entry.new.hand
+    c.cache_barrier.ensures.rest c.write_entry.ensures.rest) c.cache_barrier-2.ensures.rest in
+    rest_ended c.make_durable.result c.args.hand.now c.cache_barrier-2.new.hand
+    c.make_durable.new.hand c.args.entry c.requires.journal.0 all
+    (((still_journal c.write_entry.new.hand c.cache_barrier-2.new.hand
+    c.cache_barrier-2.ensures.rest
+    ∙ still_journal c.cache_barrier.new.hand c.write_entry.new.hand c.write_entry.ensures.rest
+    ∙ still_journal c.args.hand.now c.cache_barrier.new.hand c.cache_barrier.ensures.rest)
+    ∙ c.requires.journal.1)) c.make_durable.ensures.journal c.make_durable.ensures.same

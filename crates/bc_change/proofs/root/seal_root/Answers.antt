@@ -1,4 +1,4 @@
-use Rattle.std.proofs.Common.{refl, sym, ap, ◌∙◌, subst}
+use Rattle.std.proofs.Common.{refl, sym, ap, ◌∙◌, subst, arith}
 use Rattle.bc_entry.specs.bc_hand.Seats.{Works}
 use Rattle.bc_entry.specs.bc_hand.declared.hand.Hand.{Hand}
 use Rattle.bc_entry.proofs.Sealing.{rest_is_entry}
@@ -8,7 +8,7 @@ use Rattle.bc_entry.specs.bc_machine.World.{are_plain}
 use Rattle.bc_entry.specs.bc_machine.declared.part.CorePart.{CorePart}
 use Rattle.bc_journal.specs.Journal.{IsSealed, Journal}
 use Rattle.bc_parts.specs.Seat.{Run}
-use Rattle.bc_change.specs.Root.{IsNext}
+use Rattle.bc_entry.specs.Seal.{IsNext}
 use Rattle.bc_change.proofs.Seated.{changed_held, did_sealing, fixed_behind, has_sealed_root, kept_sealing, may_seal_root_at, same_some, some_of, under_behind, works_sealed}
 use Rattle.bc_change.proofs.root.seal_root.Goals as goal
 
@@ -63,8 +63,8 @@ returns-clause-works g c =
     let is : IsNext may.can.journal c.args.heads.now next = some_of
     (IsNext may.can.journal c.args.heads.now) c.next_in.result next
     c.in-Some-next_in.is (c.next_in.ensures.next may.can.journal may.can.is_journal) in
-    let done = c.seal_in.ensures in
-    let sealed = subst (λ (j : Journal). IsSealed j c.args.heads.now c.seal_in.result done.1)
+    let done = c.seal_next.ensures in
+    let sealed = subst (λ (j : Journal). IsSealed j c.args.heads.now c.seal_next.result done.1)
     (same_some c.args.hand.now.journal done.0 may.can.journal done.2 may.can.is_journal) done.4 in
     subst (λ (x : Hand g.row.C.Denot g.row.B.Denot). Works cf bf c.args.parts.now c.commit.new.seat x)
     (sym done.3) (works_sealed cf bf c.args.parts.now c.args.seat.now c.args.hand.now
@@ -73,8 +73,8 @@ returns-clause-works g c =
     c.args.plan.now c.args.heads.now c.args.root c.args.change may
     (c.tree_in-tree.ensures may.can.spine may.can.is_spine).1
     (c.next_in.ensures.good may.can.journal may.can.is_journal) c.commit.new.seat next.rest
-    c.seal_in.result done.1 sealed
-    (rest_is_entry may.can.journal c.args.heads.now c.seal_in.result done.1 may.can.journal.waiting
+    c.seal_next.result done.1 sealed
+    (rest_is_entry may.can.journal c.args.heads.now c.seal_next.result done.1 may.can.journal.waiting
     next.rest.items sealed is.rest refl)
     (did_sealing cf bf c.args.seat.now c.commit.new.seat may.can.journal next.rest c.args.root
     c.args.change next.last_seq next.bucket is.last_seq is.bucket c.in_default-commit.ensures.ok)
@@ -90,8 +90,8 @@ returns-clause-ok g c =
     let is : IsNext may.can.journal c.args.heads.now next = some_of
     (IsNext may.can.journal c.args.heads.now) c.next_in.result next
     c.in-Some-next_in.is (c.next_in.ensures.next may.can.journal may.can.is_journal) in
-    let done = c.seal_in.ensures in
-    let sealed = subst (λ (j : Journal). IsSealed j c.args.heads.now c.seal_in.result done.1)
+    let done = c.seal_next.ensures in
+    let sealed = subst (λ (j : Journal). IsSealed j c.args.heads.now c.seal_next.result done.1)
     (same_some c.args.hand.now.journal done.0 may.can.journal done.2 may.can.is_journal) done.4 in (
       may.can.journal,
       done.1,
@@ -99,8 +99,8 @@ returns-clause-ok g c =
       done.3,
       sealed,
       has_sealed_root cf bf c.args.seat.now c.commit.new.seat may.can.journal next.rest c.args.root
-          c.args.change c.args.heads.now c.seal_in.result done.1 sealed
-          (rest_is_entry may.can.journal c.args.heads.now c.seal_in.result done.1
+          c.args.change c.args.heads.now c.seal_next.result done.1 sealed
+          (rest_is_entry may.can.journal c.args.heads.now c.seal_next.result done.1
           may.can.journal.waiting next.rest.items sealed is.rest refl)
           (did_sealing cf bf c.args.seat.now c.commit.new.seat may.can.journal next.rest c.args.root
           c.args.change next.last_seq next.bucket is.last_seq is.bucket
@@ -116,8 +116,8 @@ returns-clause-fixed g c =
     let is : IsNext may.can.journal c.args.heads.now next = some_of
     (IsNext may.can.journal c.args.heads.now) c.next_in.result next
     c.in-Some-next_in.is (c.next_in.ensures.next may.can.journal may.can.is_journal) in
-    let done = c.seal_in.ensures in
-    let sealed = subst (λ (j : Journal). IsSealed j c.args.heads.now c.seal_in.result done.1)
+    let done = c.seal_next.ensures in
+    let sealed = subst (λ (j : Journal). IsSealed j c.args.heads.now c.seal_next.result done.1)
     (same_some c.args.hand.now.journal done.0 may.can.journal done.2 may.can.is_journal) done.4 in
     fixed_behind cf bf c.args.parts.now c.args.seat.now c.args.hand.now
     c.requires.works (ap (λ (r : Run (CorePart g.row.C.Denot g.row.B.Denot)).
@@ -125,8 +125,8 @@ returns-clause-fixed g c =
     c.args.plan.now c.args.heads.now c.args.root c.args.change may
     (c.tree_in-tree.ensures may.can.spine may.can.is_spine).1
     (c.next_in.ensures.good may.can.journal may.can.is_journal) c.commit.new.seat next.rest
-    c.seal_in.result done.1 sealed
-    (rest_is_entry may.can.journal c.args.heads.now c.seal_in.result done.1 may.can.journal.waiting
+    c.seal_next.result done.1 sealed
+    (rest_is_entry may.can.journal c.args.heads.now c.seal_next.result done.1 may.can.journal.waiting
     next.rest.items sealed is.rest refl)
     (did_sealing cf bf c.args.seat.now c.commit.new.seat may.can.journal next.rest c.args.root
     c.args.change next.last_seq next.bucket is.last_seq is.bucket c.in_default-commit.ensures.ok)
@@ -140,8 +140,8 @@ returns-clause-under g c =
     let is : IsNext may.can.journal c.args.heads.now next = some_of
     (IsNext may.can.journal c.args.heads.now) c.next_in.result next
     c.in-Some-next_in.is (c.next_in.ensures.next may.can.journal may.can.is_journal) in
-    let done = c.seal_in.ensures in
-    let sealed = subst (λ (j : Journal). IsSealed j c.args.heads.now c.seal_in.result done.1)
+    let done = c.seal_next.ensures in
+    let sealed = subst (λ (j : Journal). IsSealed j c.args.heads.now c.seal_next.result done.1)
     (same_some c.args.hand.now.journal done.0 may.can.journal done.2 may.can.is_journal) done.4 in
     under_behind cf bf c.args.parts.now c.args.seat.now c.args.hand.now
     c.requires.works (ap (λ (r : Run (CorePart g.row.C.Denot g.row.B.Denot)).
@@ -149,8 +149,16 @@ returns-clause-under g c =
     c.args.plan.now c.args.heads.now c.args.root c.args.change may
     (c.tree_in-tree.ensures may.can.spine may.can.is_spine).1
     (c.next_in.ensures.good may.can.journal may.can.is_journal) c.commit.new.seat next.rest
-    c.seal_in.result done.1 sealed
-    (rest_is_entry may.can.journal c.args.heads.now c.seal_in.result done.1 may.can.journal.waiting
+    c.seal_next.result done.1 sealed
+    (rest_is_entry may.can.journal c.args.heads.now c.seal_next.result done.1 may.can.journal.waiting
     next.rest.items sealed is.rest refl)
     (did_sealing cf bf c.args.seat.now c.commit.new.seat may.can.journal next.rest c.args.root
     c.args.change next.last_seq next.bucket is.last_seq is.bucket c.in_default-commit.ensures.ok)
+
+pub returns-in-Err-clause-left : goal.returns-in-Err-clause-left
+returns-in-Err-clause-left g c = let none = c.in-Err.ensures.err.is.promises in omega (arith, none)
+
+pub returns-clause-left : goal.returns-clause-left
+returns-clause-left g c =
+    let used = c.in_default-commit.ensures.ok.is.promises in
+    omega (arith, used)

@@ -1,9 +1,9 @@
 use Rattle.std.proofs.Common.{None}
-use Rattle.bc_held.proofs.Doing.{holds_spine, kept_between, kept_parts, map_on_err, let_go_between}
+use Rattle.bc_held.proofs.Doing.{holds_spine, kept_between, kept_parts, let_go_between, map_on_err, map_on_ok}
 use Rattle.bc_held.proofs.Keeping.{held_borrowed, vacant_since}
 use Rattle.bc_place.proofs.Knowing.{before_since}
 use Rattle.bc_place.proofs.Storing.{kept_between as places_between}
-use Rattle.bc_place.proofs.of_bc_deed.May.{did_nothing, map_if_ok, other_number}
+use Rattle.bc_place.proofs.of_bc_deed.May.{did_nothing, other_number}
 use Rattle.bc_place.proofs.of_bc_hand.Between.{did_between}
 use Rattle.bc_place.proofs.of_bc_hand.Lends.{works_buckets}
 use Rattle.bc_place.specs.bc_hand.Seats.{world}
@@ -27,12 +27,12 @@ return_buckets-requires g c = works_buckets g.C.Disk.facts g.B.Disk.facts c.args
     c.let_go_in-done.ensures.buckets
 
 pub returns-clause-ok : goal.returns-clause-ok
-returns-clause-ok g c = map_if_ok c.let_go_in-done.result (λ answer h.
-    let_go_between g.C.Disk.facts g.B.Disk.facts c.args.seat.now
-    c.borrow_buckets-buckets.new.seat c.let_go_in-done.new.seat c.return_buckets.new.seat
-    c.borrow_buckets-buckets.ensures.still c.borrow_buckets-buckets.ensures.waited
-    c.return_buckets.ensures.waited c.return_buckets.ensures.seen c.return_buckets.ensures.heard
-    c.return_buckets.ensures.works.seat c.args.before c.args.bucket answer _ _ h)
+returns-clause-ok g c = map_on_ok c.let_go_in-done.result (let_go_between g.C.Disk.facts
+    g.B.Disk.facts c.args.seat.now c.borrow_buckets-buckets.new.seat c.let_go_in-done.new.seat
+    c.return_buckets.new.seat c.borrow_buckets-buckets.ensures.still
+    c.borrow_buckets-buckets.ensures.waited c.return_buckets.ensures.waited
+    c.return_buckets.ensures.seen c.return_buckets.ensures.heard
+    c.return_buckets.ensures.works.seat c.args.before c.args.bucket _ _)
     c.let_go_in-done.ensures.ok
 
 pub returns-clause-keeps : goal.returns-clause-keeps

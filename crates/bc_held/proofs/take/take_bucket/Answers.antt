@@ -32,7 +32,7 @@ returns-clause-ok g c = map_if_ok c.take_in-done.result (λ answer h.
     c.borrow_buckets-buckets.new.seat c.take_in-done.new.seat c.return_buckets.new.seat
     c.borrow_buckets-buckets.ensures.still c.borrow_buckets-buckets.ensures.waited
     c.return_buckets.ensures.waited c.return_buckets.ensures.seen c.return_buckets.ensures.heard
-    c.return_buckets.ensures.works.seat c.args.before c.args.purpose answer _ _ h)
+    c.return_buckets.ensures.works.seat c.args.before c.args.want answer _ _ h)
     c.take_in-done.ensures.ok
 
 pub returns-clause-knows : goal.returns-clause-knows

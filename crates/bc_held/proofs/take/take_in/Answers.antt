@@ -1,4 +1,5 @@
-use Rattle.std.proofs.Common.{refl}
+use Rattle.std.proofs.Common.{refl, ap}
+use Rattle.bc_alloc.specs.declared.purpose.Purpose.{Purpose}
 use Rattle.bc_events.specs.declared.event.Deed.TheVariants as deed
 use Rattle.bc_held.proofs.Doing.{buckets_as, holds_as, may_as, new_as, took_as, vacant_as}
 use Rattle.bc_held.proofs.Keeping.{keeps_deed, keeps_waited}
@@ -11,7 +12,8 @@ use Rattle.bc_held.proofs.take.take_in.Goals as goal
 
 pub returns-in-None-clause-ok : goal.returns-in-None-clause-ok
 returns-in-None-clause-ok g c = record {
-  none_is = refl;
+  none_is = ap (λ (p : Purpose). record { purpose = p; none_len = 0; own_len = 0 })
+      c.list.ensures;
   empty = c.in-None.ensures.none;
   same = refl;
   did = did_nothing g.C.Disk.facts g.B.Disk.facts c.args.seat.now c.requires.seat;
@@ -22,7 +24,7 @@ pub commit-requires-clause-may : goal.commit-requires-clause-may
 commit-requires-clause-may g c = may_as g.C.Disk.facts g.B.Disk.facts c.args.seat.now c.requires.seat
     (cached_by g.C.Disk.facts g.B.Disk.facts c.args.parts.now c.args.seat.now c.requires.run
     c.requires.cached) c.requires.holds c.args.part.now c.requires.buckets c.args.before
-    c.requires.before c.in-Some.next c.args.purpose c.requires.not_data c.in-Some.ensures.some
+    c.requires.before c.in-Some.next c.args.want c.in-Some.ensures.some
     c.saturating_sub-bucket.result c.saturating_sub-bucket.ensures
 
 pub returns-in-Err-clause-buckets : goal.returns-in-Err-clause-buckets
@@ -42,7 +44,7 @@ pub returns-clause-buckets : goal.returns-clause-buckets
 returns-clause-buckets g c = buckets_as g.C.Disk.facts g.B.Disk.facts c.args.seat.now c.requires.seat
     (cached_by g.C.Disk.facts g.B.Disk.facts c.args.parts.now c.args.seat.now c.requires.run
     c.requires.cached) c.requires.holds c.args.part.now c.requires.buckets c.args.before
-    c.requires.before c.in-Some.next c.args.purpose c.requires.not_data c.in-Some.ensures.some
+    c.requires.before c.in-Some.next c.args.want c.in-Some.ensures.some
     c.saturating_sub-bucket.result c.saturating_sub-bucket.ensures c.commit.new.seat
     c.in_default.ensures.ok c.hold_next.new.part c.hold_next.ensures
 
@@ -50,7 +52,7 @@ pub returns-clause-ok : goal.returns-clause-ok
 returns-clause-ok g c = took_as g.C.Disk.facts g.B.Disk.facts c.args.seat.now c.requires.seat
     (cached_by g.C.Disk.facts g.B.Disk.facts c.args.parts.now c.args.seat.now c.requires.run
     c.requires.cached) c.requires.holds c.args.part.now c.requires.buckets c.args.before
-    c.requires.before c.in-Some.next c.args.purpose c.requires.not_data c.in-Some.ensures.some
+    c.requires.before c.in-Some.next c.args.want c.in-Some.ensures.some
     c.saturating_sub-bucket.result c.saturating_sub-bucket.ensures c.commit.new.seat
     c.in_default.ensures.ok c.hold_next.new.part c.hold_next.ensures
 
@@ -58,7 +60,7 @@ pub returns-clause-knows : goal.returns-clause-knows
 returns-clause-knows g c = holds_as g.C.Disk.facts g.B.Disk.facts c.args.seat.now c.requires.seat
     (cached_by g.C.Disk.facts g.B.Disk.facts c.args.parts.now c.args.seat.now c.requires.run
     c.requires.cached) c.requires.holds c.args.part.now c.requires.buckets c.args.before
-    c.requires.before c.in-Some.next c.args.purpose c.requires.not_data c.in-Some.ensures.some
+    c.requires.before c.in-Some.next c.args.want c.in-Some.ensures.some
     c.saturating_sub-bucket.result c.saturating_sub-bucket.ensures c.commit.new.seat
     c.in_default.ensures.ok c.hold_next.new.part c.hold_next.ensures
 
@@ -66,7 +68,7 @@ pub returns-clause-vacant : goal.returns-clause-vacant
 returns-clause-vacant g c = vacant_as g.C.Disk.facts g.B.Disk.facts c.args.seat.now c.requires.seat
     (cached_by g.C.Disk.facts g.B.Disk.facts c.args.parts.now c.args.seat.now c.requires.run
     c.requires.cached) c.requires.holds c.args.part.now c.requires.buckets c.args.before
-    c.requires.before c.in-Some.next c.args.purpose c.requires.not_data c.in-Some.ensures.some
+    c.requires.before c.in-Some.next c.args.want c.in-Some.ensures.some
     c.saturating_sub-bucket.result c.saturating_sub-bucket.ensures c.commit.new.seat
     c.in_default.ensures.ok c.hold_next.new.part c.hold_next.ensures
 
@@ -74,16 +76,16 @@ pub returns-clause-other : goal.returns-clause-other
 returns-clause-other g c = new_as g.C.Disk.facts g.B.Disk.facts c.args.seat.now c.requires.seat
     (cached_by g.C.Disk.facts g.B.Disk.facts c.args.parts.now c.args.seat.now c.requires.run
     c.requires.cached) c.requires.holds c.args.part.now c.requires.buckets c.args.before
-    c.requires.before c.in-Some.next c.args.purpose c.requires.not_data c.in-Some.ensures.some
+    c.requires.before c.in-Some.next c.args.want c.in-Some.ensures.some
     c.saturating_sub-bucket.result c.saturating_sub-bucket.ensures c.commit.new.seat
     c.in_default.ensures.ok c.hold_next.new.part c.hold_next.ensures
 
 pub returns-clause-keeps : goal.returns-clause-keeps
 returns-clause-keeps g c = keeps_deed g.C.Disk.facts g.B.Disk.facts c.args.seat.now
-    c.commit.new.seat (deed.Take c.args.purpose c.saturating_sub-bucket.result) c.requires.seat
+    c.commit.new.seat (deed.Take c.in-Some.next.purpose c.saturating_sub-bucket.result) c.requires.seat
     (λ q. refl) refl c.in_default.ensures.ok
 
 pub returns-clause-places : goal.returns-clause-places
 returns-clause-places g c = places_deed g.C.Disk.facts g.B.Disk.facts c.args.seat.now
-    c.commit.new.seat (deed.Take c.args.purpose c.saturating_sub-bucket.result) c.requires.seat refl
+    c.commit.new.seat (deed.Take c.in-Some.next.purpose c.saturating_sub-bucket.result) c.requires.seat refl
     c.in_default.ensures.ok

@@ -1,0 +1,17 @@
+mod Opened
+mod Touching
+mod Brought
+mod Rooted
+mod Moved
+mod Tree
+mod Cached
+mod Numbered
+mod Listed
+mod Each
+mod Sides
+mod Out
+mod Coming
+mod Placed
+mod Ended
+mod Bucketed
+mod Installing

@@ -1,0 +1,10 @@
+use Rattle.std.proofs.Common.{drop}
+use Rattle.bc_change.specs.bc_machine.declared.part.BucketsPart.{BucketsPart}
+use Rattle.bc_install.specs.Buckets.{HaveMade}
+use Rattle.bc_install.proofs.buckets.make_nodes.Given as goal
+
+-- what was made of the rest is made of all
+abbrev pub invariant-loop-bucket : goal.invariant-loop-bucket
+invariant-loop-bucket l = (q : BucketsPart)
+    → HaveMade l.first (drop l.bucket-index l.buckets) l.part q
+    → HaveMade l.first l.buckets l.initial.part q

@@ -1,0 +1,20 @@
+use Rattle.std.proofs.Common.{sym, ap, subst, arith}
+use Rattle.bc_alloc.specs.Buckets.{AreFor}
+use Rattle.bc_bucket.specs.Buckets.{Buckets}
+use Rattle.bc_fill.specs.Fill.{AreOpen}
+use Rattle.bc_install.proofs.Brought.{unmade_fit, unmade_open}
+use Rattle.bc_install.proofs.Opened.{are_open}
+use Rattle.bc_install.proofs.buckets.unmake_node.Goals as goal
+
+pub invariant_of-part : goal.invariant_of-part
+invariant_of-part c =
+    let p = c.args.part.now in
+    let is = c.mark.ensures in record {
+      order = p.order;
+      fit = subst (λ (b : Buckets). AreFor p.reserves b) (sym is)
+          (unmade_fit p.fill p.reserves p.buckets c.args.bucket p.fit);
+      «open» = ∣ subst (λ (b : Buckets). AreOpen p.fill p.reserves b) (sym is)
+          (unmade_open p.fill p.reserves p.buckets c.args.bucket (are_open p)) ∣₁;
+      sized = let sized = p.sized in
+          let same = ap (λ (b : Buckets). b.size) is in omega (arith, sized, same);
+    }
