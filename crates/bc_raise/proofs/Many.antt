@@ -3,10 +3,9 @@ use Rattle.std.proofs.Common.{◌≡◌, ℕ, ◌+◌, ◌-◌, ◌<◌, ◌≤�
 use Rattle.std.proofs.lemmas.List.{append-nil, append_assoc, drop_more, take_all, take_more}
 use Rattle.std.proofs.lemmas.List.Sums.{fold_more}
 use Rattle.bc_alloc.proofs.OneByOne.{one_by_one}
-use Rattle.bc_alloc.proofs.Times.{times-cons, times_same}
 use Rattle.bc_alloc.specs.Buckets.{all_changed}
 use Rattle.bc_alloc.specs.Reserves.{Reserves}
-use Rattle.bc_alloc.specs.Victims.{AreVictims}
+use Rattle.bc_alloc.specs.Victims.{AreVictims, IsCandidate}
 use Rattle.bc_bucket.specs.Bucket.{raised}
 use Rattle.bc_bucket.specs.Buckets.{Buckets, changed}
 use Rattle.bc_disk.specs.Disk.{DiskFacts}
@@ -16,30 +15,34 @@ use Rattle.bc_place.proofs.of_bc_deed.Sequence.{done_then}
 use Rattle.bc_place.proofs.of_bc_hand.Knowing.{View}
 use Rattle.bc_place.specs.bc_deed.Flushed.{HasDone}
 use Rattle.bc_place.specs.bc_hand.Seats.{Did}
+use Rattle.bc_place.specs.bc_machine.Containers.{SameRest}
 use Rattle.bc_place.specs.bc_machine.declared.part.BucketsPart.{BucketsPart}
 use Rattle.bc_place.specs.bc_hand.declared.hand.Hand.{Hand}
 use Rattle.bc_raise.specs.Raise.{HasRaisedIn, HasRaisedSome, raises}
-use Rattle.bc_renew.specs.Raised.{AreRaisable, HasRaised, MayRaise}
+use Rattle.bc_renew.specs.Raised.{HasRaised}
 use Rattle.bc_raise.proofs.InHand.{same_some}
 
 -- the first of them may be raised
-pub first_may : (before : ℕ) (p : BucketsPart) (n : ℕ) (ns : List ℕ)
-    → AreRaisable before p (n ∷ ns) → MayRaise before p n
-first_may before p n ns are = record {
-  low = are.low n (let more = times-cons n n ns in let one = times_same n in
-      omega (arith, more, one));
-  candidate = are.victims.chosen 0 (omega arith);
-}
+pub first_may : (p : BucketsPart) (n : ℕ) (ns : List ℕ) → AreVictims p.reserves p.buckets (n ∷ ns)
+    → IsCandidate p.reserves p.buckets n
+first_may p n ns are = are.chosen 0 (omega arith)
 
 -- and the others are the victims then
-pub others_may : (before : ℕ) (p q : BucketsPart) (n : ℕ) (ns : List ℕ)
-    → AreRaisable before p (n ∷ ns) → HasRaised p (n ∷ []) q → AreRaisable before q ns
-others_may before p q n ns are f = record {
-  low = λ j some. are.low j (let more = times-cons j n ns in omega (arith, some, more));
-  victims = subst (λ (r : Reserves). AreVictims r q.buckets ns) (sym f.reserves)
-      (subst (λ (b : Buckets). AreVictims
-      (record p.reserves { raised = p.reserves.raised ++ n ∷ [] }) b ns) (sym f.buckets)
-      (one_by_one p.reserves p.buckets n ns are.victims));
+pub others_may : (p q : BucketsPart) (n : ℕ) (ns : List ℕ)
+    → AreVictims p.reserves p.buckets (n ∷ ns) → HasRaised p (n ∷ []) q
+    → AreVictims q.reserves q.buckets ns
+others_may p q n ns are f = subst (λ (r : Reserves). AreVictims r q.buckets ns) (sym f.reserves)
+    (subst (λ (b : Buckets). AreVictims
+    (record p.reserves { raised = p.reserves.raised ++ n ∷ [] }) b ns) (sym f.buckets)
+    (one_by_one p.reserves p.buckets n ns are))
+
+-- what else is in hand stays
+pub rest_then : (p q r : BucketsPart) → SameRest p q → SameRest q r → SameRest p r
+rest_then p q r a b = record {
+  chain = b.chain ∙ a.chain;
+  renewing = b.renewing ∙ a.renewing;
+  round = b.round ∙ a.round;
+  served = b.served ∙ a.served;
 }
 
 -- one more
@@ -56,6 +59,7 @@ raised_more p q r ns i n below is a b = record {
       ∙ ap (λ j. changed raised j (all_changed raised (take i ns) p.buckets)) is
       ∙ sym (fold_more (λ (d : Buckets) k. changed raised k d) p.buckets ns i 0 below);
   fill = b.fill ∙ a.fill;
+  rest = rest_then p q r a.rest b.rest;
 }
   where
     more : take (i + 1) ns ≡ take i ns ++ n ∷ []
@@ -77,14 +81,14 @@ raises_more before ns i n below is =
 -- ---- the loop
 
 -- the first so many are raised, and the others may be
-abbrev pub AreRaisedTo : {C B : Type 0} → ℕ → List ℕ → ℕ → Hand C B → Hand C B → Type 0
-AreRaisedTo before ns i h g = (p q : BucketsPart) × (h.buckets ≡ Some p)
+abbrev pub AreRaisedTo : {C B : Type 0} → List ℕ → ℕ → Hand C B → Hand C B → Type 0
+AreRaisedTo ns i h g = (p q : BucketsPart) × (h.buckets ≡ Some p)
     × (g ≡ record h { buckets = Some q }) × HasRaised p (take i ns) q
-    × AreRaisable before q (drop i ns)
+    × AreVictims q.reserves q.buckets (drop i ns)
 
-pub raised_none : {C B : Type 0} (before : ℕ) (ns : List ℕ) (h : Hand C B) (p : BucketsPart)
-    → h.buckets ≡ Some p → AreRaisable before p ns → AreRaisedTo before ns 0 h h
-raised_none before ns h p is are = (
+pub raised_none : {C B : Type 0} (ns : List ℕ) (h : Hand C B) (p : BucketsPart)
+    → h.buckets ≡ Some p → AreVictims p.reserves p.buckets ns → AreRaisedTo ns 0 h h
+raised_none ns h p is are = (
   p,
   p,
   is,
@@ -94,26 +98,27 @@ raised_none before ns h p is are = (
         (sym (append-nil p.reserves.raised));
     buckets = refl;
     fill = refl;
+    rest = record { chain = refl; renewing = refl; round = refl; served = refl };
   },
   are,
 )
 
 -- the one that is next
-pub next_may : {C B : Type 0} (before : ℕ) (ns : List ℕ) (i n : ℕ) (h g : Hand C B)
-    → i < length ns → n ≡ get_or ns i 0 → AreRaisedTo before ns i h g
-    → (p : BucketsPart) × (g.buckets ≡ Some p) × MayRaise before p n
-next_may before ns i n h g below is at = (
+pub next_may : {C B : Type 0} (ns : List ℕ) (i n : ℕ) (h g : Hand C B)
+    → i < length ns → n ≡ get_or ns i 0 → AreRaisedTo ns i h g
+    → (p : BucketsPart) × (g.buckets ≡ Some p) × IsCandidate p.reserves p.buckets n
+next_may ns i n h g below is at = (
   at.1,
   ap (λ (x : Hand _ _). x.buckets) at.3,
-  first_may before at.1 n (drop (i + 1) ns)
-      (subst (AreRaisable before at.1)
+  first_may at.1 n (drop (i + 1) ns)
+      (subst (AreVictims at.1.reserves at.1.buckets)
       (drop_more ns i 0 below ∙ ap (λ j. j ∷ drop (i + 1) ns) (sym is)) at.5),
 )
 
-pub raised_next : {C B : Type 0} (before : ℕ) (ns : List ℕ) (i n : ℕ) (h g x : Hand C B)
-    → i < length ns → n ≡ get_or ns i 0 → AreRaisedTo before ns i h g
-    → HasRaisedIn g (n ∷ []) x → AreRaisedTo before ns (i + 1) h x
-raised_next before ns i n h g x below is at did =
+pub raised_next : {C B : Type 0} (ns : List ℕ) (i n : ℕ) (h g x : Hand C B)
+    → i < length ns → n ≡ get_or ns i 0 → AreRaisedTo ns i h g
+    → HasRaisedIn g (n ∷ []) x → AreRaisedTo ns (i + 1) h x
+raised_next ns i n h g x below is at did =
     let same : did.0 ≡ at.1 = same_some g.buckets did.0 at.1 did.2
     (ap (λ (y : Hand _ _). y.buckets) at.3) in
     let one : HasRaised at.1 (n ∷ []) did.1 =
@@ -123,15 +128,15 @@ raised_next before ns i n h g x below is at did =
       at.2,
       did.3 ∙ ap (λ (y : Hand _ _). record y { buckets = Some did.1 }) at.3,
       raised_more at.0 at.1 did.1 ns i n below is at.4 one,
-      others_may before at.1 did.1 n (drop (i + 1) ns)
-          (subst (AreRaisable before at.1)
+      others_may at.1 did.1 n (drop (i + 1) ns)
+          (subst (AreVictims at.1.reserves at.1.buckets)
           (drop_more ns i 0 below ∙ ap (λ j. j ∷ drop (i + 1) ns) (sym is)) at.5) one,
     )
 
 -- all of them
-pub raised_all : {C B : Type 0} (before : ℕ) (ns : List ℕ) (i : ℕ) (h g : Hand C B)
-    → length ns ≤ i → AreRaisedTo before ns i h g → HasRaisedIn h ns g
-raised_all before ns i h g all at = (
+pub raised_all : {C B : Type 0} (ns : List ℕ) (i : ℕ) (h g : Hand C B) → length ns ≤ i
+    → AreRaisedTo ns i h g → HasRaisedIn h ns g
+raised_all ns i h g all at = (
   at.0,
   at.1,
   at.2,
@@ -161,7 +166,7 @@ module _ {C B : Type 0} (cache_facts : C → DiskFacts) (backing_facts : B → D
       (done_then cache_facts backing_facts ds None u v w a b)
 
   pub raised_some : (before : ℕ) (ns : List ℕ) (i : ℕ) (h g x : Hand C B)
-      (u v w : View cache_facts backing_facts) → i < length ns → AreRaisedTo before ns i h g
+      (u v w : View cache_facts backing_facts) → i < length ns → AreRaisedTo ns i h g
       → HasDone cache_facts backing_facts (raises before (take i ns)) u v
       → Did cache_facts backing_facts None v w → x ≡ g
       → HasRaisedSome cache_facts backing_facts before h ns x u w

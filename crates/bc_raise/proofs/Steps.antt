@@ -3,6 +3,7 @@ use Rattle.std.proofs.Common.{◌≡◌, ◌≢◌, ℕ, suc, ◌-◌, ◌%◌, 
 use Rattle.std.specs.Prelude.{if◌then◌else◌}
 use Rattle.std.proofs.lemmas.Bool.{lt-ltb}
 use Rattle.bc_alloc.proofs.Times.{by_test}
+use Rattle.bc_alloc.specs.Victims.{IsCandidate}
 use Rattle.bc_books.specs.Enabled.{CanRaise}
 use Rattle.bc_books.specs.Shelves.{Fresh, Own, IsPinned}
 use Rattle.bc_data.specs.Seats.{Seat}
@@ -26,7 +27,7 @@ use Rattle.bc_seats.specs.Seats.{Since}
 use Rattle.bc_shares.specs.Shares.{books_of}
 use Rattle.bc_renew.proofs.Law.{law_raise}
 use Rattle.bc_renew.specs.Laws.{HasBuckets}
-use Rattle.bc_renew.specs.Raised.{HasRaised, MayRaise}
+use Rattle.bc_renew.specs.Raised.{HasRaised}
 
 -- it changes the buckets alone
 pub buckets_changed : (k : ℕ) → (if k == 0 then false else (if k == 1 then false
@@ -107,16 +108,11 @@ module _ {C B : Type 0} (cache_facts : C → DiskFacts) (backing_facts : B → D
       (p : BucketsPart) (on : AreBuckets p (world cache_facts backing_facts v)) (before : ℕ)
       (first : FromEach (world cache_facts backing_facts v) (HasBefore before))
       (n number : ℕ)
-      (may : MayRaise before p n) (number_is : number ≡ n - before) where
+      (may : IsCandidate p.reserves p.buckets n) (number_is : number ≡ n - before) where
     before_at : (x : World) → Since (m cache_facts backing_facts) v x → (o : Origin) → IsOrigin x o
         → IsCourseOf o x.log → o.opening.machine.before ≡ before
     before_at x since o is course =
         before_since cache_facts backing_facts v before first x since o is course
-
-    may_at : (x : World) → Since (m cache_facts backing_facts) v x → (o : Origin) → IsOrigin x o
-        → IsCourseOf o x.log → MayRaise o.opening.machine.before p n
-    may_at x since o is course =
-        subst (λ b. MayRaise b p n) (sym (before_at x since o is course)) may
 
     number_at : (x : World) → Since (m cache_facts backing_facts) v x → (o : Origin) → IsOrigin x o
         → IsCourseOf o x.log → n - o.opening.machine.before ≡ number
@@ -137,7 +133,7 @@ module _ {C B : Type 0} (cache_facts : C → DiskFacts) (backing_facts : B → D
           subst (λ q. core.IsEnabled o.opening (replay o x.log) (by v.first (deed.Raise q)))
               (number_at x since o is course)
               ((law_raise x o p v.first n (buckets_at x since o is course)
-              (may_at x since o is course)).may
+              may).may
               (lt-ltb v.first 320 (few cache_facts backing_facts v seat)) running),
           tt,
           tt,
@@ -152,7 +148,14 @@ module _ {C B : Type 0} (cache_facts : C → DiskFacts) (backing_facts : B → D
         (replay o did.is.before.log) (by v.first (deed.Raise q))).machine) r)
         (number_at did.is.before did.is.since o is course)
         ((law_raise did.is.before o p v.first n (buckets_at did.is.before did.is.since o is course)
-        (may_at did.is.before did.is.since o is course)).stands r f))
+        may).stands r f))
+
+  -- by the number that the deed has
+  pub did_raise : (v w : View cache_facts backing_facts) (n before number : ℕ)
+      → number ≡ n - before → Did cache_facts backing_facts (Some (deed.Raise number)) v w
+      → Did cache_facts backing_facts (Some (deed.Raise (n - before))) v w
+  did_raise v w n before number is did =
+      subst (λ q. Did cache_facts backing_facts (Some (deed.Raise q)) v w) is did
 
   pub keeps_raise : (v w : View cache_facts backing_facts) (q : ℕ)
       → IsCoreSeat cache_facts backing_facts v

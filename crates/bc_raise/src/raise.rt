@@ -1,6 +1,6 @@
 //! The steps that raise buckets.
-ghost use Rattle.std.specs.Prelude.{◌≡◌, ◌+◌, ◌-◌, ◌<◌, ◌≤◌, ◌==◌, ℕ, [], ◌∷◌, false, None, Some, length, OnOk, OnErr, IfErr};
-ghost use Rattle.bc_alloc.specs.Victims.{AreVictims};
+ghost use Rattle.std.specs.Prelude.{◌≡◌, ◌+◌, ◌-◌, ◌<◌, ◌≤◌, ◌==◌, [], ◌∷◌, false, None, Some, length, OnOk, OnErr, IfErr};
+ghost use Rattle.bc_alloc.specs.Victims.{AreVictims, IsCandidate};
 ghost use Rattle.bc_events.specs.declared.event.Deed.TheVariants.{Raise};
 ghost use Rattle.bc_parts.specs.Seat.{Holds};
 ghost use Rattle.bc_place.specs.Place.{HasBefore};
@@ -11,7 +11,7 @@ ghost use Rattle.bc_place.specs.bc_hand.Seats.{core, world, IsCoreSeat, Works, D
 ghost use Rattle.bc_place.specs.bc_machine.World.{AreBuckets, FromEach, are_plain};
 ghost use Rattle.bc_place.specs.bc_machine.declared.part.BucketsPart.{BucketsPart as PartSeen};
 ghost use Rattle.bc_raise.specs.Raise.{HasRaisedIn, HasRaisedSome, raises};
-ghost use Rattle.bc_renew.specs.Raised.{AreRaisable, HasRaised, MayRaise};
+ghost use Rattle.bc_renew.specs.Raised.{HasRaised};
 ghost use Rattle.bc_seats.specs.Seats.{Kept};
 
 use bc_disk::disk::Disk;
@@ -41,7 +41,7 @@ pub fn raise_all<C: Disk + Drop, B: Disk + Drop, R: Wait>(
     requires promises { length victims.now ≤ seat.old.promises }
     requires before { FromEach (world C.facts B.facts seat.old) (HasBefore before) }
     requires victims { (p : PartSeen) × (hand.old.buckets ≡ Some p)
-        × AreRaisable before p victims.now }
+        × AreVictims p.reserves p.buckets victims.now }
     ensures works { Works C.facts B.facts parts.now seat.new hand.new }
     ensures part { OnOk result (HasRaisedIn hand.old victims.now hand.new) }
     ensures ok { OnOk result (HasDone C.facts B.facts (raises before victims.now) seat.old
@@ -77,7 +77,8 @@ pub fn raise<C: Disk + Drop, B: Disk + Drop, R: Wait>(
     requires cached { are_plain C.facts B.facts parts.now.run.start ≡ false }
     requires promise { 0 < seat.old.promises }
     requires before { FromEach (world C.facts B.facts seat.old) (HasBefore before) }
-    requires may { (p : PartSeen) × (hand.old.buckets ≡ Some p) × MayRaise before p bucket }
+    requires may { (p : PartSeen) × (hand.old.buckets ≡ Some p)
+        × IsCandidate p.reserves p.buckets bucket }
     ensures works { Works C.facts B.facts parts.now seat.new hand.new }
     ensures part { OnOk result (HasRaisedIn hand.old (bucket ∷ []) hand.new) }
     ensures ok { OnOk result (Did C.facts B.facts (Some (Raise (bucket - before))) seat.old
@@ -111,7 +112,7 @@ fn raise_in<C: Disk, B: Disk, R: Wait>(
     requires holds { Holds seat.old.parts 2 }
     requires buckets { AreBuckets part.old (world C.facts B.facts seat.old) }
     requires before { FromEach (world C.facts B.facts seat.old) (HasBefore before) }
-    requires may { MayRaise before part.old bucket }
+    requires may { IsCandidate part.old.reserves part.old.buckets bucket }
     ensures seat { IsCoreSeat C.facts B.facts seat.new }
     ensures kept { Kept (core C.facts B.facts) seat.old seat.new (λ k. k == 2) }
     ensures buckets { AreBuckets part.new (world C.facts B.facts seat.new) }
@@ -123,10 +124,8 @@ fn raise_in<C: Disk, B: Disk, R: Wait>(
     ensures cause { IfErr result (λ error. IsHalted error seat.new.seen) }
     ensures keeps { KeepsPlaces C.facts B.facts seat.old seat.new }
 {
-    let deed = Deed::Raise {
-        bucket: bucket - before,
-    };
-    if let Err(device) = commit(rt, parts, seat, deed) {
+    let number = bucket.saturating_sub(before);
+    if let Err(device) = commit(rt, parts, seat, Deed::Raise { bucket: number }) {
         return Err(StepError::Halted(device));
     }
     raise_one(part, bucket);
@@ -135,7 +134,7 @@ fn raise_in<C: Disk, B: Disk, R: Wait>(
 
 // Raises the bucket in the containers.
 fn raise_one(part: &mut BucketsPart, bucket: u32)
-    requires may { (before : ℕ) × MayRaise before part.old bucket }
+    requires { IsCandidate part.old.reserves part.old.buckets bucket }
     ensures { HasRaised part.old (bucket ∷ []) part.new }
 {
     part.reserves.raise(&mut part.buckets, bucket);

@@ -2,6 +2,7 @@
 use Rattle.std.proofs.Common.{◌≡◌, ◌≢◌, ◌⊎◌, inl, inr, ℕ, ◌+◌, ◌<◌, ◌≤◌, Bool, true, false, List, [], ◌∷◌, length, get_or, take, drop, refl, sym, ap, ◌∙◌, subst, arith}
 use Rattle.std.proofs.lemmas.Bool.{cases_eq, cases_lt}
 use Rattle.std.proofs.lemmas.List.{set_past, take-append-drop}
+use Rattle.std.proofs.lemmas.List.Sums.{fold_more}
 use Rattle.bc_alloc.proofs.Fits.{changed_twice, other_stays, same_length, this_changes}
 use Rattle.bc_alloc.proofs.Loops.{all_changed_more, not_before}
 use Rattle.bc_alloc.proofs.Times.{times-append, times-cons, times_same}
@@ -13,12 +14,13 @@ use Rattle.bc_bucket.specs.Buckets.{Buckets, bucket_of, changed}
 use Rattle.bc_bucket.specs.declared.bucket.Bucket.{Bucket}
 use Rattle.bc_bucket.specs.declared.bucket.Mark.TheVariants as marks
 use Rattle.bc_fill.specs.Fill.{AreOpen, HaveFree, bucket_numbers}
+use Rattle.bc_fill.specs.declared.fill.Open as fill
 use Rattle.bc_raise.proofs.of_bc_renew.Parts.{are_open}
 use Rattle.bc_raise.specs.bc_machine.declared.part.BucketsPart.{BucketsPart}
-use Rattle.bc_raise.specs.bc_renew.Ready.{CanReady, chained}
+use Rattle.bc_raise.specs.bc_renew.Ready.{CanGo, all_touched, chained, touched}
 
 -- a change of many leaves their number and the sizes
-all_length : (f : Bucket → Bucket) (ks : List ℕ) (b : Buckets)
+pub all_length : (f : Bucket → Bucket) (ks : List ℕ) (b : Buckets)
     → length (all_changed f ks b).records ≡ length b.records
 all_length f [] b = refl
 all_length f (n ∷ ks) b = all_length f ks (changed f n b) ∙ same_length f n b
@@ -86,6 +88,38 @@ chained_more new i n b d e x below is there was freed marked_ =
     ∙ ap (λ j. changed chained j (all_changed chained (take i new) b)) is
     ∙ sym (all_changed_more chained new i b below)
 
+-- ---- buckets that are touched
+
+-- one more
+pub touched_more : (new : List ℕ) (i n : ℕ) (b d e : Buckets) → i < length new
+    → n ≡ get_or new i 0 → d ≡ all_touched (take i new) b → e ≡ touched n d
+    → e ≡ all_touched (take (i + 1) new) b
+touched_more new i n b d e below is was did =
+    did ∙ ap (λ (x : Buckets). touched n x) was
+    ∙ ap (λ j. touched j (all_touched (take i new) b)) is
+    ∙ sym (fold_more (λ (x : Buckets) k. touched k x) b new i 0 below)
+
+-- the records stay
+pub touched_records : (ks : List ℕ) (b : Buckets) → (all_touched ks b).records ≡ b.records
+touched_records [] b = refl
+touched_records (n ∷ ks) b = touched_records ks (touched n b)
+
+pub touched_size : (ks : List ℕ) (b : Buckets) → (all_touched ks b).size ≡ b.size
+touched_size [] b = refl
+touched_size (n ∷ ks) b = touched_size ks (touched n b)
+
+pub touched_fit : (r : Reserves) (ks : List ℕ) (b : Buckets) → AreFor r b
+    → AreFor r (all_touched ks b)
+touched_fit r [] b fit = fit
+touched_fit r (n ∷ ks) b fit = touched_fit r ks (touched n b)
+    (record { same_count = fit.same_count; not_held = fit.not_held })
+
+pub touched_open : (fs : List fill.Open) (r : Reserves) (ks : List ℕ) (b : Buckets)
+    → AreOpen fs r b → AreOpen fs r (all_touched ks b)
+touched_open fs r [] b opens = opens
+touched_open fs r (n ∷ ks) b opens = touched_open fs r ks (touched n b)
+    (record { distinct = opens.distinct; each = opens.each; free = opens.free })
+
 -- ---- the lists
 
 -- what is listed is held by nobody still
@@ -117,12 +151,12 @@ none_or k ks wrong = go (cases_lt 0 (times k ks))
     go (inr none) = omega (arith, none)
 
 -- none of them was touched, so they are held, and on no list
-pub open_ready : (p : BucketsPart) (named : ℕ) (old new : List ℕ) → CanReady p named old new
+pub open_ready : (p : BucketsPart) (named : ℕ) (new : List ℕ) → CanGo p new
     → (r : Reserves) (b : Buckets) → AreFor r b → r.count ≡ p.reserves.count
     → b ≡ all_changed made_ready (take named p.reserves.raised)
-    (all_changed unmarked old (all_changed chained new p.buckets))
+    (all_changed unmarked p.chain.items (all_changed chained new p.buckets))
     → b.size ≡ p.buckets.size → AreOpen p.fill r b
-open_ready p named old new can r b fit count is size = record {
+open_ready p named new can r b fit count is size = record {
   distinct = (are_open p).distinct;
   each = λ k some. its k some;
   free = subst (λ n. HaveFree n p.fill) (sym size) (are_open p).free;
@@ -136,12 +170,12 @@ open_ready p named old new can r b fit count is size = record {
             × (times_listed p.reserves k ≡ 0)
         was = (are_open p).each k some
 
-        none_old : times k old ≡ 0
-        none_old = none_or k old
+        none_old : times k p.chain.items ≡ 0
+        none_old = none_or k p.chain.items
             (λ there. never (bucket_of p.buckets k).held was.1 (can.loose k there).2)
 
         none_new : times k new ≡ 0
-        none_new = none_or k new (λ there. (let none = can.taken.apart k there in
+        none_new = none_or k new (λ there. (let none = (can.taken.each k there).shut in
             omega (arith, none, some)))
 
         none_named : times k (take named p.reserves.raised) ≡ 0
@@ -155,8 +189,8 @@ open_ready p named old new can r b fit count is size = record {
         held = ap (λ (x : Buckets). (bucket_of x k).held) is
             ∙ ap (λ (x : Bucket). x.held)
             (all_else made_ready (take named p.reserves.raised)
-            (all_changed unmarked old (all_changed chained new p.buckets)) k none_named
-            ∙ all_else unmarked old (all_changed chained new p.buckets) k none_old
+            (all_changed unmarked p.chain.items (all_changed chained new p.buckets)) k none_named
+            ∙ all_else unmarked p.chain.items (all_changed chained new p.buckets) k none_old
             ∙ all_else chained new p.buckets k none_new) ∙ was.1
 
         unlisted : times_listed r k ≡ 0

@@ -1,5 +1,6 @@
 pub mod Free
 pub mod Fitting
+pub mod Checks
 pub mod Steps
 pub use Rattle.bc_raise.proofs as of_bc_raise
 pub use Rattle.bc_raise.proofs.of_bc_place

@@ -7,9 +7,10 @@
 //! on the list for priority sets, or held from it, and a next chain can be written.
 //!
 //! Which buckets go to which list, and that the core allows it, `bc_renew` says. Read
-//! `specs/Ready.antt`, then `plan` and `ready`.
+//! `specs/Ready.antt`, then `plan`, `go` and `ready`.
 #![tactic(auto)]
 
+mod go;
 pub mod plan;
 pub mod ready;
 

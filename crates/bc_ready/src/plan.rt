@@ -7,6 +7,7 @@ ghost use Rattle.bc_ready.specs.Free.{AreFree};
 
 use bc_alloc::{Purpose, Reserves};
 use bc_events::event::Listing;
+use bc_raise::bc_machine::part::BucketsPart;
 
 // How many more buckets each list may have.
 #[derive(Drop)]
@@ -17,9 +18,30 @@ pub(crate) struct Free {
     plain: u32,
 }
 
-/// Which ones of the chain before go back to the list priorities: the first ones, as far as that
+/// Which ones of the chain in hand go back to the list priorities: the first ones, as far as that
 /// has room. Takes no memory.
-pub(crate) fn list_back(reserves: &Reserves, before: u32, old: &[u32], back: &mut Vec<u32>)
+pub(crate) fn back_in(part: &BucketsPart, before: u32, back: &mut Vec<u32>)
+    requires none { back.old.items ≡ [] }
+    requires room { length part.now.chain.items ≤ vec_capacity back.old }
+    ensures { back.new.items ≡ given_back before part.now.chain.items part.now.reserves.lists }
+{
+    list_back(&part.reserves, before, &part.chain, back);
+}
+
+/// The list of each of the first raised buckets, once the chain in hand is back on the list
+/// priorities. Takes no memory.
+pub(crate) fn listed_in(part: &BucketsPart, before: u32, named: u32, listed: &mut Vec<Listing>)
+    requires none { listed.old.items ≡ [] }
+    requires named { named ≤ length part.now.reserves.raised }
+    requires room { named ≤ vec_capacity listed.old }
+    ensures { listed.new.items ≡ listings before (take named part.now.reserves.raised)
+        (returned_all part.now.chain.items part.now.reserves.lists) }
+{
+    list_named(&part.reserves, before, named, &part.chain, listed);
+}
+
+// The first ones of these, as far as the list priorities has room.
+fn list_back(reserves: &Reserves, before: u32, old: &[u32], back: &mut Vec<u32>)
     requires none { back.old.items ≡ [] }
     requires room { length old.now ≤ vec_capacity back.old }
     ensures { back.new.items ≡ given_back before old.now reserves.now.lists }
@@ -31,15 +53,8 @@ pub(crate) fn list_back(reserves: &Reserves, before: u32, old: &[u32], back: &mu
     }
 }
 
-/// The list of each of the first raised buckets, once so many are back on the list priorities.
-/// Takes no memory.
-pub(crate) fn list_named(
-    reserves: &Reserves,
-    before: u32,
-    named: u32,
-    old: &[u32],
-    listed: &mut Vec<Listing>,
-)
+// The list of each of the first raised buckets, once these are back on the list priorities.
+fn list_named(reserves: &Reserves, before: u32, named: u32, old: &[u32], listed: &mut Vec<Listing>)
     requires none { listed.old.items ≡ [] }
     requires named { named ≤ length reserves.now.raised }
     requires room { named ≤ vec_capacity listed.old }

@@ -1,8 +1,5 @@
 //! The step that makes buckets ready.
-ghost use Rattle.std.specs.Prelude.{◌≡◌, ◌≢◌, ◌+◌, ◌<◌, ◌≤◌, ◌==◌, ℕ, [], false, true, None, Some, is_some, length, take, vec_capacity, OnOk, OnErr, IfErr};
-ghost use Rattle.bc_alloc.specs.Buckets.{all_changed};
-ghost use Rattle.bc_alloc.specs.Reserve.{IsDistinct, times};
-ghost use Rattle.bc_bucket.specs.Buckets.{bucket_of};
+ghost use Rattle.std.specs.Prelude.{◌≡◌, ◌<◌, ◌≤◌, ◌==◌, ℕ, [], false, true, None, Some, is_some, length, take, vec_capacity, OnOk, OnErr, IfErr};
 ghost use Rattle.bc_parts.specs.Seat.{Holds};
 ghost use Rattle.bc_raise.specs.bc_deed.Asked.{IsHalted};
 ghost use Rattle.bc_raise.specs.bc_hand.Seats.{core, world, IsCoreSeat, Works, Did};
@@ -10,12 +7,12 @@ ghost use Rattle.bc_raise.specs.bc_machine.World.{AreBuckets, FromEach, are_plai
 ghost use Rattle.bc_raise.specs.bc_machine.declared.part.BucketsPart.{BucketsPart as PartSeen};
 ghost use Rattle.bc_raise.specs.bc_place.Place.{HasBefore};
 ghost use Rattle.bc_raise.specs.bc_place.Written.{KeepsPlaces};
-ghost use Rattle.bc_raise.specs.bc_renew.Ready.{CanReady, HasMadeReady, MayReady, chained};
+ghost use Rattle.bc_raise.specs.bc_renew.Ready.{HasMadeReady, MayReady};
 ghost use Rattle.bc_ready.specs.Ready.{HasMadeReadyIn, HasReadied};
 ghost use Rattle.bc_seats.specs.Seats.{Kept};
 
-use crate::plan::{list_back, list_named};
-use bc_bucket::{Buckets, Mark};
+use crate::go::go_to_lists;
+use crate::plan::{back_in, listed_in};
 use bc_disk::disk::Disk;
 use bc_events::event::{Deed, Listing};
 use bc_raise::bc_hand::error::StepError;
@@ -26,11 +23,12 @@ use bc_raise::bc_machine::part::BucketsPart;
 use std::sync::Wait;
 
 /// Makes ready what a durable entry with a new chain allows: the buckets `new` of the chain are
-/// metadata and no longer held; those of the chain before, `old`, go back to the list for priority
-/// sets, as far as it has room; and the first `named` raised buckets, whose generations the chain
-/// has, go to the first list that has room, in the order priorities, moving, tree, plain. `back`
-/// and `listed` are empty, with room for the event's lists. The buckets and the journal are in
-/// hand. `before` buckets of the device lie before the journal's. Takes no memory.
+/// metadata and no longer held, and it is the chain in hand; those of the one before go back to the
+/// list for priority sets, as far as it has room; and the first `named` raised buckets, whose
+/// generations the chain has, go to the first list that has room, in the order priorities, moving,
+/// tree, plain. A trace round that goes on settles no bucket of the new chain. `back` and `listed`
+/// are empty, with room for the event's lists. The buckets and the journal are in hand. `before`
+/// buckets of the device lie before the journal's. Takes no memory.
 ///
 /// `Halted` names the device that halted the run; then nothing is done.
 pub fn make_ready<C: Disk + Drop, B: Disk + Drop, R: Wait>(
@@ -40,8 +38,7 @@ pub fn make_ready<C: Disk + Drop, B: Disk + Drop, R: Wait>(
     hand: &mut Hand<C, B>,
     before: u32,
     named: u32,
-    old: &[u32],
-    new: &[u32],
+    new: Vec<u32>,
     back: Vec<u32>,
     listed: Vec<Listing>,
 ) -> Result<(), StepError>
@@ -50,15 +47,17 @@ pub fn make_ready<C: Disk + Drop, B: Disk + Drop, R: Wait>(
     requires promise { 0 < seat.old.promises }
     requires before { FromEach (world C.facts B.facts seat.old) (HasBefore before) }
     requires journal { is_some hand.old.journal ≡ true }
-    requires back { (back.items ≡ []) × (length old.now ≤ vec_capacity back) }
+    requires back { back.items ≡ [] }
     requires listed { (listed.items ≡ []) × (named ≤ vec_capacity listed) }
-    requires can { (p : PartSeen) × (hand.old.buckets ≡ Some p) × CanReady p named old.now new.now
+    requires may { (p : PartSeen) × (hand.old.buckets ≡ Some p)
+        × (named ≤ length p.reserves.raised) × (length p.chain.items ≤ vec_capacity back)
         × FromEach (world C.facts B.facts seat.old)
-        (MayReady seat.old.first (take named p.reserves.raised) old.now new.now) }
+        (MayReady seat.old.first (take named p.reserves.raised) new.items) }
     ensures works { Works C.facts B.facts parts.now seat.new hand.new }
-    ensures part { OnOk result (HasMadeReadyIn hand.old named old.now new.now hand.new) }
+    ensures part { OnOk result (HasMadeReadyIn C.facts B.facts hand.old named new hand.new
+        seat.new) }
     ensures ok { OnOk result ((p : PartSeen) × (hand.old.buckets ≡ Some p)
-        × HasReadied C.facts B.facts before p named old.now seat.old seat.new) }
+        × HasReadied C.facts B.facts before p named seat.old seat.new) }
     ensures err { OnErr result (Did C.facts B.facts None seat.old seat.new) }
     ensures same { OnErr result (hand.new ≡ hand.old) }
     ensures cause { IfErr result (λ error. IsHalted error seat.new.seen) }
@@ -67,8 +66,17 @@ pub fn make_ready<C: Disk + Drop, B: Disk + Drop, R: Wait>(
     let Some(mut buckets) = hand.buckets.take() else {
         unreachable!()
     };
-    let part = buckets.get_mut();
-    let done = ready_in(rt, parts, seat, part, before, named, old, new, back, listed);
+    let done = ready_in(
+        rt,
+        parts,
+        seat,
+        buckets.get_mut(),
+        before,
+        named,
+        new,
+        back,
+        listed,
+    );
     hand.buckets = Some(buckets);
     done
 }
@@ -81,8 +89,7 @@ fn ready_in<C: Disk, B: Disk, R: Wait>(
     part: &mut BucketsPart,
     before: u32,
     named: u32,
-    old: &[u32],
-    new: &[u32],
+    new: Vec<u32>,
     mut back: Vec<u32>,
     mut listed: Vec<Listing>,
 ) -> Result<(), StepError>
@@ -94,24 +101,25 @@ fn ready_in<C: Disk, B: Disk, R: Wait>(
     requires journal { Holds seat.old.parts 3 }
     requires buckets { AreBuckets part.old (world C.facts B.facts seat.old) }
     requires before { FromEach (world C.facts B.facts seat.old) (HasBefore before) }
-    requires back { (back.items ≡ []) × (length old.now ≤ vec_capacity back) }
+    requires back { (back.items ≡ []) × (length part.old.chain.items ≤ vec_capacity back) }
     requires listed { (listed.items ≡ []) × (named ≤ vec_capacity listed) }
-    requires can { CanReady part.old named old.now new.now }
+    requires named { named ≤ length part.old.reserves.raised }
     requires may { FromEach (world C.facts B.facts seat.old)
-        (MayReady seat.old.first (take named part.old.reserves.raised) old.now new.now) }
+        (MayReady seat.old.first (take named part.old.reserves.raised) new.items) }
     ensures seat { IsCoreSeat C.facts B.facts seat.new }
     ensures kept { Kept (core C.facts B.facts) seat.old seat.new (λ k. k == 2) }
     ensures buckets { AreBuckets part.new (world C.facts B.facts seat.new) }
-    ensures part { OnOk result (HasMadeReady part.old named old.now new.now part.new) }
-    ensures ok { OnOk result (HasReadied C.facts B.facts before part.old named old.now seat.old
+    ensures part { OnOk result (FromEach (world C.facts B.facts seat.new)
+        (λ o st. HasMadeReady part.old named new part.new)) }
+    ensures ok { OnOk result (HasReadied C.facts B.facts before part.old named seat.old
         seat.new) }
     ensures err { OnErr result (Did C.facts B.facts None seat.old seat.new) }
     ensures same { OnErr result (part.new ≡ part.old) }
     ensures cause { IfErr result (λ error. IsHalted error seat.new.seen) }
     ensures keeps { KeepsPlaces C.facts B.facts seat.old seat.new }
 {
-    list_back(&part.reserves, before, old, &mut back);
-    list_named(&part.reserves, before, named, old, &mut listed);
+    back_in(part, before, &mut back);
+    listed_in(part, before, named, &mut listed);
     let deed = Deed::Ready {
         back,
         named: listed,
@@ -119,28 +127,6 @@ fn ready_in<C: Disk, B: Disk, R: Wait>(
     if let Err(device) = commit(rt, parts, seat, deed) {
         return Err(StepError::Halted(device));
     }
-    go_to_lists(part, named, old, new);
+    go_to_lists(part, named, new);
     Ok(())
-}
-
-// Lets the next chain go, gives the one before back, and takes the named ones onto the lists.
-fn go_to_lists(part: &mut BucketsPart, named: u32, old: &[u32], new: &[u32])
-    requires { CanReady part.old named old.now new.now }
-    ensures { HasMadeReady part.old named old.now new.now part.new }
-{
-    let_go_all(&mut part.buckets, new);
-    part.reserves.ready(&mut part.buckets, named as usize, old);
-}
-
-// Lets the buckets of a chain go, and marks them as metadata.
-fn let_go_all(buckets: &mut Buckets, new: &[u32])
-    requires distinct { IsDistinct new.now }
-    requires each { (k : ℕ) → 0 < times k new.now → (k < length buckets.old.records)
-        × ((bucket_of buckets.old k).held ≡ true) }
-    ensures { buckets.new ≡ all_changed chained new.now buckets.old }
-{
-    for bucket in new {
-        buckets.let_go(*bucket);
-        buckets.mark(*bucket, Mark::Metadata, 0);
-    }
 }

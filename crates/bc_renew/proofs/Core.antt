@@ -1,21 +1,22 @@
 -- What an entry with a new chain makes ready is ready to the core: when that may be, and what the
 -- buckets in hand stand for then.
-use Rattle.std.proofs.Common.{◌≡◌, ◌≢◌, ◌⊎◌, inl, inr, ℕ, suc, ◌+◌, ◌-◌, ◌*◌, ◌%◌, ◌<◌, ◌≤◌, Bool, true, false, List, [], ◌∷◌, ◌++◌, length, get_or, Some, None, refl, sym, ap, ◌∙◌, subst, arith}
-use Rattle.std.specs.Prelude.{drop, sum_by, take, Vec}
+use Rattle.std.proofs.Common.{◌≡◌, ◌≢◌, ◌⊎◌, inl, inr, ℕ, suc, ◌+◌, ◌-◌, ◌*◌, ◌%◌, ◌<◌, ◌≤◌, Bool, true, false, List, [], ◌∷◌, ◌++◌, length, get_or, Option, Some, None, refl, sym, ap, ◌∙◌, subst, arith}
+use Rattle.std.specs.Prelude.{◌||◌, drop, if◌then◌else◌, sum_by, take, Vec}
 use Rattle.std.specs.declared.alloc.Global.{Global}
 use Rattle.std.proofs.lemmas.Bool.{cases_eq, cases_lt}
 use Rattle.std.proofs.lemmas.List.{set_past, take-append-drop}
 use Rattle.bc_alloc.proofs.Fits.{other_stays, same_length, this_changes}
-use Rattle.bc_alloc.proofs.Times.{times-append}
+use Rattle.bc_alloc.proofs.Times.{by_test, times-append}
 use Rattle.bc_alloc.specs.Buckets.{all_changed, made_ready, unmarked}
 use Rattle.bc_alloc.specs.Reserve.{IsDistinct, Reserve, free, times}
-use Rattle.bc_alloc.specs.Reserves.{Reserves, returned, returned_all, stored_all, times_listed}
+use Rattle.bc_alloc.specs.Reserves.{Reserves, list_of, returned, returned_all, stored_all, times_listed}
 use Rattle.bc_alloc.specs.declared.purpose.Purpose.TheVariants as list
 use Rattle.bc_books.specs.After as books
-use Rattle.bc_books.specs.Books.{Books, MakeReady, ReadyChain}
-use Rattle.bc_books.specs.Chains.{Many}
+use Rattle.bc_books.specs.Books.{Books, MakeReady, ReadyChain, Setup}
+use Rattle.bc_books.specs.Chains.{Chains, Many, given_up, is_chain}
 use Rattle.bc_books.specs.Invariant.{IsInOrder}
 use Rattle.bc_books.specs.Marks as mark
+use Rattle.bc_books.specs.Round.{Round}
 use Rattle.bc_books.specs.Shelves.{Shelf, Loose, Listed, Open, Raised}
 use Rattle.bc_books.specs.Shelves as shelf
 use Rattle.bc_bucket.specs.Bucket.{no_bucket}
@@ -32,20 +33,24 @@ use Rattle.bc_known.specs.Acts as known
 use Rattle.bc_known.specs.Run as machine
 use Rattle.bc_leaves.specs.After.{has}
 use Rattle.bc_renew.proofs.Parts.{order_course}
-use Rattle.bc_machine.specs.Containers.{AreBucketsOf, is_held, pins_in}
+use Rattle.bc_machine.proofs.Buckets.{touched_round}
+use Rattle.bc_machine.specs.Containers.{AreBucketsOf, IsChainOf, IsRoundOf, is_held, pins_in}
 use Rattle.bc_machine.specs.World.{IsCourseOf, IsOrigin, Origin, World, replay}
 use Rattle.bc_machine.specs.declared.part.BucketsPart.{BucketsPart}
+use Rattle.bc_machine.specs.declared.part.Tracing.{Tracing}
 use Rattle.bc_places.proofs.Lists.{counted, same}
-use Rattle.bc_places.specs.Stands.{IsCutInto}
+use Rattle.bc_places.specs.Stands.{AreJust, IsCutInto}
 use Rattle.bc_shares.specs.Shares.{books_of}
 use Rattle.bc_whole.specs.State as whole
 use Rattle.bc_renew.specs.Goes.{first_list, given_back, listings}
 use Rattle.bc_renew.specs.Laws.{ready_by}
-use Rattle.bc_renew.specs.Ready.{CanReady, HasMadeReady, MayReady, chained}
+use Rattle.bc_renew.specs.Ready.{CanGo, HasMadeReady, MayReady, all_touched, chained}
 use Rattle.bc_renew.proofs.All.{AreReady, AreRoomy, HasReady, all_placed, all_ready, back_stands, back_to, chain_stands, placed_else, placed_owner, placed_versions, ready_stands, with_lists, with_raised}
 use Rattle.bc_renew.proofs.Chain.{alike, are_roomy, back_long, back_times, many_on, put_back}
 use Rattle.bc_renew.proofs.Goes.{FourOf, four_of, returned_four}
+use Rattle.bc_renew.proofs.Going.{can_go}
 use Rattle.bc_renew.proofs.Put.{Stands}
+use Rattle.bc_renew.proofs.Touched.{all_else, is_touched, returned_all_room, stored_all_room, touched_data, touched_else, touched_long, touched_records, touched_size, touched_stands, touched_there}
 
 never : (b : Bool) → b ≡ true → b ≡ false → ⊥
 never b is off = cc
@@ -121,6 +126,23 @@ all_data : (f : Bucket → Bucket) (ks : List ℕ) (b : Buckets)
 all_data f [] b = refl
 all_data f (n ∷ ks) b = all_data f ks (changed f n b)
 
+all_touches : (f : Bucket → Bucket) (ks : List ℕ) (b : Buckets)
+    → (all_changed f ks b).touched ≡ b.touched
+all_touches f [] b = refl
+all_touches f (n ∷ ks) b = all_touches f ks (changed f n b)
+
+-- those that are listed change neither chains nor a round
+all_ready_chains : (w : Setup) (xs : List Listing) (k : Books)
+    → (all_ready w k xs).chains ≡ k.chains
+all_ready_chains w [] k = refl
+all_ready_chains w (x ∷ xs) k =
+    all_ready_chains w xs (books.after w k (MakeReady x.bucket (events.list_of x.list)))
+
+all_ready_round : (w : Setup) (xs : List Listing) (k : Books) → (all_ready w k xs).round ≡ k.round
+all_ready_round w [] k = refl
+all_ready_round w (x ∷ xs) k =
+    all_ready_round w xs (books.after w k (MakeReady x.bucket (events.list_of x.list)))
+
 -- buckets that were let go are held by nobody
 free_stays : (f : Bucket → Bucket) → ((x : Bucket) → x.held ≡ false → (f x).held ≡ false)
     → (ks : List ℕ) (b : Buckets) (j : ℕ) → (bucket_of b j).held ≡ false
@@ -141,13 +163,19 @@ free_stays f keeps (n ∷ ks) b j free = free_stays f keeps ks (changed f n b) j
 
 module _ (x : World) (o : Origin) (is : IsOrigin x o) (on : IsCourseOf o x.log) (p : BucketsPart)
     (h : AreBucketsOf o.opening.machine (books_of (replay o x.log).machine) p) (i named : ℕ)
-    (old new : List ℕ) (can : CanReady p named old new)
-    (its : MayReady i (take named p.reserves.raised) old new o (replay o x.log))
+    (next : Vec ℕ Global)
+    (its : MayReady i (take named p.reserves.raised) next.items o (replay o x.log))
     (back : Vec ℕ Global)
-    (back_is : back.items ≡ given_back o.opening.machine.before old p.reserves.lists)
+    (back_is : back.items ≡ given_back o.opening.machine.before p.chain.items p.reserves.lists)
     (listing : Vec Listing Global)
     (listing_is : listing.items ≡ listings o.opening.machine.before (take named p.reserves.raised)
-    (returned_all old p.reserves.lists)) where
+    (returned_all p.chain.items p.reserves.lists)) where
+  abbrev old : List ℕ
+  old = p.chain.items
+
+  abbrev new : List ℕ
+  new = next.items
+
   abbrev w : whole.Opening
   w = o.opening.machine
 
@@ -168,28 +196,37 @@ module _ (x : World) (o : Origin) (is : IsOrigin x o) (on : IsCourseOf o x.log) 
 
   -- ---- what is known of each chain
 
+  can : CanGo p new
+  can = can_go x o is on p h i named next its
+
+  old_are : AreJust w.before old (λ q. k.chains.of q ≡ Some k.chains.ready)
+  old_are = h.chain.buckets
+
+  new_are : AreJust w.before new (λ q. k.chains.of q ≡ Some (suc k.chains.ready))
+  new_are = its.next.buckets
+
   count_is : length p.buckets.records ≡ p.reserves.count
   count_is = p.fit.same_count
 
   old_inside : (j : ℕ) → 0 < times j old → (w.before ≤ j) × (j < length p.buckets.records)
   old_inside j some = (
-    its.before.behind j some,
+    old_are.behind j some,
     let below = (can.loose j some).0 in let same = count_is in omega (arith, below, same),
   )
 
   new_inside : (j : ℕ) → 0 < times j new → (w.before ≤ j) × (j < length p.buckets.records)
   new_inside j some = (
-    its.next.behind j some,
-    let below = (can.taken.each j some).0 in let same = count_is in omega (arith, below, same),
+    new_are.behind j some,
+    let below = (can.taken.each j some).there in let same = count_is in omega (arith, below, same),
   )
 
   old_of : (j : ℕ) → 0 < times j old → k.chains.of (j - w.before) ≡ Some k.chains.ready
-  old_of j some = its.before.each (j - w.before) (subst (λ n. 0 < times n old)
-      (sym (counted w.before j (its.before.behind j some))) some)
+  old_of j some = old_are.each (j - w.before) (subst (λ n. 0 < times n old)
+      (sym (counted w.before j (old_are.behind j some))) some)
 
   new_of : (j : ℕ) → 0 < times j new → k.chains.of (j - w.before) ≡ Some (suc k.chains.ready)
-  new_of j some = its.next.each (j - w.before) (subst (λ n. 0 < times n new)
-      (sym (counted w.before j (its.next.behind j some))) some)
+  new_of j some = new_are.each (j - w.before) (subst (λ n. 0 < times n new)
+      (sym (counted w.before j (new_are.behind j some))) some)
 
   old_loose : (j : ℕ) → 0 < times j old → k.shelf (j - w.before) ≡ Loose
   old_loose j some =
@@ -204,10 +241,10 @@ module _ (x : World) (o : Origin) (is : IsOrigin x o) (on : IsCourseOf o x.log) 
           → times (w.before + (j - w.before)) new ≡ 0
       go (inl both) =
           let x : Some k.chains.ready ≡ Some (suc k.chains.ready)
-          = sym (old_of j some) ∙ its.next.each (j - w.before) both in absurd (next x)
+          = sym (old_of j some) ∙ new_are.each (j - w.before) both in absurd (later x)
         where
-          next : Some k.chains.ready ≡ Some (suc k.chains.ready) → ⊥
-          next x = let e : k.chains.ready ≡ suc k.chains.ready = cc in omega (arith, e)
+          later : Some k.chains.ready ≡ Some (suc k.chains.ready) → ⊥
+          later x = let e : k.chains.ready ≡ suc k.chains.ready = cc in omega (arith, e)
       go (inr none) = omega (arith, none)
 
   -- ---- one behind the other
@@ -224,7 +261,7 @@ module _ (x : World) (o : Origin) (is : IsOrigin x o) (on : IsCourseOf o x.log) 
 
   roomy : AreRoomy w.before room old p.reserves.lists
   roomy = are_roomy w.before (free (first_list p.reserves.lists)) room old p.reserves.lists refl
-      can.distinct its.before.behind (λ j some. ap (λ xs. has xs (j - w.before)) back_is)
+      can.distinct old_are.behind (λ j some. ap (λ xs. has xs (j - w.before)) back_is)
 
   abbrev given : Buckets
   given = all_changed unmarked old freed
@@ -243,19 +280,19 @@ module _ (x : World) (o : Origin) (is : IsOrigin x o) (on : IsCourseOf o x.log) 
             let high = at.1 in omega (arith, long, high),
       ))
       (λ j some. (placed_else w.before mark.Metadata (λ q. None) new k (j - w.before)
-      its.next.behind (apart j some)).1 ∙ old_loose j some)
+      new_are.behind (apart j some)).1 ∙ old_loose j some)
       (λ j some. free_stays chained (λ x is. refl) new p.buckets j (can.loose j some).2) roomy
 
   abbrev then_ : Books
   then_ = books.after w.flow.books k (ReadyChain room)
 
   ready : Stands w then_ given (with_lists lists p.reserves) p.fill
-  ready = stands_alike w (put_back w.flow.books k w.before old new room its.before its.next
+  ready = stands_alike w (put_back w.flow.books k w.before old new room old_are new_are
       can.distinct
       can.taken.distinct) then_ given (with_lists lists p.reserves) p.fill
-      (λ q. sym (alike w.flow.books k w.before old new room its.before its.next can.distinct
+      (λ q. sym (alike w.flow.books k w.before old new room old_are new_are can.distinct
       can.taken.distinct q).0)
-      (λ q. sym (alike w.flow.books k w.before old new room its.before its.next can.distinct
+      (λ q. sym (alike w.flow.books k w.before old new room old_are new_are can.distinct
       can.taken.distinct q).1)
       (sym (placed_owner w.before mark.Unmarked (back_to room) old
       (all_placed w.before mark.Metadata (λ q. None) new k)
@@ -295,9 +332,9 @@ module _ (x : World) (o : Origin) (is : IsOrigin x o) (on : IsCourseOf o x.log) 
   many : Many w.flow.books.sets (λ c. then_.shelf c ≡ Listed shelf.Priorities)
   many = many_on w.flow.books.sets w.before (first_list lists).buckets
       (λ c. then_.shelf c ≡ Listed shelf.Priorities) (ready.places.lists.lists list.Priorities) once
-      (let long = its.many in
+      (let long = h.chain.many in
       back_long w.flow.books.sets old p.reserves.lists (omega (arith, long))
-      (let fits = can.room in omega (arith, long, fits)))
+      (let fits = h.room in omega (arith, long, fits)))
 
   raised_distinct : IsDistinct (ks ++ rest)
   raised_distinct = subst IsDistinct (sym (take-append-drop named p.reserves.raised))
@@ -373,9 +410,13 @@ module _ (x : World) (o : Origin) (is : IsOrigin x o) (on : IsCourseOf o x.log) 
   final_books = all_books w (known.after w (replay o x.log).machine i (known.ReadyChain room)) i
       listing.items ∙ ap (all_ready w.flow.books then_) listing_is
 
-  module _ (r : BucketsPart) (f : HasMadeReady p named old new r) where
+  module _ (r : BucketsPart) (f : HasMadeReady p named next r) where
+    abbrev settled : Buckets
+    settled = all_changed made_ready ks given
+
+    -- and the next chain's are touched
     abbrev final : Buckets
-    final = all_changed made_ready ks given
+    final = all_touched new settled
 
     are_final : Stands w (all_ready w.flow.books then_ (listings w.before ks lists)) r.buckets
         r.reserves r.fill
@@ -384,19 +425,152 @@ module _ (x : World) (o : Origin) (is : IsOrigin x o) (on : IsCourseOf o x.log) 
         (subst (λ x. Stands w (all_ready w.flow.books then_ (listings w.before ks lists)) final x
         r.fill) (sym f.reserves)
         (subst (λ fs. Stands w (all_ready w.flow.books then_ (listings w.before ks lists)) final
-        (with_raised rest (stored_all ks lists) p.reserves) fs) (sym f.fill) all_listed.stand))
+        (with_raised rest (stored_all ks lists) p.reserves) fs) (sym f.fill)
+        (touched_stands w (all_ready w.flow.books then_ (listings w.before ks lists))
+        (with_raised rest (stored_all ks lists) p.reserves) p.fill new settled all_listed.stand)))
+
+    settled_touched : settled.touched ≡ p.buckets.touched
+    settled_touched = all_touches made_ready ks given ∙ all_touches unmarked old freed
+        ∙ all_touches chained new p.buckets
 
     final_length : length final.records ≡ length p.buckets.records
-    final_length = all_length made_ready ks given ∙ all_length unmarked old freed
+    final_length = ap (λ (xs : List Bucket). length xs) (touched_records new settled)
+        ∙ all_length made_ready ks given ∙ all_length unmarked old freed
         ∙ all_length chained new p.buckets
 
     final_size : final.size ≡ p.buckets.size
-    final_size = all_size made_ready ks given ∙ all_size unmarked old freed
+    final_size = touched_size new settled ∙ all_size made_ready ks given ∙ all_size unmarked old freed
         ∙ all_size chained new p.buckets
 
     final_data : final.data_from ≡ p.buckets.data_from
-    final_data = all_data made_ready ks given ∙ all_data unmarked old freed
+    final_data = touched_data new settled ∙ all_data made_ready ks given ∙ all_data unmarked old freed
         ∙ all_data chained new p.buckets
+
+    -- the buckets before the core's are none of these
+    none_of : (j : ℕ) (xs : List ℕ) → ((n : ℕ) → 0 < times n xs → w.before ≤ n) → j < w.before
+        → times j xs ≡ 0
+    none_of j xs behind less = go (cases_lt 0 (times j xs))
+      where
+        go : (0 < times j xs) ⊎ (times j xs ≤ 0) → times j xs ≡ 0
+        go (inl some) = absurd (let low = behind j some in omega (arith, low, less))
+        go (inr none) = omega (arith, none)
+
+    raised_behind : (n : ℕ) → 0 < times n ks → w.before ≤ n
+    raised_behind n some = h.places.lists.raised.behind n
+        (let both = times-append n ks rest in
+        let all = ap (λ xs. times n xs) (take-append-drop named p.reserves.raised) in
+        omega (arith, some, both, all))
+
+    final_outside : (j : ℕ) → j < w.before
+        → (bucket_of final j).mark ≡ (bucket_of p.buckets j).mark
+    final_outside j less =
+        ap (λ (xs : List Bucket). (get_or xs j no_bucket).mark) (touched_records new settled)
+        ∙ ap (λ (b : Bucket). b.mark)
+        (all_else made_ready ks given j (none_of j ks raised_behind less)
+        ∙ all_else unmarked old freed j (none_of j old old_are.behind less)
+        ∙ all_else chained new p.buckets j (none_of j new new_are.behind less))
+
+    -- ---- the chain in hand
+
+    abbrev last : Books
+    last = all_ready w.flow.books then_ (listings w.before ks lists)
+
+    next_only : (o : Option ℕ) → o ≡ Some (suc k.chains.ready)
+        → given_up k.chains.ready o ≡ Some (suc k.chains.ready)
+    next_only None is = absurd (never_none is)
+      where
+        never_none : None ≡ Some (suc k.chains.ready) → ⊥
+        never_none e = cc
+    next_only (Some c) is = by_test c k.chains.ready
+        (λ b. (if b then None else Some c) ≡ Some (suc k.chains.ready))
+        (λ e. absurd (let own : c ≡ suc k.chains.ready = cc in omega (arith, own, e)))
+        (λ ne. is)
+
+    then_next : (o : Option ℕ) → given_up k.chains.ready o ≡ Some (suc k.chains.ready)
+        → o ≡ Some (suc k.chains.ready)
+    then_next None is = absurd (never_none is)
+      where
+        never_none : None ≡ Some (suc k.chains.ready) → ⊥
+        never_none e = cc
+    then_next (Some c) is = by_test c k.chains.ready
+        (λ b. (if b then None else Some c) ≡ Some (suc k.chains.ready)
+        → Some c ≡ Some (suc k.chains.ready))
+        (λ e wrong. absurd (never_none wrong)) (λ ne same. same) is
+      where
+        never_none : None ≡ Some (suc k.chains.ready) → ⊥
+        never_none e = cc
+
+    chain_then : IsChainOf w.before w.flow.books.sets last.chains.of last.chains.ready
+        last.chains.sealed r.chain.items r.renewing
+    chain_then = subst (λ (c : Chains). IsChainOf w.before w.flow.books.sets c.of c.ready c.sealed
+        r.chain.items r.renewing)
+        (sym (all_ready_chains w.flow.books (listings w.before ks lists) then_))
+        (subst (λ (b : Bool). IsChainOf w.before w.flow.books.sets then_.chains.of
+        then_.chains.ready then_.chains.sealed r.chain.items b) (sym f.renewing)
+        (subst (λ (c : Vec ℕ Global). IsChainOf w.before w.flow.books.sets then_.chains.of
+        then_.chains.ready then_.chains.sealed c.items false) (sym f.chain) (record {
+          buckets = same w.before new (λ q. k.chains.of q ≡ Some (suc k.chains.ready))
+              (λ q. then_.chains.of q ≡ Some (suc k.chains.ready)) new_are
+              (λ q is. next_only (k.chains.of q) is) (λ q is. then_next (k.chains.of q) is);
+          once = its.next.once;
+          many = its.next.many;
+          rest = its.next.rest;
+        })))
+
+    -- ---- the trace round
+
+    abbrev in_next : ℕ → Bool
+    in_next q = is_chain (k.chains.of q) (suc k.chains.ready)
+
+    is_in_next : (q : ℕ) → (0 < times (w.before + q) new) ⊎ (times (w.before + q) new ≤ 0)
+        → w.before + q < length p.buckets.records
+        → is_touched final (w.before + q) ≡ (in_next q || k.round.touched q)
+    is_in_next q (inl some) within =
+        touched_there new settled (w.before + q) long some
+        ∙ ap (λ b. b || k.round.touched q) (sym (chain_yes (k.chains.of q) (new_are.each q some)))
+      where
+        chain_yes : (o : Option ℕ) → o ≡ Some (suc k.chains.ready)
+            → is_chain o (suc k.chains.ready) ≡ true
+        chain_yes o is = ap (λ c. is_chain c (suc k.chains.ready)) is
+            ∙ by_test (suc k.chains.ready) (suc k.chains.ready) (λ b. b ≡ true) (λ _. refl)
+            (λ ne. absurd (ne refl))
+
+        long : w.before + q < length settled.touched
+        long = let each = h.round.each in
+            let same = settled_touched in
+            let many = ap (λ (xs : List Bool). length xs) same in omega (arith, each, many, within)
+    is_in_next q (inr none) within =
+        touched_else new settled (w.before + q) (omega (arith, none))
+        ∙ ap (λ (xs : List Bool). get_or xs (w.before + q) false) settled_touched
+        ∙ h.round.touches q within
+        ∙ ap (λ b. b || k.round.touched q) (sym (chain_no (k.chains.of q)
+        (λ e. (let some = new_are.all q e in omega (arith, some, none)))))
+      where
+        chain_no : (o : Option ℕ) → (o ≡ Some (suc k.chains.ready) → ⊥)
+            → is_chain o (suc k.chains.ready) ≡ false
+        chain_no None wrong = refl
+        chain_no (Some c) wrong = by_test c (suc k.chains.ready) (λ b. b ≡ false)
+            (λ e. absurd (wrong (ap Some e))) (λ _. refl)
+
+    round_then : IsRoundOf w.flow.books w.before (length r.buckets.records) last.round
+        r.buckets.touched r.round
+    round_then = subst (λ (b : Buckets). IsRoundOf w.flow.books w.before (length b.records)
+        last.round b.touched r.round) (sym f.buckets)
+        (subst (λ (t : Tracing). IsRoundOf w.flow.books w.before (length final.records) last.round
+        final.touched t) (sym f.round)
+        (subst (λ n. IsRoundOf w.flow.books w.before n last.round final.touched p.round)
+        (sym final_length)
+        (subst (λ (c : Round). IsRoundOf w.flow.books w.before (length p.buckets.records) c
+        final.touched p.round)
+        (sym (all_ready_round w.flow.books (listings w.before ks lists) then_))
+        (touched_round w.flow.books w.before k.round p.round
+        (λ q. in_next q || k.round.touched q) (length p.buckets.records) p.buckets.touched
+        final.touched long (λ q within. is_in_next q (cases_lt 0 (times (w.before + q) new)) within)
+        h.round))))
+      where
+        long : length final.touched ≡ length p.buckets.records
+        long = touched_long new settled ∙ ap (λ (xs : List Bool). length xs) settled_touched
+            ∙ h.round.each
 
     pub ready_after : AreBucketsOf w (books_of (core.after o.opening (replay o x.log)
         (ready_by i back listing)).machine) r
@@ -407,4 +581,10 @@ module _ (x : World) (o : Origin) (is : IsOrigin x o) (on : IsCourseOf o x.log) 
       data_from = ap (λ (b : Buckets). b.data_from) f.buckets ∙ final_data ∙ h.data_from;
       records = are_final.records;
       places = are_final.places;
+      outside = λ j less. ap (λ (b : Buckets). (bucket_of b j).mark) f.buckets
+          ∙ final_outside j less ∙ h.outside j less;
+      room = ap (λ (x : Reserves). (list_of list.Priorities x).room) f.reserves
+          ∙ stored_all_room ks lists ∙ returned_all_room old p.reserves.lists ∙ h.room;
+      chain = chain_then;
+      round = round_then;
     })

@@ -7,6 +7,8 @@ pub mod Goes
 pub mod Put
 pub mod All
 pub mod Chain
+pub mod Touched
+pub mod Going
 pub mod Core
 pub mod Law
 pub use Rattle.bc_machine.proofs as of_bc_machine

@@ -1,12 +1,13 @@
 -- A bucket is raised: when that may be, and what the buckets in hand stand for then.
 use Rattle.std.proofs.Common.{◌≡◌, ◌≢◌, ◌⊎◌, inl, inr, ℕ, suc, ◌+◌, ◌-◌, ◌*◌, ◌%◌, ◌<◌, ◌≤◌, Bool, true, false, List, [], ◌∷◌, ◌++◌, length, refl, sym, ap, ◌∙◌, subst, arith}
 use Rattle.std.specs.Prelude.{if◌then◌else◌}
-use Rattle.std.proofs.lemmas.Bool.{cases_eq}
+use Rattle.std.proofs.lemmas.Bool.{cases_eq, cases_lt}
 use Rattle.std.proofs.lemmas.Grind.{common_steps}
 use Rattle.bc_alloc.proofs.Fits.{other_stays, same_length, this_changes}
 use Rattle.bc_alloc.proofs.Times.{by_test, times-append}
 use Rattle.bc_alloc.specs.Reserve.{times}
 use Rattle.bc_alloc.specs.Reserves.{Reserves, list_of}
+use Rattle.bc_alloc.specs.Victims.{IsCandidate}
 use Rattle.bc_alloc.specs.declared.purpose.Purpose.{Purpose}
 use Rattle.bc_alloc.specs.declared.purpose.Purpose.TheVariants as list
 use Rattle.bc_books.specs.After as books
@@ -27,6 +28,7 @@ use Rattle.bc_fill.specs.Fresh.{IsFreeIn}
 use Rattle.bc_fill.specs.declared.fill.Open as fill
 use Rattle.bc_key.specs.Generation.{behind}
 use Rattle.bc_leaves.proofs.Chains.{put_else, put_there}
+use Rattle.bc_machine.proofs.Buckets.{chain_stays, mark_stays, round_stays}
 use Rattle.bc_machine.specs.Containers.{AreBucketsOf, IsBucketFor, is_held, mark_of, pins_in}
 use Rattle.bc_machine.specs.World.{IsCourseOf, IsOrigin, Origin, World, replay}
 use Rattle.bc_machine.specs.declared.part.BucketsPart.{BucketsPart}
@@ -38,7 +40,7 @@ use Rattle.bc_places.specs.Stands.{AreJust, IsCutInto, StandFor}
 use Rattle.bc_shares.specs.Shares.{books_of, buckets_in}
 use Rattle.bc_whole.specs.State as whole
 use Rattle.bc_renew.specs.Laws.{raise_by}
-use Rattle.bc_renew.specs.Raised.{HasRaised, MayRaise}
+use Rattle.bc_renew.specs.Raised.{HasRaised}
 use Rattle.bc_renew.proofs.Inside.{sectors_inside}
 use Rattle.bc_renew.proofs.Joined.{joined}
 use Rattle.bc_renew.proofs.Pins.{fresh_pins, none_pinned, same_pins}
@@ -93,7 +95,7 @@ list_for shelf.Plain = (list.Plain, refl)
 
 module _ (x : World) (o : Origin) (is : IsOrigin x o) (on : IsCourseOf o x.log) (p : BucketsPart)
     (h : AreBucketsOf o.opening.machine (books_of (replay o x.log).machine) p) (i n : ℕ)
-    (may : MayRaise o.opening.machine.before p n) where
+    (may : IsCandidate p.reserves p.buckets n) where
   abbrev w : whole.Opening
   w = o.opening.machine
 
@@ -106,11 +108,19 @@ module _ (x : World) (o : Origin) (is : IsOrigin x o) (on : IsCourseOf o x.log) 
   abbrev q : ℕ
   q = n - w.before
 
+  -- the buckets before the core's are metadata
+  low : w.before ≤ n
+  low = go (cases_lt n w.before)
+    where
+      go : (n < w.before) ⊎ (w.before ≤ n) → w.before ≤ n
+      go (inl less) = absurd (subst IsFree (h.outside n less) may.reclaimable.free)
+      go (inr le) = le
+
   at : w.before + q ≡ n
-  at = counted w.before n may.low
+  at = counted w.before n low
 
   within : w.before + q < length p.buckets.records
-  within = let there = may.candidate.there in let e = at in omega (arith, there, e)
+  within = let there = may.there in let e = at in omega (arith, there, e)
 
   below : q < w.layout.buckets
   below = let many = h.cut.buckets in let there = within in omega (arith, many, there)
@@ -123,7 +133,7 @@ module _ (x : World) (o : Origin) (is : IsOrigin x o) (on : IsCourseOf o x.log) 
   its = h.records q within
 
   free : IsReclaimable (bucket_of p.buckets (w.before + q))
-  free = subst (λ m. IsReclaimable (bucket_of p.buckets m)) (sym at) may.candidate.reclaimable
+  free = subst (λ m. IsReclaimable (bucket_of p.buckets m)) (sym at) may.reclaimable
 
   -- ---- when it may be
 
@@ -131,14 +141,14 @@ module _ (x : World) (o : Origin) (is : IsOrigin x o) (on : IsCourseOf o x.log) 
   unlisted x is =
       let l = list_for x in
       let some = (h.places.lists.lists l.0).all q (is ∙ ap Listed (sym l.1)) in
-      let none = on_no_list p.reserves l.0 n may.candidate.loose in
+      let none = on_no_list p.reserves l.0 n may.loose in
       let e = ap (λ m. times m (list_of l.0 p.reserves).buckets) at in
       absurd (omega (arith, some, none, e))
 
   unraised : k.shelf q ≡ Raised → ⊥
   unraised is =
       let some = h.places.lists.raised.all q is in
-      let none = may.candidate.loose in
+      let none = may.loose in
       let e = ap (λ m. times m p.reserves.raised) at in
       absurd (omega (arith, some, none, e))
 
@@ -278,7 +288,7 @@ module _ (x : World) (o : Origin) (is : IsOrigin x o) (on : IsCourseOf o x.log) 
       (pins_in then_.owner ((w.before + m) * size) size) (bucket_of final (w.before + m))) (sym e)
       (subst (IsBucketFor (w.flow.books.version q) q (buckets_in then_)
       (pins_in then_.owner ((w.before + q) * size) size))
-      (sym (ap (bucket_of final) at ∙ this_changes raised n p.buckets may.candidate.there
+      (sym (ap (bucket_of final) at ∙ this_changes raised n p.buckets may.there
       ∙ ap (λ m. raised (bucket_of p.buckets m)) (sym at))) record_there)
   record_then j there (inr ne) = subst (IsBucketFor (w.flow.books.version j) j (buckets_in then_)
       (pins_in then_.owner ((w.before + j) * size) size))
@@ -297,21 +307,21 @@ module _ (x : World) (o : Origin) (is : IsOrigin x o) (on : IsCourseOf o x.log) 
 
   opens_then : AreJust w.before (bucket_numbers p.fill) (λ j. then_.shelf j ≡ Open)
   opens_then = apart w.before n (bucket_numbers p.fill) (λ j. k.shelf j ≡ Open)
-      (λ j. then_.shelf j ≡ Open) may.low h.places.opens.buckets
+      (λ j. then_.shelf j ≡ Open) low h.places.opens.buckets
       (loose_other (k.shelf q) loose).0 (λ j ne is. shelf_else j ne ∙ is)
       (λ j ne is. sym (shelf_else j ne) ∙ is) (raised_other (then_.shelf q) shelf_there).0
 
   lists_then : (l : Purpose) → AreJust w.before (list_of l p.reserves).buckets
       (λ j. then_.shelf j ≡ Listed (purpose_of l))
   lists_then l = apart w.before n (list_of l p.reserves).buckets
-      (λ j. k.shelf j ≡ Listed (purpose_of l)) (λ j. then_.shelf j ≡ Listed (purpose_of l)) may.low
+      (λ j. k.shelf j ≡ Listed (purpose_of l)) (λ j. then_.shelf j ≡ Listed (purpose_of l)) low
       (h.places.lists.lists l) ((loose_other (k.shelf q) loose).1.0 (purpose_of l))
       (λ j ne is. shelf_else j ne ∙ is) (λ j ne is. sym (shelf_else j ne) ∙ is)
       ((raised_other (then_.shelf q) shelf_there).1 (purpose_of l))
 
   raised_then : AreJust w.before (p.reserves.raised ++ n ∷ []) (λ j. then_.shelf j ≡ Raised)
   raised_then = joined w.before n p.reserves.raised (p.reserves.raised ++ n ∷ [])
-      (λ j. k.shelf j ≡ Raised) (λ j. then_.shelf j ≡ Raised) may.low h.places.lists.raised
+      (λ j. k.shelf j ≡ Raised) (λ j. then_.shelf j ≡ Raised) low h.places.lists.raised
       (λ j. times-append j p.reserves.raised (n ∷ [])) (λ j ne on. shelf_else j ne ∙ on)
       (λ j ne on. sym (shelf_else j ne) ∙ on) shelf_there
 
@@ -362,4 +372,11 @@ module _ (x : World) (o : Origin) (is : IsOrigin x o) (on : IsCourseOf o x.log) 
           (sym f.buckets)
           (subst (λ (fs : List fill.Open). StandFor w.before size fs r.reserves then_) (sym f.fill)
           (places_then r.reserves f.reserves));
+      outside = λ j less. ap (λ (b : Buckets). (bucket_of b j).mark) f.buckets
+          ∙ mark_stays raised (λ x. refl) n p.buckets j ∙ h.outside j less;
+      room = ap (λ (x : Reserves). (list_of list.Priorities x).room) f.reserves ∙ h.room;
+      chain = chain_stays w.before w.flow.books.sets k.chains.of k.chains.ready k.chains.sealed p r
+          f.rest h.chain;
+      round = round_stays w.flow.books w.before k.round p r final f.rest f.buckets
+          (same_length raised n p.buckets) refl h.round;
     }

@@ -1,8 +1,9 @@
 -- When the core allows it that a bucket is raised, or that buckets are made ready, and what the
 -- buckets in hand stand for then.
-use Rattle.std.specs.Prelude.{◌≡◌, ℕ, ◌-◌, List, [], ◌∷◌, take, Vec, false}
+use Rattle.std.specs.Prelude.{◌≡◌, ℕ, ◌-◌, [], ◌∷◌, take, Vec, false}
 use Rattle.std.specs.declared.alloc.Global.{Global}
 use Rattle.bc_alloc.specs.Reserves.{returned_all}
+use Rattle.bc_alloc.specs.Victims.{IsCandidate}
 use Rattle.bc_events.specs.Run as core
 use Rattle.bc_events.specs.declared.event.Deed.TheVariants as deed
 use Rattle.bc_events.specs.declared.event.Event.{Event}
@@ -12,8 +13,8 @@ use Rattle.bc_machine.specs.World.{IsCourseOf, IsOrigin, Origin, World, replay}
 use Rattle.bc_machine.specs.declared.part.BucketsPart.{BucketsPart}
 use Rattle.bc_shares.specs.Shares.{books_of}
 use Rattle.bc_renew.specs.Goes.{given_back, listings}
-use Rattle.bc_renew.specs.Raised.{HasRaised, MayRaise}
-use Rattle.bc_renew.specs.Ready.{CanReady, HasMadeReady, MayReady}
+use Rattle.bc_renew.specs.Raised.{HasRaised}
+use Rattle.bc_renew.specs.Ready.{CanGo, HasMadeReady, MayReady}
 
 -- A seat has these buckets in hand, in a state of a run.
 pub record HasBuckets (x : World) (o : Origin) (p : BucketsPart) : Type 0 where
@@ -31,24 +32,30 @@ pub record Allows (x : World) (o : Origin) (e : Event) (q : BucketsPart → Type
 abbrev pub raise_by : (i before n : ℕ) → Event
 raise_by i before n = record { seat = i; deed = deed.Raise (n - before) }
 
--- A bucket may be raised that the containers would give up: whether a place of it is pinned, and
--- which mark it has, they know.
+-- A bucket may be raised that the containers would give up: that the core counts it, whether a place
+-- of it is pinned, and which mark it has, they know.
 abbrev pub LawRaise : Type 0
 LawRaise = (x : World) (o : Origin) (p : BucketsPart) (i n : ℕ) → HasBuckets x o p
-    → MayRaise o.opening.machine.before p n
+    → IsCandidate p.reserves p.buckets n
     → Allows x o (raise_by i o.opening.machine.before n) (HasRaised p (n ∷ []))
+
+-- The chain in hand may go, and the next one with it.
+abbrev pub LawGo : Type 0
+LawGo = (x : World) (o : Origin) (p : BucketsPart) (i named : ℕ) (new : Vec ℕ Global)
+    → HasBuckets x o p
+    → MayReady i (take named p.reserves.raised) new.items o (replay o x.log)
+    → CanGo p new.items
 
 abbrev pub ready_by : ℕ → Vec ℕ Global → Vec Listing Global → Event
 ready_by i back listed = record { seat = i; deed = deed.Ready back listed }
 
 -- What an entry with a new chain allows may be made ready, where the event says just which buckets
--- of the chain before go back, and to which list each named one goes.
+-- of the chain in hand go back, and to which list each named one goes.
 abbrev pub LawReady : Type 0
-LawReady = (x : World) (o : Origin) (p : BucketsPart) (i named : ℕ) (old new : List ℕ)
+LawReady = (x : World) (o : Origin) (p : BucketsPart) (i named : ℕ) (new : Vec ℕ Global)
     (back : Vec ℕ Global) (listed : Vec Listing Global) → HasBuckets x o p
-    → CanReady p named old new
-    → MayReady i (take named p.reserves.raised) old new o (replay o x.log)
-    → back.items ≡ given_back o.opening.machine.before old p.reserves.lists
+    → MayReady i (take named p.reserves.raised) new.items o (replay o x.log)
+    → back.items ≡ given_back o.opening.machine.before p.chain.items p.reserves.lists
     → listed.items ≡ listings o.opening.machine.before (take named p.reserves.raised)
-    (returned_all old p.reserves.lists)
-    → Allows x o (ready_by i back listed) (HasMadeReady p named old new)
+    (returned_all p.chain.items p.reserves.lists)
+    → Allows x o (ready_by i back listed) (HasMadeReady p named new)

@@ -1,20 +1,10 @@
--- A bucket that nothing needs is raised: what is known of it in hand, and what is in hand then.
-use Rattle.std.specs.Prelude.{◌≡◌, ℕ, ◌<◌, ◌≤◌, List, ◌++◌}
+-- A bucket that nothing needs is raised: what is in hand then. That it may be given up and is on no
+-- list, the containers say (`IsCandidate`), and which ones a refill raises (`AreVictims`).
+use Rattle.std.specs.Prelude.{◌≡◌, ℕ, List, ◌++◌}
 use Rattle.bc_alloc.specs.Buckets.{all_changed}
-use Rattle.bc_alloc.specs.Reserve.{times}
-use Rattle.bc_alloc.specs.Victims.{AreVictims, IsCandidate}
 use Rattle.bc_bucket.specs.Bucket.{raised}
+use Rattle.bc_machine.specs.Containers.{SameRest}
 use Rattle.bc_machine.specs.declared.part.BucketsPart.{BucketsPart}
-
--- The bucket may be given up and is on no list, by what is in hand; it is one that the core counts.
-pub record MayRaise (before : ℕ) (p : BucketsPart) (n : ℕ) : Type 0 where
-  pub low : before ≤ n
-  pub candidate : IsCandidate p.reserves p.buckets n
-
--- The victims of a refill, each of which the core counts.
-pub record AreRaisable (before : ℕ) (p : BucketsPart) (ns : List ℕ) : Type 0 where
-  pub low : (n : ℕ) → 0 < times n ns → before ≤ n
-  pub victims : AreVictims p.reserves p.buckets ns
 
 -- These buckets were raised, in order: each has its next generation, and is behind those that were
 -- raised before it.
@@ -22,3 +12,4 @@ pub record HasRaised (p : BucketsPart) (ns : List ℕ) (q : BucketsPart) : Type 
   pub reserves : q.reserves ≡ record p.reserves { raised = p.reserves.raised ++ ns }
   pub buckets : q.buckets ≡ all_changed raised ns p.buckets
   pub fill : q.fill ≡ p.fill
+  pub rest : SameRest p q

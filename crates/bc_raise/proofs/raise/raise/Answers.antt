@@ -1,12 +1,12 @@
 use Rattle.std.proofs.Common.{Some, refl, sym, ap, ◌∙◌, subst}
 use Rattle.bc_place.specs.bc_machine.declared.part.BucketsPart.{BucketsPart}
-use Rattle.bc_renew.specs.Raised.{MayRaise}
+use Rattle.bc_alloc.specs.Victims.{IsCandidate}
 use Rattle.bc_raise.proofs.InHand.{on_ok, same_some, works_anew}
 use Rattle.bc_raise.proofs.raise.raise.Goals as goal
 
 pub raise_in-done-requires-clause-may : goal.raise_in-done-requires-clause-may
-raise_in-done-requires-clause-may g c = subst (λ (p : BucketsPart). MayRaise c.args.before p
-    c.args.bucket)
+raise_in-done-requires-clause-may g c = subst (λ (p : BucketsPart). IsCandidate p.reserves
+    p.buckets c.args.bucket)
     (same_some c.args.hand.now.buckets c.requires.may.0 c.get_mut.result.now c.requires.may.1
     (sym c.take.ensures.value ∙ c.in-Some.is ∙ ap Some (sym c.get_mut.ensures.part)))
     c.requires.may.2

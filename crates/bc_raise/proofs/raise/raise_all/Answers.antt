@@ -14,14 +14,14 @@ loop-bucket-init g c =
       c.requires.works,
       omega arith,
       c.requires.before,
-      raised_none c.args.before c.args.victims.now c.args.hand.now c.requires.victims.0
+      raised_none c.args.victims.now c.args.hand.now c.requires.victims.0
           c.requires.victims.1 c.requires.victims.2,
       done_first cf bf None v v (did_nothing cf bf v c.requires.works.seat),
       keeps_nothing cf bf v c.requires.works.seat,
     )
 
 pub raise-requires-clause-may : goal.raise-requires-clause-may
-raise-requires-clause-may g c = next_may c.args.before c.args.victims.now c.loop-bucket.bucket-index
+raise-requires-clause-may g c = next_may c.args.victims.now c.loop-bucket.bucket-index
     (get_or c.args.victims.now c.loop-bucket.bucket-index 0) c.args.hand.now c.loop-bucket.hand
     c.loop-bucket-test.true refl c.loop-bucket.invariant.3
 
@@ -49,7 +49,7 @@ loop-bucket-preserved g c =
       c.raise.ensures.works,
       omega (arith, spent, left),
       c.raise.ensures.keeps.opening.before c.args.before l.invariant.2,
-      raised_next c.args.before ns i n c.args.hand.now l.hand c.raise.new.hand
+      raised_next ns i n c.args.hand.now l.hand c.raise.new.hand
           c.loop-bucket-test.true refl l.invariant.3 c.in-Ok.ensures.part,
       done_more cf bf c.args.before ns i n c.args.seat.now l.seat next c.loop-bucket-test.true refl
           l.invariant.4 c.in-Ok.ensures.ok,
@@ -57,6 +57,6 @@ loop-bucket-preserved g c =
     )
 
 pub returns-clause-part : goal.returns-clause-part
-returns-clause-part g c = raised_all c.args.before c.args.victims.now c.loop-bucket.bucket-index
+returns-clause-part g c = raised_all c.args.victims.now c.loop-bucket.bucket-index
     c.args.hand.now c.loop-bucket.hand (let end = c.loop-bucket-test.false in omega (arith, end))
     c.loop-bucket.invariant.3

@@ -12,7 +12,7 @@ abbrev pub invariant-loop-bucket : goal.invariant-loop-bucket
 invariant-loop-bucket g l = Works g.C.Disk.facts g.B.Disk.facts l.parts l.seat l.hand
     × (l.initial.seat.promises ≤ l.seat.promises + l.bucket-index)
     × FromEach (world g.C.Disk.facts g.B.Disk.facts l.seat) (HasBefore l.before)
-    × AreRaisedTo l.before l.victims l.bucket-index l.initial.hand l.hand
+    × AreRaisedTo l.victims l.bucket-index l.initial.hand l.hand
     × HasDone g.C.Disk.facts g.B.Disk.facts (raises l.before (take l.bucket-index l.victims))
     l.initial.seat l.seat
     × KeepsPlaces g.C.Disk.facts g.B.Disk.facts l.initial.seat l.seat

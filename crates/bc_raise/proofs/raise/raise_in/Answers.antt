@@ -1,17 +1,17 @@
-use Rattle.std.proofs.Common.{refl}
 use Rattle.bc_raise.proofs.of_bc_deed.May.{kept_as}
 use Rattle.bc_place.proofs.Keeping.{keeps_waited}
 use Rattle.bc_place.proofs.Knowing.{buckets_since}
 use Rattle.bc_place.proofs.Storing.{cached_by}
 use Rattle.bc_place.specs.bc_hand.Seats.{world}
-use Rattle.bc_raise.proofs.Steps.{buckets_changed, keeps_raise, may_do, raised_after}
+use Rattle.bc_raise.proofs.Steps.{buckets_changed, did_raise, keeps_raise, may_do, raised_after}
 use Rattle.bc_raise.proofs.raise.raise_in.Goals as goal
 
 pub commit-requires-clause-may : goal.commit-requires-clause-may
 commit-requires-clause-may g c = may_do g.C.Disk.facts g.B.Disk.facts c.args.seat.now
     c.requires.seat (cached_by g.C.Disk.facts g.B.Disk.facts c.args.parts.now c.args.seat.now
     c.requires.run c.requires.cached) c.requires.holds c.args.part.now c.requires.buckets
-    c.args.before c.requires.before c.args.bucket _ c.requires.may refl
+    c.args.before c.requires.before c.args.bucket c.saturating_sub-number.result c.requires.may
+    c.saturating_sub-number.ensures
 
 pub returns-in-Err-clause-buckets : goal.returns-in-Err-clause-buckets
 returns-in-Err-clause-buckets g c = buckets_since g.C.Disk.facts g.B.Disk.facts c.args.seat.now
@@ -31,9 +31,15 @@ pub returns-clause-buckets : goal.returns-clause-buckets
 returns-clause-buckets g c = raised_after g.C.Disk.facts g.B.Disk.facts c.args.seat.now
     c.requires.seat (cached_by g.C.Disk.facts g.B.Disk.facts c.args.parts.now c.args.seat.now
     c.requires.run c.requires.cached) c.requires.holds c.args.part.now c.requires.buckets
-    c.args.before c.requires.before c.args.bucket _ c.requires.may refl
+    c.args.before c.requires.before c.args.bucket c.saturating_sub-number.result c.requires.may
+    c.saturating_sub-number.ensures
     c.commit.new.seat c.in_default.ensures.ok c.raise_one.new.part c.raise_one.ensures
 
 pub returns-clause-keeps : goal.returns-clause-keeps
 returns-clause-keeps g c = keeps_raise g.C.Disk.facts g.B.Disk.facts c.args.seat.now
     c.commit.new.seat _ c.requires.seat c.in_default.ensures.ok
+
+pub returns-clause-ok : goal.returns-clause-ok
+returns-clause-ok g c = did_raise g.C.Disk.facts g.B.Disk.facts c.args.seat.now c.commit.new.seat
+    c.args.bucket c.args.before c.saturating_sub-number.result c.saturating_sub-number.ensures
+    c.in_default.ensures.ok

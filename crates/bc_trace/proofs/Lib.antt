@@ -1,0 +1,4 @@
+pub mod Going
+pub mod Parting
+pub mod Ending
+pub mod Leafing
