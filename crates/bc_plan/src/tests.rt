@@ -110,7 +110,7 @@ fn plan(
     let needs = spine.rewrite_needs(&old);
     assert!(rt; needs.tree < 8 && needs.moving < 8);
     assert!(rt; to.len() == (needs.tree + needs.moving) as usize);
-    match spine.plan_rewrite(alloc, &old, to, 8) {
+    match spine.plan_rewrite(alloc, &old, to, 8, 1) {
         Ok(plan) => Ok(plan),
         Err(_) => Err(Fail::new("no plan")),
     }

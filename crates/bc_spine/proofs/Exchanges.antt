@@ -5,7 +5,7 @@ use Rattle.std.proofs.lemmas.List.Elements.{All-cons, All-nil, Contains-get_or}
 use Rattle.std.proofs.lemmas.List.Kept.{AllPairs-cons}
 use Rattle.bc_spine.specs.declared.leaf.LeafRange.{LeafRange}
 use Rattle.bc_spine.specs.Leaves.{IsRow, EndsAtCut, HaveTwoNumbers, AreLeaves, CanReplace}
-use Rattle.bc_spine.specs.Numbers.{IsLeastFree}
+use Rattle.bc_spine.specs.Numbers.{HasNumber, IsLeastFree}
 use Rattle.bc_spine.proofs.Lists.{AllPairs-append}
 
 pub one_there : (xs : List LeafRange) (n : ℕ) (x : LeafRange) → slice_get xs n ≡ Some x → take 1 (drop n xs) ≡ x ∷ []
@@ -20,13 +20,16 @@ two_there (z ∷ w ∷ xs) zero x y is next = let e : z ≡ x = cc in let f : w 
 two_there (z ∷ xs) (suc n) x y is next = two_there xs n x y is next
 
 -- a leaf that comes has a number that none of these has
+pub unlike : (xs : List LeafRange) (x : LeafRange) → ¬ (HasNumber xs x.number) → All (λ y. HaveTwoNumbers y x) xs
+unlike xs x free k d inside same = free (get_or xs k d, Contains-get_or xs k d inside, same)
+
 pub fresh : (xs : List LeafRange) (n : ℕ) (x : LeafRange) → IsLeastFree xs n x.number → All (λ y. HaveTwoNumbers y x) xs
 fresh xs n x least k d inside same = least.free (get_or xs k d, Contains-get_or xs k d inside, same)
 
-pub one_comes : (xs : List LeafRange) (x : LeafRange) → AllPairs HaveTwoNumbers xs → IsLeastFree xs 0 x.number → AllPairs HaveTwoNumbers (xs ++ x ∷ [])
-one_comes xs x all least =
+pub one_comes : (xs : List LeafRange) (x : LeafRange) → AllPairs HaveTwoNumbers xs → ¬ (HasNumber xs x.number) → AllPairs HaveTwoNumbers (xs ++ x ∷ [])
+one_comes xs x all free =
     AllPairs-append HaveTwoNumbers xs (x ∷ []) all (λ i j d before inside. absurd (omega arith))
-    (λ k d inside. All-cons (HaveTwoNumbers (get_or xs k d)) x [] (fresh xs 0 x least k d inside) (All-nil (HaveTwoNumbers (get_or xs k d))))
+    (λ k d inside. All-cons (HaveTwoNumbers (get_or xs k d)) x [] (unlike xs x free k d inside) (All-nil (HaveTwoNumbers (get_or xs k d))))
 
 pub two_come : (xs : List LeafRange) (x y : LeafRange) → AllPairs HaveTwoNumbers xs → IsLeastFree xs 0 x.number → IsLeastFree xs (suc x.number) y.number → AllPairs HaveTwoNumbers (xs ++ x ∷ y ∷ [])
 two_come xs x y all first second =
@@ -56,7 +59,7 @@ split_fits xs end n x low high all is begins some meets more ends cut first seco
 }
 
 -- one leaf gives way to one
-pub move_fits : (xs : List LeafRange) (end n : ℕ) (x new : LeafRange) → AreLeaves xs end → slice_get xs n ≡ Some x → new.from ≡ x.from → new.end ≡ x.end → IsLeastFree xs 0 new.number → CanReplace xs (take 1 (drop n xs)) (new ∷ [])
+pub move_fits : (xs : List LeafRange) (end n : ℕ) (x new : LeafRange) → AreLeaves xs end → slice_get xs n ≡ Some x → new.from ≡ x.from → new.end ≡ x.end → ¬ (HasNumber xs new.number) → CanReplace xs (take 1 (drop n xs)) (new ∷ [])
 move_fits xs end n x new all is begins ends first = record {
   same_range = λ a b row. let old = subst (λ (ys : List LeafRange). IsRow a ys b) (one_there xs n x is) row in
       (begins ∙ old.0, omega (arith, old.1, ends), ends ∙ old.2);
@@ -70,5 +73,5 @@ merge_fits xs end n x y new all is next begins ends first = record {
   same_range = λ a b row. let old = subst (λ (ys : List LeafRange). IsRow a ys b) (two_there xs n x y is next) row in
       (begins ∙ old.0, omega (arith, old.1, old.2.1, ends), ends ∙ old.2.2);
   cuts = All-cons EndsAtCut new [] (ap (λ m. m % 256) ends ∙ cut_there xs (suc n) y all.cuts next) (All-nil EndsAtCut);
-  numbers = one_comes xs new all.numbers first;
+  numbers = one_comes xs new all.numbers first.free;
 }

@@ -5,7 +5,7 @@ use Rattle.bc_model.specs.Pieces.{piece_sectors}
 use Rattle.bc_spine.specs.declared.exchange.Exchange.{Exchange}
 use Rattle.bc_spine.specs.declared.leaf.LeafRange.{LeafRange}
 use Rattle.bc_spine.specs.Leaves.{CanReplace}
-use Rattle.bc_spine.specs.Numbers.{IsLeastFree}
+use Rattle.bc_spine.specs.Numbers.{IsLeastAlike, IsLeastFree}
 
 -- the leaves that go, of these, and those that come
 abbrev pub going : List LeafRange → Exchange → List LeafRange
@@ -49,15 +49,16 @@ pub record IsSplit (leaves : List LeafRange) (place cut : ℕ) (low high : Ptr) 
   pub second : (other : LeafRange) × (e.second ≡ Some other) × Takes cut leaf.end high other
   pub numbers : HaveLeastNumbers leaves e
 
--- one leaf moves
-pub record IsMoved (leaves : List LeafRange) (place : ℕ) (ptr : Ptr) (e : Exchange) : Type 0 where
+-- One leaf moves. Its number leaves the rest that the one before left, by so many parts.
+pub record IsMoved (leaves : List LeafRange) (place parts : ℕ) (ptr : Ptr) (e : Exchange) :
+    Type 0 where
   pub at : e.place ≡ place
   pub gone : e.gone ≡ 1
   pub leaf : LeafRange
   pub there : slice_get leaves place ≡ Some leaf
   pub moved : Takes leaf.from leaf.end ptr e.first
   pub alone : option_to_list e.second ≡ []
-  pub numbers : HaveLeastNumbers leaves e
+  pub number : IsLeastAlike leaves parts (leaf.number % parts) e.first.number
 
 -- one leaf and the next become one
 pub record IsMerged (leaves : List LeafRange) (place : ℕ) (ptr : Ptr) (e : Exchange) : Type 0 where

@@ -1,5 +1,5 @@
 -- The numbers of leaves, and those that are free.
-use Rattle.std.specs.Prelude.{◌≡◌, ℕ, ◌<◌, ◌≤◌, List, Contains}
+use Rattle.std.specs.Prelude.{◌≡◌, ℕ, ◌%◌, ◌<◌, ◌≤◌, List, Contains}
 use Rattle.bc_spine.specs.declared.leaf.LeafRange.{LeafRange}
 
 -- some leaf has this number
@@ -11,3 +11,9 @@ pub record IsLeastFree (leaves : List LeafRange) (n number : ℕ) : Type 0 where
   pub from : n ≤ number
   pub free : ¬ (HasNumber leaves number)
   pub least : (k : ℕ) → n ≤ k → k < number → HasNumber leaves k
+
+-- Of the numbers that leave this rest by so many parts, the least one that no leaf has.
+pub record IsLeastAlike (leaves : List LeafRange) (parts rest number : ℕ) : Type 0 where
+  pub alike : number % parts ≡ rest
+  pub free : ¬ (HasNumber leaves number)
+  pub least : (k : ℕ) → k % parts ≡ rest → k < number → HasNumber leaves k

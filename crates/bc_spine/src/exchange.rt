@@ -61,13 +61,14 @@ impl Leaves {
         })
     }
 
-    fn moved(&self, place: usize, to: Ptr) -> Result<Exchange, AllocError>
+    fn moved(&self, place: usize, to: Ptr, parts: u32) -> Result<Exchange, AllocError>
         requires within { place < length self.now.leaves }
-        ensures moved { IfOk result (IsMoved self.now.leaves place to) }
+        requires parts { 0 < parts }
+        ensures moved { IfOk result (IsMoved self.now.leaves place parts to) }
         ensures fits { IfOk result (IsFor self.now.leaves) }
     {
         let leaf = self.leaf(place);
-        let number = self.least_free(0)?;
+        let number = self.least_alike(leaf.number, parts)?;
         Ok(Exchange {
             place,
             gone: 1,
@@ -123,11 +124,18 @@ impl Leaves {
         self.split(place, cut, low, high)
     }
 
-    /// Plans to move the leaf at a place to another one of the device. The leaves stay until
-    /// `install`, for which room is made here.
-    pub fn plan_rewrite(&mut self, place: usize, to: Ptr) -> Result<Exchange, AllocError>
+    /// Plans to move the leaf at a place to another one of the device. Its new number leaves the
+    /// rest that the old one leaves by so many parts: so who keeps leaves in parts by their numbers
+    /// keeps it where it was. The leaves stay until `install`, for which room is made here.
+    pub fn plan_rewrite(
+        &mut self,
+        place: usize,
+        to: Ptr,
+        parts: u32,
+    ) -> Result<Exchange, AllocError>
         requires within { place < length self.old.leaves }
-        ensures moved { IfOk result (IsMoved self.new.leaves place to) }
+        requires parts { 0 < parts }
+        ensures moved { IfOk result (IsMoved self.new.leaves place parts to) }
         ensures fits { IfOk result (IsFor self.new.leaves) }
         ensures room { OnOk result (1 ≤ self.new.spare) }
         ensures leaves { self.new.leaves ≡ self.old.leaves }
@@ -135,7 +143,7 @@ impl Leaves {
         ensures raised { self.old.spare ≤ self.new.spare }
     {
         self.reserve(1)?;
-        self.moved(place, to)
+        self.moved(place, to, parts)
     }
 
     /// Plans to make one leaf of the one at a place and the next. The leaves stay until `install`,

@@ -3,10 +3,10 @@ ghost use Rattle.std.specs.Prelude.{◌≡◌, ℕ, ◌+◌, ◌%◌, ◌^◌, �
 ghost use Rattle.bc_model.specs.Pieces.{piece_sectors};
 ghost use Rattle.bc_spine.specs.declared.leaf.LeafRange.{LeafRange};
 ghost use Rattle.bc_spine.specs.Leaves.{AreCounted, AreLeaves, CanReplace, IsLeafAt, IsNumberAt, IsPushed, Spans};
-ghost use Rattle.bc_spine.specs.Numbers.{IsLeastFree};
+ghost use Rattle.bc_spine.specs.Numbers.{IsLeastAlike, IsLeastFree};
 
 use crate::leaf::LeafRange;
-use crate::numbers::least_free;
+use crate::numbers::{least_alike, least_free};
 use crate::row::{place_of, replace};
 use bc_key::Ptr;
 use std::alloc::{AllocError, Global};
@@ -135,6 +135,15 @@ impl Leaves {
         ensures { IfOk result (IsLeastFree self.now.leaves from) }
     {
         least_free(self.alloc, &self.row, from)
+    }
+
+    /// The least number that no leaf has, of those that leave the rest that this one leaves by so
+    /// many parts.
+    pub fn least_alike(&self, number: u32, parts: u32) -> Result<u32, AllocError>
+        requires { 0 < parts }
+        ensures { IfOk result (IsLeastAlike self.now.leaves parts (number % parts)) }
+    {
+        least_alike(self.alloc, &self.row, parts, number % parts)
     }
 
     /// Takes memory where it lacks, so that `spare` is `more` at least. The leaves stay.

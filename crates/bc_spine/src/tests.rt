@@ -106,7 +106,7 @@ fn plan(
         let e = leaves.plan_merge(place, to)?;
         return Ok(Some(e));
     }
-    let e = leaves.plan_rewrite(place, to)?;
+    let e = leaves.plan_rewrite(place, to, 1)?;
     Ok(Some(e))
 }
 

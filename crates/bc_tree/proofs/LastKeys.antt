@@ -259,8 +259,8 @@ two_come : (e : Exchange) (other y : LeafRange) → e.second ≡ Some other → 
 two_come e other y is comes = two_are e.first other y (subst (λ (o : Option LeafRange). Contains (e.first ∷ option_to_list o) y) is comes)
 
 -- a leaf that moves
-pub moved_stands : (s : Spine) (leaf : Leaf) (to : List Ptr) (seq : ℕ) (plan : Plan) → IsOfSpine s leaf → IsRewrite s leaf to seq plan → StandsInFor s.leaves leaf plan
-moved_stands s leaf to seq plan of is keys has sector o n goes comes =
+pub moved_stands : (s : Spine) (leaf : Leaf) (to : List Ptr) (seq parts : ℕ) (plan : Plan) → IsOfSpine s leaf → IsRewrite s parts leaf to seq plan → StandsInFor s.leaves leaf plan
+moved_stands s leaf to seq parts plan of is keys has sector o n goes comes =
     let e = plan.leaves in
     let moved = is.moves.leaves_are in
     let there = is.stands.there in

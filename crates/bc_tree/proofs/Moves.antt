@@ -83,9 +83,9 @@ same_parent s sector p q spine one two =
 pub one_named : (key : Key) (first : LeafRange) (second rest : List LeafRange) → second ≡ [] → first.end ≡ key.end → first.ptr ≡ ptr_at key 0 → NameLeaves (key ∷ []) (first ∷ second)
 one_named key first second rest none end ptr = subst (λ (ls : List LeafRange). NameLeaves (key ∷ []) (first ∷ ls)) (sym none) (end, ptr, tt)
 
-pub can_move : (s : Spine) (sector : ℕ) (place : LeafPlace) (end : ℕ) (ptr : Ptr) (key : Key) (e : Exchange) → IsSpine s.geometry s.root s.below s.leaves → IsPlaceAt s sector place → IsMovedLeaf s.leaves place.leaf ptr e → IsFor s.leaves e
+pub can_move : (s : Spine) (sector : ℕ) (place : LeafPlace) (parts end : ℕ) (ptr : Ptr) (key : Key) (e : Exchange) → IsSpine s.geometry s.root s.below s.leaves → IsPlaceAt s sector place → IsMovedLeaf s.leaves place.leaf parts ptr e → IsFor s.leaves e
     → end ≡ place.range.end → IsKeyOf end ptr key → CanExchange s e place 1 (key ∷ [])
-can_move s sector place end ptr key e spine is moved fits end_is names =
+can_move s sector place parts end ptr key e spine is moved fits end_is names =
     let same : moved.leaf ≡ place.range = let one = moved.there in let two = is.there in cc in
     let ends : key.end ≡ place.range.end = names.end ∙ end_is in
     record {
@@ -116,11 +116,11 @@ above_kept s t place gone come to seq plan only is =
     let there = subst (λ (v : Spine). IsPlannedAbove v place gone come to seq plan) only is in
     record { place_is = there.place_is; node = there.node; there = there.there; above = record { change_is = there.above.change_is; top_is = there.above.top_is }; beside_is = there.beside_is; moved = there.moved }
 
-pub move_planned : (s t : Spine) (e : Exchange) (first : Leaf) (place : LeafPlace) (key : Key) (to : List Ptr) (seq : ℕ) (ptr : Ptr) → IsSameButSpare s t → IsMovedLeaf t.leaves place.leaf ptr e → ptr ≡ first.ptr
-    → IsKeyOf first.end first.ptr key → (plan : Plan) → IsPlanOf t (record { leaves = e; first = first; second = None }) place 1 (key ∷ []) to seq plan → IsMovePlan s place first to seq plan
-move_planned s t e first place key to seq ptr only moved at names plan is = record {
-  leaves_are = subst (λ (x : Exchange). IsMovedLeaf s.leaves place.leaf first.ptr x) (sym is.leaves_are)
-      (subst (λ (p : Ptr). IsMovedLeaf s.leaves place.leaf p e) at (subst (λ (v : Spine). IsMovedLeaf v.leaves place.leaf ptr e) only moved));
+pub move_planned : (s t : Spine) (e : Exchange) (first : Leaf) (place : LeafPlace) (key : Key) (to : List Ptr) (seq parts : ℕ) (ptr : Ptr) → IsSameButSpare s t → IsMovedLeaf t.leaves place.leaf parts ptr e → ptr ≡ first.ptr
+    → IsKeyOf first.end first.ptr key → (plan : Plan) → IsPlanOf t (record { leaves = e; first = first; second = None }) place 1 (key ∷ []) to seq plan → IsMovePlan s place parts first to seq plan
+move_planned s t e first place key to seq parts ptr only moved at names plan is = record {
+  leaves_are = subst (λ (x : Exchange). IsMovedLeaf s.leaves place.leaf parts first.ptr x) (sym is.leaves_are)
+      (subst (λ (p : Ptr). IsMovedLeaf s.leaves place.leaf parts p e) at (subst (λ (v : Spine). IsMovedLeaf v.leaves place.leaf parts ptr e) only moved));
   first_is = is.first_is;
   alone = is.second_is;
   key = key;

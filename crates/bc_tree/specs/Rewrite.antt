@@ -12,9 +12,9 @@ use Rattle.bc_tree.specs.declared.place.LeafPlace.{LeafPlace}
 use Rattle.bc_tree.specs.Plan.{IsComing, IsKeyOf, IsPlannedAbove, IsTooLarge, moves}
 
 -- a leaf comes in the place of the one that stands here, and nodes above it move to these places
-pub record IsMovePlan (spine : Spine) (place : LeafPlace) (first : Leaf) (to : List Ptr) (seq : ℕ)
+pub record IsMovePlan (spine : Spine) (place : LeafPlace) (parts : ℕ) (first : Leaf) (to : List Ptr) (seq : ℕ)
     (plan : Plan) : Type 0 where
-  pub leaves_are : IsMovedLeaf spine.leaves place.leaf first.ptr plan.leaves
+  pub leaves_are : IsMovedLeaf spine.leaves place.leaf parts first.ptr plan.leaves
   pub first_is : plan.first ≡ first
   pub alone : plan.second ≡ None
   pub key : Key
@@ -22,7 +22,7 @@ pub record IsMovePlan (spine : Spine) (place : LeafPlace) (first : Leaf) (to : L
   pub above : IsPlannedAbove spine place 1 (key ∷ []) to seq plan
 
 -- a leaf moves to the first of these places, and nodes above it to the others
-pub record IsRewrite (spine : Spine) (leaf : Leaf) (to : List Ptr) (seq : ℕ) (plan : Plan)
+pub record IsRewrite (spine : Spine) (parts : ℕ) (leaf : Leaf) (to : List Ptr) (seq : ℕ) (plan : Plan)
     : Type 0 where
   pub place : LeafPlace
   pub stands : IsPlaceAt spine leaf.from place
@@ -30,7 +30,7 @@ pub record IsRewrite (spine : Spine) (leaf : Leaf) (to : List Ptr) (seq : ℕ) (
   pub first_place : slice_get to 0 ≡ Some ptr
   pub leaf_comes : IsComing leaf.keys leaf.from leaf.end ptr seq plan.first
   pub leaf_fits : ¬ (IsFull spine.geometry plan.first)
-  pub moves : IsMovePlan spine place plan.first (drop 1 to) ((seq + 1) % 2 ^ 64) plan
+  pub moves : IsMovePlan spine place parts plan.first (drop 1 to) ((seq + 1) % 2 ^ 64) plan
 
 -- why a leaf isn't moved: the leaf that would come doesn't fit in a node
 abbrev pub IsNotRewritten : Spine → Leaf → PlanError → Type 0

@@ -135,13 +135,19 @@ impl Spine {
     }
 
     /// Plans that the leaf at a place moves.
-    pub(crate) fn move_leaf(&mut self, place: usize, to: Ptr) -> Result<Exchange, AllocError>
-        requires { place < length self.old.leaves }
+    pub(crate) fn move_leaf(
+        &mut self,
+        place: usize,
+        to: Ptr,
+        parts: u32,
+    ) -> Result<Exchange, AllocError>
+        requires place { place < length self.old.leaves }
+        requires parts { 0 < parts }
         ensures only { IsSameButSpare self.old self.new }
-        ensures moved { IfOk result (IsMovedLeaf self.new.leaves place to) }
+        ensures moved { IfOk result (IsMovedLeaf self.new.leaves place parts to) }
         ensures fits { IfOk result (IsFor self.new.leaves) }
     {
-        self.leaves.plan_rewrite(place, to)
+        self.leaves.plan_rewrite(place, to, parts)
     }
 
     /// Plans that the leaf at a place is cut in two at a sector.

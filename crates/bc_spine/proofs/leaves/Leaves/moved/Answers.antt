@@ -10,5 +10,5 @@ returns-clause-fits c =
     let there = is_there c.args.self.now.leaves c.args.place leaf c.leaf-leaf.ensures.leaf in
     record {
       within = omega (arith, there.0);
-      fits = move_fits c.args.self.now.leaves c.args.self.now.end c.args.place leaf new c.leaf-leaf.ensures.all c.leaf-leaf.ensures.leaf refl refl c.in_ok-number.ensures;
+      fits = move_fits c.args.self.now.leaves c.args.self.now.end c.args.place leaf new c.leaf-leaf.ensures.all c.leaf-leaf.ensures.leaf refl refl c.in_ok-number.ensures.free;
     }

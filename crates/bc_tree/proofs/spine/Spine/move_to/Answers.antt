@@ -12,15 +12,15 @@ use Rattle.bc_tree.proofs.Moves.{can_move, if_ok, key_of, move_planned, spine_ke
 use Rattle.bc_tree.proofs.Same.{place_same, same_but_spare, same_twice}
 use Rattle.bc_tree.proofs.spine.Spine.move_to.Goals as goal
 
-pub move_leaf-requires : goal.move_leaf-requires
-move_leaf-requires c = slice_get_within c.args.self.now.leaves c.args.place.now.leaf c.args.place.now.range c.requires.stands.there
+pub move_leaf-requires-clause-place : goal.move_leaf-requires-clause-place
+move_leaf-requires-clause-place c = slice_get_within c.args.self.now.leaves c.args.place.now.leaf c.args.place.now.range c.requires.stands.there
 
 pub plan_siblings-requires-clause-can : goal.plan_siblings-requires-clause-can
 plan_siblings-requires-clause-can c =
     let s = c.args.self.now in
     let t = c.move_leaf.new.self in
     let same = same_but_spare s t c.move_leaf.ensures.only in
-    can_move t c.args.first.from c.args.place.now c.args.first.end c.ptr-2.result c.new-key.result c.in_ok-leaves.leaves (spine_kept s t same c.root.ensures.spine)
+    can_move t c.args.first.from c.args.place.now c.args.parts c.args.first.end c.ptr-2.result c.new-key.result c.in_ok-leaves.leaves (spine_kept s t same c.root.ensures.spine)
     (place_same s t c.args.first.from c.args.place.now same c.requires.stands) c.in_ok-leaves.ensures.moved c.in_ok-leaves.ensures.fits c.requires.end
     (key_of c.new-key.result c.args.first.end c.ptr-2.result (c.new-key.ensures.end ∙ c.end.ensures) (c.new-key.ensures.pointer ∙ ap (λ (p : Ptr). Some p) (c.ptr.ensures ∙ sym c.ptr-2.ensures)) c.new-key.ensures.count)
 
@@ -38,8 +38,8 @@ returns-clause-plan c =
     let t = c.move_leaf.new.self in
     let key = c.new-key.result in
     let first = c.args.first in
-    if_ok c.plan_siblings.result (IsPlanOf t (record { leaves = c.in_ok-leaves.leaves; first = first; second = None }) c.args.place.now 1 (key ∷ []) c.args.to.now c.args.seq) (IsMovePlan s c.args.place.now first c.args.to.now c.args.seq)
-    (move_planned s t c.in_ok-leaves.leaves first c.args.place.now key c.args.to.now c.args.seq c.ptr-2.result c.move_leaf.ensures.only c.in_ok-leaves.ensures.moved c.ptr-2.ensures
+    if_ok c.plan_siblings.result (IsPlanOf t (record { leaves = c.in_ok-leaves.leaves; first = first; second = None }) c.args.place.now 1 (key ∷ []) c.args.to.now c.args.seq) (IsMovePlan s c.args.place.now c.args.parts first c.args.to.now c.args.seq)
+    (move_planned s t c.in_ok-leaves.leaves first c.args.place.now key c.args.to.now c.args.seq c.args.parts c.ptr-2.result c.move_leaf.ensures.only c.in_ok-leaves.ensures.moved c.ptr-2.ensures
     (key_of key first.end first.ptr (c.new-key.ensures.end ∙ c.end.ensures) (c.new-key.ensures.pointer ∙ ap (λ (p : Ptr). Some p) c.ptr.ensures) c.new-key.ensures.count)) c.plan_siblings.ensures.plan
 
 pub returns-clause-tree : goal.returns-clause-tree

@@ -70,6 +70,7 @@ move_to-requires-clause-places c node there =
 pub returns-clause-planned : goal.returns-clause-planned
 returns-clause-planned c =
     let s = c.args.self.now in
+    let parts = c.args.parts in
     let leaf = c.args.leaf.now in
     let to = c.args.to.now in
     let place = c.place-place.result in
@@ -87,8 +88,8 @@ returns-clause-planned c =
       first_place = slice_get_read to (length to) 0 c.index-to-0.result refl (omega (arith, places)) c.index-to-0.is;
       leaf_comes = subst (λ (l : Leaf). IsComing leaf.keys leaf.from leaf.end c.index-to-0.result c.args.seq l) (sym is.first_is) comes;
       leaf_fits = λ full. let two : false ≡ true = c.if-is_full.ensures.1 (subst (λ (g : Geometry). IsFull g first) (sym c.geometry.ensures) (subst (λ (l : Leaf). IsFull s.geometry l) is.first_is full)) in absurd (cc);
-      moves = subst (λ (l : Leaf). IsMovePlan s place l (drop 1 to) next plan) (sym is.first_is)
-          (subst (λ (ps : List Ptr). IsMovePlan s place first ps next plan) (take_all (length to - 1) (drop 1 to) (omega (arith, length-drop 1 to))) is);
+      moves = subst (λ (l : Leaf). IsMovePlan s place parts l (drop 1 to) next plan) (sym is.first_is)
+          (subst (λ (ps : List Ptr). IsMovePlan s place parts first ps next plan) (take_all (length to - 1) (drop 1 to) (omega (arith, length-drop 1 to))) is);
     }
 
 pub returns-clause-count : goal.returns-clause-count
@@ -103,4 +104,4 @@ returns-clause-count c =
     omega (arith, places, is.above.moved, ap (λ (l : Option Leaf). length (option_to_list l)) is.alone, ap (λ (n : Inner). moves s n 3) same, ap (λ n. moves s is.above.node n) (three_words is.key is.names.one))
 
 pub returns-clause-kept : goal.returns-clause-kept
-returns-clause-kept c = moved_stands c.args.self.now c.args.leaf.now c.args.to.now c.args.seq c.in_ok-plan.plan c.requires.leaf (returns-clause-planned c)
+returns-clause-kept c = moved_stands c.args.self.now c.args.leaf.now c.args.to.now c.args.seq c.args.parts c.in_ok-plan.plan c.requires.leaf (returns-clause-planned c)
