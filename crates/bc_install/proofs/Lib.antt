@@ -5,13 +5,19 @@ mod Rooted
 mod Moved
 mod Tree
 mod Cached
-mod Numbered
+pub mod Numbered
 mod Listed
 mod Each
-mod Sides
+pub mod Sides
 mod Out
 mod Coming
 mod Placed
 mod Ended
 mod Bucketed
 mod Installing
+pub use Rattle.bc_change.proofs as of_bc_change
+pub use Rattle.bc_change.proofs.of_bc_deed
+pub use Rattle.bc_change.proofs.of_bc_entry
+pub use Rattle.bc_change.proofs.of_bc_hand
+pub use Rattle.bc_change.proofs.of_bc_nodes_known
+pub use Rattle.bc_append.proofs as of_bc_append

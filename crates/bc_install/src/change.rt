@@ -15,8 +15,8 @@ use bc_spine::Exchange;
 use bc_tree::{Beside, NodeChange, Plan, Spine};
 use std::alloc::{AllocError, Global};
 
-// The number that the core has for the bucket in which a place lies.
-pub(crate) fn bucket_by(g: &Geometry, ptr: &Ptr) -> u32
+/// The number that the core has for the bucket in which a place lies.
+pub fn bucket_by(g: &Geometry, ptr: &Ptr) -> u32
     requires { 0 < g.now.bucket }
     ensures { result ≡ bucket_by g.now ptr.now }
 {

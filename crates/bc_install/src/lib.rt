@@ -19,3 +19,7 @@ pub mod install;
 pub mod laws;
 pub mod leaves;
 pub mod root;
+
+// Passed on, so that a crate above need not list these.
+pub use bc_append::bc_hand;
+pub use bc_append::bc_machine;
