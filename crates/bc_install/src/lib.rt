@@ -21,5 +21,4 @@ pub mod leaves;
 pub mod root;
 
 // Passed on, so that a crate above need not list these.
-pub use bc_append::bc_hand;
-pub use bc_append::bc_machine;
+pub use bc_append::{bc_hand, bc_machine};

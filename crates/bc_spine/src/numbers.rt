@@ -64,13 +64,7 @@ fn alike_unset(flags: &[bool], parts: usize, rest: usize) -> usize
 
 /// The least number that leaves this rest by so many parts and that none of the leaves has, by flags
 /// for all of theirs and one more.
-fn first_alike(
-    leaves: &[LeafRange],
-    flags: &mut [bool],
-    most: u32,
-    parts: u32,
-    rest: u32,
-) -> usize
+fn first_alike(leaves: &[LeafRange], flags: &mut [bool], most: u32, parts: u32, rest: u32) -> usize
     requires unset { (k : ℕ) → slice_index_or flags.old k false ≡ false }
     requires long { length flags.old ≡ most + 2 }
     requires all { All (λ leaf. leaf.number ≤ most) leaves.now }
