@@ -97,7 +97,7 @@ not_free : (r : Role) → r ≡ Coming → r ≡ Free → ⊥
 not_free r is free = let same : Coming ≡ Free = sym is ∙ free in cc
 
 -- a leaf that comes stays as it is
-coming_kept : (w : core.Opening) (x : parts.State) (n : ℕ) (es : List Event) (e : Event)
+pub coming_kept : (w : core.Opening) (x : parts.State) (n : ℕ) (es : List Event) (e : Event)
     → Happens w x n es e → touches_spine e.deed ≡ false → (k : ℕ)
     → let st = core.run w (core.start w x n) es in
     (st.machine.whole.parts.leaves k).role ≡ Coming

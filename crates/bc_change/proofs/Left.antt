@@ -68,7 +68,7 @@ comes_or_was gone come k role stays calm = go (has gone k) (has come k) refl sta
     go false false is h = inr (was role h calm)
 
 -- a slot that had no node, and is none of a change's, has none
-none_before : (gone come : List ℕ) (k : ℕ) (role : Role) → (In k gone → role ≢ NoNode)
+pub none_before : (gone come : List ℕ) (k : ℕ) (role : Role) → (In k gone → role ≢ NoNode)
     → (In k come → role ≢ NoNode) → changed gone come k role ≢ NoNode → role ≢ NoNode
 none_before gone come k role one two some =
     go (has gone k) (has come k) refl refl some
@@ -86,7 +86,7 @@ abbrev pub begun : parts.State → Change → parts.State
 begun st c = parts_step.after st (BeginChange c.low c.high c.gone.items c.come.items c.old.items
     c.new.items (unused_for st c))
 
-not_none : (r s : Role) → r ≡ s → s ≢ NoNode → r ≢ NoNode
+pub not_none : (r s : Role) → r ≡ s → s ≢ NoNode → r ≢ NoNode
 not_none r s is some none = some (sym is ∙ none)
 
 module _ (w : Opening) (st : parts.State) (sp : Spine) (plan : Plan) (keys : LeafKeys) (c : Change)

@@ -1,17 +1,17 @@
 pub mod Lists
-mod Filled
+pub mod Filled
 pub mod Nexts
 mod Said
 pub mod Sites
 pub mod Places
 pub mod Begins
-mod Left
+pub mod Left
 pub mod Keeping
-mod Turned
+pub mod Turned
 mod Rooting
 mod Sealed
 pub mod Seated
-mod Going
+pub mod Going
 pub mod Staying
 mod Behind
 pub use Rattle.bc_entry.proofs.of_bc_deed

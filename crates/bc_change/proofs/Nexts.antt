@@ -351,7 +351,7 @@ moved_there [] (suc p) m next e = absurd (cc)
 moved_there (x ∷ xs) zero m next e = refl
 moved_there (x ∷ xs) (suc p) m next e = moved_there xs p m next e
 
-same_long : (xs : List Inner) (p : ℕ) (c : NodeChange) → length (nodes_next xs p c) ≡ length xs
+pub same_long : (xs : List Inner) (p : ℕ) (c : NodeChange) → length (nodes_next xs p c) ≡ length xs
 same_long [] p c = refl
 same_long (x ∷ xs) zero c = refl
 same_long (x ∷ xs) (suc p) c = ap suc (same_long xs p c)
@@ -366,7 +366,7 @@ top_is None n m = absurd m
 top_is (Some change) n m = ap Some (moved_is change n m)
 
 -- the node at a place stays there, whatever becomes of the one behind it
-at_place_stays : (xs : List Inner) (p room : ℕ) (s : Beside) (n : Inner) → 0 < length xs
+pub at_place_stays : (xs : List Inner) (p room : ℕ) (s : Beside) (n : Inner) → 0 < length xs
     → CanStand (length xs) room p s → slice_get xs p ≡ Some n → In n (beside_next xs p s)
 at_place_stays xs p room Stays n some can e = get_in xs p n e
 at_place_stays xs p room (Comes node) n some can e =

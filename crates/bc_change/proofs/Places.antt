@@ -36,7 +36,7 @@ use Rattle.bc_change.proofs.Sites.{comes_apart, leaf_goes, leaf_next, slots_apar
 -- ---- roles
 
 -- what doesn't go stays, where it was of the tree or comes
-stays : (gone come : List ℕ) (k : ℕ) (role : Role) → has gone k ≡ false
+pub stays : (gone come : List ℕ) (k : ℕ) (role : Role) → has gone k ≡ false
     → (role ≡ Free) ⊎ (has come k ≡ true) → Stays (changed gone come k role)
 stays gone come k role out kind =
     subst (λ b. Stays (if b then Leaving else (if has come k then Coming else role))) (sym out)
@@ -234,7 +234,7 @@ module _ (w : Opening) (st : parts.State) (sp : Spine) (plan : Plan) (keys : Lea
       slots_apart w st sp ready.tree ready.stands i j a b at there other same
 
   -- the slot isn't one of those that go
-  stays_there : (n : Inner) → ((o : Inner) → In o (old_nodes sp plan) → inner_slot w o ≢ inner_slot w n)
+  pub stays_there : (n : Inner) → ((o : Inner) → In o (old_nodes sp plan) → inner_slot w o ≢ inner_slot w n)
       → has c.old.items (inner_slot w n) ≡ false
   stays_there n other = has_not c.old.items (inner_slot w n) (λ m.
       let one = in_map (inner_slot w) (old_nodes sp plan) (inner_slot w n)

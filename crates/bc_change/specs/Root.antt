@@ -1,14 +1,17 @@
 -- An entry that a seat seals with a new root, by which a planned change of the tree is made.
-use Rattle.std.specs.Prelude.{◌≡◌, ℕ, ◌+◌, ◌-◌, ◌%◌, ◌≤◌, true, Contains, IfSome, None, Some, Vec, slice_get}
+use Rattle.std.specs.Prelude.{◌≡◌, ℕ, ◌+◌, ◌-◌, ◌%◌, ◌≤◌, true, Contains, IfSome, None, Option, Some, Vec, slice_get}
 use Rattle.std.specs.declared.alloc.Global.{Global}
 use Rattle.bc_cache.specs.declared.slots.Cached.{Cached}
 use Rattle.bc_disk.specs.Disk.{DiskFacts}
+use Rattle.bc_disk.specs.declared.disk.Device.{Device}
 use Rattle.bc_disk.specs.declared.geometry.Geometry.{Geometry}
 use Rattle.bc_events.specs.Run as core
 use Rattle.bc_events.specs.declared.event.Change.{Change}
 use Rattle.bc_events.specs.declared.event.Deed.TheVariants as deed
 use Rattle.bc_facts.specs.Seen.{bucket_of, entry_rest, word_of}
 use Rattle.bc_entry.specs.bc_hand.Seats.{Did, View}
+use Rattle.bc_entry.specs.bc_hand.declared.error.StepError.{StepError}
+use Rattle.bc_entry.specs.bc_hand.declared.error.StepError.TheVariants as error
 use Rattle.bc_entry.specs.bc_hand.declared.hand.Hand.{Hand}
 use Rattle.bc_entry.specs.bc_hand.declared.hand.LeafHand.{LeafHand}
 use Rattle.bc_inner.specs.Inner.{Inner}
@@ -86,6 +89,17 @@ pub record MaySealRoot {C B : Type 0} (h : Hand C B) (parts i : ℕ) (plan : Pla
   pub gone : c.gone.items ≡ numbers (going can.spine.spine.leaves plan.leaves)
   pub change : FromEach x (λ o st. IsChangeBy o.opening.machine can.spine.spine plan c)
   pub ready : FromEach x (IsReadyFor i plan)
+
+-- ---- why not
+
+-- Where there was no memory, the seat had heard of no halt: a halt is never taken for want of
+-- memory, behind which a step may be tried again.
+abbrev pub IsUnheard : StepError → Option Device → Type 0
+IsUnheard (error.Fault device) heard = Unit {0}
+IsUnheard (error.Halted device) heard = Unit {0}
+IsUnheard error.Memory heard = heard ≡ None
+
+-- ---- the deed
 
 module _ {C B : Type 0} (cache_facts : C → DiskFacts) (backing_facts : B → DiskFacts) where
   -- the seat sealed this entry, which makes the change

@@ -1,7 +1,7 @@
 //! The step that seals an entry with a new root, by which a change of the tree is made.
 ghost use Rattle.std.specs.Prelude.{◌≡◌, ◌+◌, ◌<◌, ◌≤◌, false, None, Some, length, IfErr, IfOk, OnErr};
 ghost use Rattle.bc_change.specs.Ready.{IsTree};
-ghost use Rattle.bc_change.specs.Root.{HasSealedRoot, MaySealRoot};
+ghost use Rattle.bc_change.specs.Root.{HasSealedRoot, IsUnheard, MaySealRoot};
 ghost use Rattle.bc_change.specs.Under.{IsByRoot};
 ghost use Rattle.bc_entry.specs.bc_deed.Asked.{IsHaltedOr};
 ghost use Rattle.bc_entry.specs.Entry.{IsFixedEntry};
@@ -28,7 +28,8 @@ use std::sync::Wait;
 /// or, where the entry is durable, the new one. The tree, the leaves that go and the journal are
 /// in hand, and stay so; in memory the tree is as it was until the change is over.
 ///
-/// `Err` comes from want of memory, or names the device that halted the run; then nothing is done.
+/// `Err` comes from want of memory, where the seat had heard of no halt, or names the device that
+/// halted the run; then nothing is done, and what is in hand is as it was.
 pub fn seal_root<C: Disk + Drop, B: Disk + Drop, R: Wait>(
     rt: &R,
     alloc: Global,
@@ -58,6 +59,7 @@ pub fn seal_root<C: Disk + Drop, B: Disk + Drop, R: Wait>(
     ensures err { OnErr result (Did C.facts B.facts None seat.old seat.new) }
     ensures same { OnErr result (hand.new ≡ hand.old) }
     ensures cause { IfErr result (λ error. IsHaltedOr error seat.new.seen) }
+    ensures memory { IfErr result (λ error. IsUnheard error seat.new.heard) }
 {
     if let Some(device) = seat.heard() {
         return Err(StepError::Halted(device));
@@ -76,8 +78,8 @@ pub fn seal_root<C: Disk + Drop, B: Disk + Drop, R: Wait>(
         }),
         chain: None,
     };
-    if let Err(device) = commit(rt, parts, seat, deed) {
-        return Err(StepError::Halted(device));
+    if let Err(by) = commit(rt, parts, seat, deed) {
+        return Err(StepError::Halted(by));
     }
     Ok(seal_next(hand, heads))
 }

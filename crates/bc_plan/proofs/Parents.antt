@@ -4,7 +4,7 @@ use Rattle.std.specs.Prelude.{IfSome, OnErr, Result, Ok, Err, slice_get, slice_s
 use Rattle.bc_image.specs.Children.{with_children}
 use Rattle.bc_inner.specs.Inner.{CoverRange, Inner}
 use Rattle.bc_key.specs.declared.key.Key.{Key}
-use Rattle.bc_plan.specs.Parent.{TakesBy, TakesSet}
+use Rattle.bc_plan.specs.Parent.{HasMoreIn, TakesBy, TakesSet}
 use Rattle.bc_tree.specs.Append.{HasBelowMore, HasMoreIf, HasRootMore}
 use Rattle.bc_tree.specs.Group.{CanStand}
 use Rattle.bc_tree.specs.Next.{below_next, leaves_next, node_next, nodes_next, root_next}
@@ -163,6 +163,26 @@ below_kept (Err e) place keys s t has =
     set_back [] i x there = absurd (cc)
     set_back (y ∷ ys) zero x there = let one : x ≡ y = cc in ap (λ (n : Inner). n ∷ ys) one
     set_back (y ∷ ys) (suc i) x there = ap (λ ns. y ∷ ns) (set_back ys i x there)
+
+pub root_more : {E : Type 0} (r : Result (Unit {0}) E) (keys : List Key) (s t : Spine) → HasRootMore r keys s t → HasMoreIn r s.root keys s t
+root_more r keys s t has = record {
+  at = 0;
+  there = refl;
+  next = t.root;
+  more = has.more;
+  nodes = ap (λ (x : Spine). t.root ∷ x.below) has.only;
+  only = has.only ∙ ap (λ (x : Spine). record s { root = x.root; below = x.below }) (sym has.only);
+}
+
+pub below_more : {E : Type 0} (r : Result (Unit {0}) E) (place : ℕ) (keys : List Key) (s t : Spine) → (has : HasBelowMore r place keys s t) → HasMoreIn r has.node keys s t
+below_more r place keys s t has = record {
+  at = suc place;
+  there = has.there;
+  next = has.next;
+  more = has.more;
+  nodes = ap (λ (x : Spine). x.root ∷ x.below) has.only;
+  only = has.only ∙ ap (λ (x : Spine). record s { root = x.root; below = x.below }) (sym has.only);
+}
 
 -- ---- which node takes the set
 

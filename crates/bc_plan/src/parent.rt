@@ -2,7 +2,7 @@
 ghost use Rattle.std.specs.Prelude.{◌≡◌, ◌*◌, List, Some, length, slice_get, OnErr};
 ghost use Rattle.bc_inner.specs.Inner.{Inner};
 ghost use Rattle.bc_key.specs.declared.key.Key.{Key};
-ghost use Rattle.bc_plan.specs.Parent.{TakesSet};
+ghost use Rattle.bc_plan.specs.Parent.{HasMoreIn, TakesSet};
 ghost use Rattle.bc_tree.specs.Append.{CanAppend, IsSetWrite};
 ghost use Rattle.bc_tree.specs.Plan.{Fits};
 ghost use Rattle.bc_tree.specs.Spine.{bottom};
@@ -29,6 +29,9 @@ fn append_at<D: Disk>(
         × (slice_get (bottom spine.old.root spine.old.below) place ≡ Some node)
         × IsSetWrite spine.old.geometry node keys.now buffer.new (D.facts disk.old)
         (D.facts disk.new) result }
+    ensures more { (node : Inner)
+        × (slice_get (bottom spine.old.root spine.old.below) place ≡ Some node)
+        × HasMoreIn result node keys.now spine.old spine.new }
     ensures kept { OnErr result (spine.new ≡ spine.old) }
     ensures fits { (plan : Plan) → Fits spine.old plan → Fits spine.new plan }
 {
@@ -51,6 +54,8 @@ fn append_top<D: Disk>(
     ensures set { (keys : List Key) × (change.now ≡ changes.Set keys)
         × IsSetWrite spine.old.geometry spine.old.root keys buffer.new (D.facts disk.old)
         (D.facts disk.new) result }
+    ensures more { (keys : List Key) × (change.now ≡ changes.Set keys)
+        × HasMoreIn result spine.old.root keys spine.old spine.new }
     ensures kept { OnErr result (spine.new ≡ spine.old) }
     ensures fits { (plan : Plan) → Fits spine.old plan → Fits spine.new plan }
 {
@@ -77,6 +82,8 @@ pub fn write_parent<D: Disk>(
     ensures set { (node : Inner) × (keys : List Key) × TakesSet spine.old plan.now node keys
         × IsSetWrite spine.old.geometry node keys buffer.new (D.facts disk.old)
         (D.facts disk.new) result }
+    ensures more { (node : Inner) × (keys : List Key) × TakesSet spine.old plan.now node keys
+        × HasMoreIn result node keys spine.old spine.new }
     ensures kept { OnErr result (spine.new ≡ spine.old) }
     ensures fits { (plan : Plan) → Fits spine.old plan → Fits spine.new plan }
 {

@@ -1,9 +1,10 @@
 use Rattle.std.proofs.Common.{◌==◌, List, length, ap, sym, subst, ◌∙◌}
 use Rattle.std.specs.Prelude.{slice_get}
 use Rattle.bc_inner.specs.Inner.{Inner}
+use Rattle.bc_plan.specs.Parent.{HasMoreIn}
 use Rattle.bc_tree.specs.Append.{CanAppend, IsSetWrite}
 use Rattle.bc_tree.proofs.Spines.{bottom_is, none_of, some_of}
-use Rattle.bc_plan.proofs.Parents.{at_root, below_fits_more, below_kept, root_fits_more, root_kept}
+use Rattle.bc_plan.proofs.Parents.{at_root, below_fits_more, below_kept, below_more, root_fits_more, root_kept, root_more}
 use Rattle.bc_plan.proofs.parent.append_at.Goals as goal
 
 pub append_root-requires-clause-can : goal.append_root-requires-clause-can
@@ -49,3 +50,25 @@ returns-clause-kept g c = below_kept c.append_below.result c.args.place c.args.k
 
 pub returns-clause-fits : goal.returns-clause-fits
 returns-clause-fits g c plan fits = below_fits_more c.append_below.result c.args.place c.args.keys.now c.args.spine.now c.append_below.new.self plan c.append_below.ensures.tree fits
+
+pub returns-then-is_empty-clause-more : goal.returns-then-is_empty-clause-more
+returns-then-is_empty-clause-more g c =
+    let s = c.args.spine.now in
+    let can = c.requires.can in
+    let none = none_of (length s.below) (ap (λ (ns : List Inner). length ns == 0) (sym c.below.ensures) ∙ sym c.is_empty.ensures ∙ c.if-is_empty.true) in (
+      can.0,
+      can.1,
+      subst (λ (n : Inner). HasMoreIn c.append_root.result n c.args.keys.now s c.append_root.new.self)
+          (sym (at_root s.root s.below c.args.place can.0 none can.1))
+          (root_more c.append_root.result c.args.keys.now s c.append_root.new.self c.append_root.ensures.tree),
+    )
+
+pub returns-clause-more : goal.returns-clause-more
+returns-clause-more g c =
+    let s = c.args.spine.now in
+    let some = some_of (length s.below) (ap (λ (ns : List Inner). length ns == 0) (sym c.below.ensures) ∙ sym c.is_empty.ensures ∙ c.if-is_empty.false) in
+    let tree = c.append_below.ensures.tree in (
+      tree.node,
+      ap (λ (ns : List Inner). slice_get ns c.args.place) (bottom_is s.root s.below some) ∙ tree.there,
+      below_more c.append_below.result c.args.place c.args.keys.now s c.append_below.new.self tree,
+    )

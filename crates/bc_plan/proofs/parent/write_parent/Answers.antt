@@ -1,7 +1,7 @@
 use Rattle.std.proofs.Common.{◌≡◌, List, Option, Some, ap, refl, sym, subst, ◌∙◌}
 use Rattle.bc_inner.specs.Inner.{Inner}
 use Rattle.bc_key.specs.declared.key.Key.{Key}
-use Rattle.bc_plan.specs.Parent.{TakesBy}
+use Rattle.bc_plan.specs.Parent.{HasMoreIn, TakesBy}
 use Rattle.bc_tree.specs.Append.{CanAppend, IsSetWrite}
 use Rattle.bc_tree.specs.declared.change.NodeChange.{NodeChange}
 use Rattle.bc_tree.specs.declared.change.NodeChange.TheVariants.{Move, Set}
@@ -41,6 +41,30 @@ returns-in-Some-clause-set g c =
     let s = c.args.spine.now in
     let plan = c.args.plan.now in
     let is = c.append_top.ensures.set in
+    let top : plan.top ≡ Some (Set is.0) = c.in-Some.is ∙ ap (λ (ch : NodeChange). Some ch) is.1 in (
+      s.root,
+      is.0,
+      subst (λ (ch : NodeChange). TakesBy s plan.place ch plan.top s.root is.0) (sym c.in-Move.is) (subst (λ (t : Option NodeChange). TakesBy s plan.place (Move c.in-Move.field-0) t s.root is.0) (sym top) (refl, refl)),
+      is.2,
+    )
+
+pub returns-in-Set-clause-more : goal.returns-in-Set-clause-more
+returns-in-Set-clause-more g c =
+    let s = c.args.spine.now in
+    let plan = c.args.plan.now in
+    let keys = c.in-Set.keys in
+    let is = c.append_at.ensures.more in (
+      is.0,
+      keys,
+      subst (λ (ch : NodeChange). TakesBy s plan.place ch plan.top is.0 keys) (sym c.in-Set.is) (is.1, refl),
+      subst (λ (ks : List Key). HasMoreIn c.append_at.result is.0 ks s c.append_at.new.spine) c.as_slice.ensures is.2,
+    )
+
+pub returns-in-Some-clause-more : goal.returns-in-Some-clause-more
+returns-in-Some-clause-more g c =
+    let s = c.args.spine.now in
+    let plan = c.args.plan.now in
+    let is = c.append_top.ensures.more in
     let top : plan.top ≡ Some (Set is.0) = c.in-Some.is ∙ ap (λ (ch : NodeChange). Some ch) is.1 in (
       s.root,
       is.0,
