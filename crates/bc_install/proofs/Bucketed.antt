@@ -53,7 +53,7 @@ use Rattle.bc_whole.specs.State as whole
 use Rattle.bc_install.specs.Buckets.{HaveMade, HaveUnmade}
 use Rattle.bc_install.specs.Ended.{HasProperKeys, LawBuckets, buckets_of, leaves_of}
 use Rattle.bc_install.proofs.Cached.{came_leaf}
-use Rattle.bc_install.proofs.Ended.{books_are, parts_are, unused}
+use Rattle.bc_install.proofs.Ended.{books_are, now_made, parts_are, unused}
 
 -- ---- one behind the other
 
@@ -276,22 +276,22 @@ module _ (w : whole.Opening) (st : parts.State) (sp : Spine) (plan : Plan) (c : 
 -- ---- the law
 
 pub law_buckets : LawBuckets
-law_buckets x i first p plan root c number slot come gone a b up proper sized from known_ stands ends
+law_buckets x i first p plan c how come gone a b up proper sized from known_ stands ends
     buckets has o is course =
     let e : Event = record { seat = i; deed = deed.Install c come gone } in
     let before = origin_before x e o is in
     let on = course.2 in
-    let h = known_ o before on in
+    let h = now_made i p.spine plan c how o (replay o x.log) (known_ o before on) in
     let end = ends o before on in
     let st = (replay o x.log).machine in
     let w = o.opening.machine in
     let k = books_of st in
     let here = buckets o before on in
     let first_is = from o before on in
-    let under = h.by_root.under in
+    let under = h.under in
     let r = records_after st.whole.parts.records (event.GiveUp (unused st c)) in
     let come_held_ : (q : ℕ) → In q come.items → k.shelf q ≡ Held i Tree =
-    λ q m. come_held x o before on i plan h.by_root.holds q (end.comes.among q m) in
+    λ q m. come_held x o before on i plan h.holds q (end.comes.among q m) in
     let index_is : (s : ℕ) → latest (books_of (core.after o.opening (replay o x.log) e).machine).index s
     ≡ latest k.index s = λ s. ap (λ (ks : Books). latest ks.index s)
     (books_are w st i c come.items gone.items)

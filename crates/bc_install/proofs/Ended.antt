@@ -1,17 +1,19 @@
--- An install of a change that was made by a new root.
-use Rattle.std.proofs.Common.{◌≡◌, inl, inr, ℕ, Bool, List, [], ◌∷◌, ◌++◌, map, refl, sym, ap, ◌∙◌, subst}
+-- An install of a change that was made.
+use Rattle.std.proofs.Common.{◌≡◌, inl, inr, ℕ, Bool, List, [], ◌∷◌, ◌++◌, map, refl, sym, ap, ◌∙◌, subst, arith}
 use Rattle.std.specs.Prelude.{Vec}
 use Rattle.std.specs.declared.alloc.Global.{Global}
 use Rattle.bc_books.specs.After as books
 use Rattle.bc_books.specs.Books.{Step}
 use Rattle.bc_books.specs.Shelves.{Held, Tree}
-use Rattle.bc_change.specs.Goes.{new_nodes, old_nodes}
+use Rattle.bc_change.specs.Goes.{IsChangeBy, new_nodes, old_nodes}
+use Rattle.bc_change.specs.Ready.{HasBoth, HoldsNew}
+use Rattle.bc_change.specs.Under.{IsUnderWay}
 use Rattle.bc_change.proofs.Lists.{in_map, map_in}
 use Rattle.bc_change.proofs.Nexts.{old_in}
 use Rattle.bc_change.proofs.Sites.{leaf_goes}
 use Rattle.bc_data.specs.After as flow_step
 use Rattle.bc_data.specs.Data as flow
-use Rattle.bc_change.specs.bc_machine.Containers.{AreLeavesOf, IsAtRest, IsSpineOf, inner_slot}
+use Rattle.bc_change.specs.bc_machine.Containers.{AreLeavesOf, IsAtRest, IsSpineOf, NamesRoot, inner_slot}
 use Rattle.bc_change.specs.bc_machine.Standing.{origin_before}
 use Rattle.bc_change.specs.bc_machine.World.{EndsItsChange, Origin, replay}
 use Rattle.bc_events.specs.Changes.{buckets_gone, dropped, inner_buckets, leaf_buckets, made, regroup, with}
@@ -33,14 +35,16 @@ use Rattle.bc_shares.specs.Shares.{books_of}
 use Rattle.bc_shares.proofs.Acts.{released_parts}
 use Rattle.bc_spine.specs.Exchange.{coming, going}
 use Rattle.bc_spine.specs.declared.leaf.LeafRange.{LeafRange}
+use Rattle.bc_tree.specs.Next.{root_next}
 use Rattle.bc_tree.specs.Spine.{Spine}
 use Rattle.bc_tree.specs.declared.plan.Plan.{Plan}
 use Rattle.bc_whole.specs.State as whole
 use Rattle.bc_whole.specs.Together.{shelved}
 use Rattle.bc_whole.specs.Run.{by}
-use Rattle.bc_install.specs.Ended.{AreEndsOf, IsMadeByRoot, LawLeaves, LawMay, LawTree, MovesUp}
+use Rattle.bc_install.specs.Ended.{AreEndsOf, ByNewRoot, ByNodeSet, How, IsMadeSo, LawLeaves, LawMay, LawTree, MakesSo}
 use Rattle.bc_install.proofs.Cached.{leaves_after}
-use Rattle.bc_install.proofs.Tree.{comes_at, ended, new_at, rest_after, tree_after}
+use Rattle.bc_install.proofs.Moved.{root_is, root_stays}
+use Rattle.bc_install.proofs.Tree.{Making, comes_at, ended, new_at, rest_after, tree_after}
 
 -- ---- the state behind it
 
@@ -78,38 +82,90 @@ books_are w st i c come gone =
 
 -- ---- the tree
 
+-- what both ways to make it come to
+pub record IsNow (i : ℕ) (spine : Spine) (plan : Plan) (c : Change) (o : Origin) (st : core.State) :
+    Type 0 where
+  pub change : IsChangeBy o.opening.machine spine plan c
+  pub under : IsUnderWay o.opening.machine st.machine.whole.parts plan c
+  pub holds : HoldsNew o.opening.machine (books_of st.machine) i plan
+  pub made : IsMade st.machine.whole.parts st.machine.whole.parts.change
+
+pub now_made : (i : ℕ) (spine : Spine) (plan : Plan) (c : Change) (how : How) (o : Origin)
+    (st : core.State) → IsMadeSo i spine plan c how o st → IsNow i spine plan c o st
+now_made i spine plan c (ByNewRoot root number slot) o st h = record {
+  change = h.change;
+  under = h.by_root.under;
+  holds = h.by_root.holds;
+  made = subst (λ (x : parts.Change). IsMade st.machine.whole.parts x) (sym h.by_root.change) h.made;
+}
+now_made i spine plan c (ByNodeSet at taker put slot) o st h = record {
+  change = h.change;
+  under = h.by_set.by_set.under;
+  holds = h.by_set.by_set.holds;
+  made = subst (λ (x : parts.Change). IsMade st.machine.whole.parts x)
+      (sym h.by_set.by_set.change) h.by_set.stable;
+}
+
+-- how it was made, as the parts tell
+making : (i : ℕ) (spine : Spine) (plan : Plan) (c : Change) (how : How) (o : Origin)
+    (st : core.State) → IsMadeSo i spine plan c how o st
+    → Making o.opening.machine st.machine.whole.parts how
+making i spine plan c (ByNewRoot root number slot) o st h = h.by_root.change
+making i spine plan c (ByNodeSet at taker put slot) o st h = record {
+  slot_is = h.slot_is;
+  change = h.by_set.by_set.change;
+  stays = h.by_set.by_set.stays;
+  children_are = h.by_set.by_set.children_are;
+}
+
+-- the root that entries name then is the one of the tree that is made
+named_root : (i : ℕ) (spine : Spine) (plan : Plan) (c : Change) (how : How) (o : Origin)
+    (st : core.State) → IsMadeSo i spine plan c how o st → MakesSo spine plan how
+    → NamesRoot st.machine.whole.parts.records
+    (inner_slot o.opening.machine (root_next spine.root spine.below plan.bottom plan.top))
+named_root i spine plan c (ByNewRoot root number slot) o st h up =
+    subst (NamesRoot st.machine.whole.parts.records)
+    (sym h.slot_is ∙ ap (inner_slot o.opening.machine)
+    (sym (root_is spine.root spine.below plan.bottom plan.top root up.by)))
+    (law_root.comes number slot st.machine.whole.parts.records h.by_root.root h.made)
+named_root i spine plan c (ByNodeSet at taker put slot) o st h up =
+    subst (NamesRoot st.machine.whole.parts.records)
+    (ap (λ p. o.opening.machine.flow.books.bucket p.offset)
+    (sym (root_stays spine.root spine.below plan.place plan.bottom plan.top at put up.by.takes)))
+    (record { newest = h.named.newest (omega arith); sealed = h.named.sealed })
+
 pub law_tree : LawTree
-law_tree x i p q plan root c number slot come gone up known_ stands made_ o is course =
+law_tree x i p q plan c how come gone up known_ stands made_ o is course =
     let e : Event = record { seat = i; deed = deed.Install c come gone } in
     let before = origin_before x e o is in
     let h = known_ o before course.2 in
     let sp = stands o before course.2 in
     let st = (replay o x.log).machine in
     let r = records_after st.whole.parts.records (event.GiveUp (unused st c)) in
-    let named = law_root.comes number slot st.whole.parts.records h.by_root.root h.made in
+    let now = now_made i p.spine plan c how o (replay o x.log) h in
+    let how_ = making i p.spine plan c how o (replay o x.log) h in
+    let named = named_root i p.spine plan c how o (replay o x.log) h up in
     let same = sym (parts_are o.opening.machine st i c come.items gone.items) in record {
       spine = subst (λ (s : parts.State). IsSpineOf o.opening.machine s q.spine) same
-          (tree_after o.opening.machine st.whole.parts p.spine plan c up.both h.change
-          h.by_root.under r refl up.tree sp.spine up.fits root up.brings number h.by_root.change
-          q.spine made_.tree);
+          (tree_after o.opening.machine st.whole.parts p.spine plan c up.both now.change
+          now.under r refl up.tree sp.spine up.fits how up.by how_ q.spine made_.tree);
       next_seq = made_.next_seq ∙ sp.next_seq;
       rest = λ off. subst (λ (s : parts.State). IsAtRest o.opening.machine s q.spine) same
-          (rest_after o.opening.machine st.whole.parts p.spine plan c up.both h.change
-          h.by_root.under r refl up.tree sp.spine up.fits root up.brings number h.by_root.change
-          q.spine made_.tree slot h.slot_is
+          (rest_after o.opening.machine st.whole.parts p.spine plan c up.both now.change
+          now.under r refl up.tree sp.spine up.fits how up.by how_ q.spine made_.tree
           (record { newest = named.newest; sealed = named.sealed }));
     }
 
 pub law_leaves : LawLeaves
-law_leaves x i part p plan root c number slot come gone a b both known_ stands made_ o is course =
+law_leaves x i part p plan c how come gone a b both known_ stands made_ o is course =
     let e : Event = record { seat = i; deed = deed.Install c come gone } in
     let before = origin_before x e o is in
-    let h = known_ o before course.2 in
+    let h = now_made i p.spine plan c how o (replay o x.log) (known_ o before course.2) in
     let st = (replay o x.log).machine in
     let r = records_after st.whole.parts.records (event.GiveUp (unused st c)) in
     subst (λ (s : parts.State). AreLeavesOf o.opening.machine s x.begun.leaf_parts part b)
     (sym (parts_are o.opening.machine st i c come.items gone.items))
-    (leaves_after o.opening.machine st.whole.parts p.spine plan c both h.change h.by_root.under r
+    (leaves_after o.opening.machine st.whole.parts p.spine plan c both h.change h.under r
     refl x.begun.leaf_parts part a b (stands o before course.2) made_)
 
 -- ---- it may
@@ -126,10 +182,10 @@ inner_bucket_in st [] k m = absurd m
 inner_bucket_in st (i ∷ is) k (inl here) = inl (ap (λ n. (st.inner_nodes n).bucket) here)
 inner_bucket_in st (i ∷ is) k (inr later) = inr (inner_bucket_in st is k later)
 
-module _ (o : Origin) (st : core.State) (i : ℕ) (sp : Spine) (plan : Plan) (root : Inner)
-    (c : Change) (number slot : ℕ) (come gone : Vec ℕ Global) (up : MovesUp sp plan root)
+module _ (o : Origin) (st : core.State) (i : ℕ) (sp : Spine) (plan : Plan)
+    (c : Change) (come gone : Vec ℕ Global) (both : HasBoth plan)
     (stands : IsSpineOf o.opening.machine st.machine.whole.parts sp)
-    (h : IsMadeByRoot i sp plan root c number slot o st)
+    (h : IsNow i sp plan c o st)
     (ends : AreEndsOf o.opening.machine sp plan come.items gone.items) where
   abbrev w : whole.Opening
   w = o.opening.machine
@@ -157,10 +213,10 @@ module _ (o : Origin) (st : core.State) (i : ℕ) (sp : Spine) (plan : Plan) (ro
       (ends.comes.among b m)) [
         | inl leaf ↦ (let one = in_map bucket (coming plan.leaves) b leaf in
             subst (λ q. (books_of st.machine).shelf q ≡ Held i Tree) one.2
-            (h.by_root.holds.leaves one.0 (in_contains (coming plan.leaves) one.0 one.1)))
+            (h.holds.leaves one.0 (in_contains (coming plan.leaves) one.0 one.1)))
         | inr node ↦ (let one = in_map (inner_slot w) (new_nodes plan) b node in
             subst (λ q. (books_of st.machine).shelf q ≡ Held i Tree) one.2
-            (h.by_root.holds.inner_nodes one.0 (in_contains (new_nodes plan) one.0 one.1)))
+            (h.holds.inner_nodes one.0 (in_contains (new_nodes plan) one.0 one.1)))
       ]
 
   -- whatever is among those that go is of what leaves
@@ -194,17 +250,14 @@ module _ (o : Origin) (st : core.State) (i : ℕ) (sp : Spine) (plan : Plan) (ro
             subst (λ q. In q (buckets_gone p c)) one.2 (node_gone one.0 one.1))
       ]
 
-  made_by : IsMade p p.change
-  made_by = subst (λ (x : parts.Change). IsMade p x) (sym h.by_root.change) h.made
-
   names : EndsItsChange p (deed.Install c come gone)
   names = (
-    h.by_root.under.whole.names,
+    h.under.whole.names,
     record {
       leaves = λ k comes.
-          let one = comes_at w p sp plan c up.both h.change h.by_root.under p.records refl k
-          (in_has c.come.items k (h.by_root.under.whole.names.come k comes)) in
-          let at = new_at w p sp plan c up.both h.change h.by_root.under p.records refl one.0 one.1
+          let one = comes_at w p sp plan c both h.change h.under p.records refl k
+          (in_has c.come.items k (h.under.whole.names.come k comes)) in
+          let at = new_at w p sp plan c both h.change h.under p.records refl one.0 one.1
           in
           has_in come.items (p.leaves k).bucket
           (subst (λ q. In q come.items) (sym (ap (λ n. (p.leaves n).bucket) (sym one.2)
@@ -212,30 +265,30 @@ module _ (o : Origin) (st : core.State) (i : ℕ) (sp : Spine) (plan : Plan) (ro
           ∙ ap (λ y. w.flow.books.bucket y.offset) (sym at.1.ptr))) (leaf_come one.0 one.1));
       inner_nodes = λ x comes.
           let one = in_map (inner_slot w) (new_nodes plan) x
-          (subst (λ (ks : List ℕ). In x ks) h.change.new (h.by_root.under.only_new x comes)) in
-          let new = h.by_root.under.new one.0 (in_contains (new_nodes plan) one.0 one.1) in
+          (subst (λ (ks : List ℕ). In x ks) h.change.new (h.under.only_new x comes)) in
+          let new = h.under.new one.0 (in_contains (new_nodes plan) one.0 one.1) in
           has_in come.items (p.inner_nodes x).bucket
           (subst (λ q. In q come.items) (sym (ap (λ n. (p.inner_nodes n).bucket) (sym one.2)
           ∙ new.bucket)) (node_come one.0 one.1));
       bare = λ k comes.
-          let one = comes_at w p sp plan c up.both h.change h.by_root.under p.records refl k
-          (in_has c.come.items k (h.by_root.under.whole.names.come k comes)) in
-          let at = new_at w p sp plan c up.both h.change h.by_root.under p.records refl one.0 one.1
+          let one = comes_at w p sp plan c both h.change h.under p.records refl k
+          (in_has c.come.items k (h.under.whole.names.come k comes)) in
+          let at = new_at w p sp plan c both h.change h.under p.records refl one.0 one.1
           in subst (λ n. (p.leaves n).pending ≡ []) one.2 at.2.nothing;
     },
   )
 
 pub law_may : LawMay
-law_may x o is course i sp plan root c number slot come gone up seat runs stands h ends = (
-  law_install x o is course i c come gone seat runs (record {
-    change = h.by_root.under.whole;
-    old = h.by_root.under.old;
-    made = made_by o (replay o x.log) i sp.spine plan root c number slot come gone up stands h ends;
-    held = held o (replay o x.log) i sp.spine plan root c number slot come gone up stands h ends;
-    come_once = ends.comes.once;
-    gone_in = gone_in o (replay o x.log) i sp.spine plan root c number slot come gone up stands h
-        ends;
-    gone_once = ends.goes.once;
-  }),
-  names o (replay o x.log) i sp.spine plan root c number slot come gone up stands h ends,
-)
+law_may x o is course i sp plan c how come gone up seat runs stands made_ ends =
+    let h = now_made i sp.spine plan c how o (replay o x.log) made_ in (
+      law_install x o is course i c come gone seat runs (record {
+        change = h.under.whole;
+        old = h.under.old;
+        made = h.made;
+        held = held o (replay o x.log) i sp.spine plan c come gone up.both stands h ends;
+        come_once = ends.comes.once;
+        gone_in = gone_in o (replay o x.log) i sp.spine plan c come gone up.both stands h ends;
+        gone_once = ends.goes.once;
+      }),
+      names o (replay o x.log) i sp.spine plan c come gone up.both stands h ends,
+    )

@@ -28,16 +28,21 @@ use Rattle.bc_events.specs.declared.event.Change.{Change}
 use Rattle.bc_events.specs.declared.event.Deed.{Deed}
 use Rattle.bc_events.specs.declared.event.Deed.TheVariants as deed
 use Rattle.bc_facts.proofs.Stood.{in_contains}
+use Rattle.bc_image.specs.Children.{with_children}
+use Rattle.bc_inner.specs.Inner.{Inner}
+use Rattle.bc_key.specs.declared.key.Key.{Key}
 use Rattle.bc_meta.specs.Facts.{In}
 use Rattle.bc_meta.proofs.Lists.{by_test}
+use Rattle.bc_parent_set.specs.BySet.{IsMadeSet, NamesThis}
+use Rattle.bc_parent_set.proofs.Keeping.{law_by_set, law_stays}
 use Rattle.bc_parts.specs.Seat.{Holds, PartsView, Run}
 use Rattle.bc_seats.specs.Seats.{Kept, Since}
-use Rattle.bc_seats.proofs.Knowing.{held, lasts}
+use Rattle.bc_seats.proofs.Knowing.{held, lasts, still}
 use Rattle.bc_spine.specs.Exchange.{going}
 use Rattle.bc_spine.specs.declared.leaf.LeafRange.{LeafRange}
 use Rattle.bc_tree.specs.declared.plan.Plan.{Plan}
 use Rattle.bc_install.specs.Buckets.{HasBucketsWith}
-use Rattle.bc_install.specs.Ended.{AreEndsOf, IsMadeByRoot, leaves_of}
+use Rattle.bc_install.specs.Ended.{AreEndsOf, ByNewRoot, ByNodeSet, How, IsMadeByRoot, IsMadeBySet, IsMadeSo, leaves_of}
 use Rattle.bc_install.specs.Installed.{AreBroughtIn, AreTakenOut, HasTreeWith}
 use Rattle.bc_install.specs.Step.{HasInstalled, IsPutIn, MayInstall}
 use Rattle.bc_install.proofs.Bucketed.{law_buckets}
@@ -172,18 +177,49 @@ module _ {C B : Type 0} (cache_facts : C → DiskFacts) (backing_facts : B → D
     fixed_at P known = lasts (m cache_facts backing_facts) v x (λ y. FromEach y (λ o st. P o))
         (λ y e on before. λ o is course. before o (origin_before y e o is) course.2) since known
 
-    made_at : FromEach x (IsMadeByRoot v.first sp.spine plan may.root c may.number may.slot)
-    made_at o is course = record {
+    made_root : (root : Inner) (number slot : ℕ)
+        → FromEach (world cache_facts backing_facts v)
+        (IsMadeByRoot v.first sp.spine plan root c number slot)
+        → FromEach x (IsMadeByRoot v.first sp.spine plan root c number slot)
+    made_root root number slot known o is course = record {
       change = fixed_at (λ o. IsChangeBy o.opening.machine sp.spine plan c)
-          (λ o is course. (may.made o is course).change) o is course;
+          (λ o is course. (known o is course).change) o is course;
       by_root = by_root_since cache_facts backing_facts v spine_held works.seat.seat.live plan c
-          may.number may.slot x since (λ o is course. (may.made o is course).by_root) o is course;
-      slot_is = fixed_at (λ o. inner_slot o.opening.machine may.root ≡ may.slot)
-          (λ o is course. (may.made o is course).slot_is) o is course;
-      made = lasts (m cache_facts backing_facts) v x (λ y. FromEach y (IsDurableTo may.number))
-          (λ y e on before. law_lasts y e may.number before) since
-          (λ o is course. (may.made o is course).made) o is course;
+          number slot x since (λ o is course. (known o is course).by_root) o is course;
+      slot_is = fixed_at (λ o. inner_slot o.opening.machine root ≡ slot)
+          (λ o is course. (known o is course).slot_is) o is course;
+      made = lasts (m cache_facts backing_facts) v x (λ y. FromEach y (IsDurableTo number))
+          (λ y e on before. law_lasts y e number before) since
+          (λ o is course. (known o is course).made) o is course;
     }
+
+    made_set : (taker : Inner) (put : List Key) (slot : ℕ)
+        → FromEach (world cache_facts backing_facts v)
+        (IsMadeBySet v.first sp.spine plan taker put c slot)
+        → FromEach x (IsMadeBySet v.first sp.spine plan taker put c slot)
+    made_set taker put slot known o is course = record {
+      change = fixed_at (λ o. IsChangeBy o.opening.machine sp.spine plan c)
+          (λ o is course. (known o is course).change) o is course;
+      by_set = still (m cache_facts backing_facts) v x
+          (λ y. FromEach y (IsMadeSet v.first plan c slot (with_children put taker.children)))
+          (λ y e on foreign before. law_by_set.made y e v.first plan c slot
+          (with_children put taker.children) (foreign.1 0 spine_held)
+          (inl (foreign.0 v.first (omega arith) works.seat.seat.live)) before) since
+          (λ o is course. (known o is course).by_set) o is course;
+      slot_is = fixed_at (λ o. inner_slot o.opening.machine taker ≡ slot)
+          (λ o is course. (known o is course).slot_is) o is course;
+      named = still (m cache_facts backing_facts) v x (λ y. FromEach y (NamesThis sp.spine.root))
+          (λ y e on foreign before. law_stays y e sp.spine.root (foreign.1 0 spine_held) before) since
+          (λ o is course. (known o is course).named) o is course;
+    }
+
+    made_so : (how : How) → FromEach (world cache_facts backing_facts v)
+        (IsMadeSo v.first sp.spine plan c how) → FromEach x (IsMadeSo v.first sp.spine plan c how)
+    made_so (ByNewRoot root number slot) known = made_root root number slot known
+    made_so (ByNodeSet at taker put slot) known = made_set taker put slot known
+
+    made_at : FromEach x (IsMadeSo v.first sp.spine plan c may.how)
+    made_at = made_so may.how may.made
 
     ends_at : FromEach x (λ o st. AreEndsOf o.opening.machine sp.spine plan come.items gone.items)
     ends_at = fixed_at (λ o. AreEndsOf o.opening.machine sp.spine plan come.items gone.items)
@@ -200,8 +236,8 @@ module _ {C B : Type 0} (cache_facts : C → DiskFacts) (backing_facts : B → D
           → (data_of y).halted ≡ false → CanFollow y (by v.first d)
       go x y o seen since = subst (λ (z : World). (data_of z).halted ≡ false
           → CanFollow z (by v.first d)) (sym seen.is)
-          (λ running. let one = law_may x o seen.origin seen.course v.first sp plan may.root c
-          may.number may.slot come gone may.up (lt-ltb v.first 320 (low cache_facts backing_facts v works.seat)) running
+          (λ running. let one = law_may x o seen.origin seen.course v.first sp plan c may.how
+          come gone may.up (lt-ltb v.first 320 (low cache_facts backing_facts v works.seat)) running
           (spine_at x since o seen.origin seen.course).spine
           (made_at x since o seen.origin seen.course) (ends_at x since o seen.origin seen.course) in
           record { enabled = one.0; names = one.1; number = tt })
@@ -262,12 +298,12 @@ module _ {C B : Type 0} (cache_facts : C → DiskFacts) (backing_facts : B → D
 
     spine_behind : IsSpinePart q (world cache_facts backing_facts w)
     spine_behind = subst (λ x. IsSpinePart q x) (sym did.is.state)
-        (law_tree before v.first sp q plan may.root c may.number may.slot come gone may.up
+        (law_tree before v.first sp q plan c may.how come gone may.up
         (made_at before did.is.since) (spine_at before did.is.since) tree)
 
     leaves_behind : AreLeaves (l.part - 6) cache (world cache_facts backing_facts w)
     leaves_behind = subst (λ x. AreLeaves (l.part - 6) cache x) (sym did.is.state)
-        (law_leaves before v.first (l.part - 6) sp plan may.root c may.number may.slot come gone
+        (law_leaves before v.first (l.part - 6) sp plan c may.how come gone
         l.cache cache may.up.both (made_at before did.is.since) (leaves_at before did.is.since)
         (leaves_with sp.spine plan before.begun.leaf_parts (l.part - 6) l.cache without cache out
         (subst (λ n. AreBroughtIn n (l.part - 6) plan without cache) (sym count_is) brought)))
@@ -275,7 +311,7 @@ module _ {C B : Type 0} (cache_facts : C → DiskFacts) (backing_facts : B → D
     buckets_behind : AreBuckets r (world cache_facts backing_facts w)
     buckets_behind = let some = b.sized in
         subst (λ x. AreBuckets r x) (sym did.is.state)
-        (law_buckets before v.first first sp plan may.root c may.number may.slot come gone b r may.up
+        (law_buckets before v.first first sp plan c may.how come gone b r may.up
         may.proper (omega (arith, some))
         (fixed_at before did.is.since (λ o. o.opening.machine.before ≡ first) may.counts)
         (made_at before did.is.since) (spine_at before did.is.since)

@@ -2,6 +2,7 @@ mod Opened
 mod Touching
 mod Brought
 mod Rooted
+pub mod Keeping
 mod Moved
 mod Tree
 mod Cached
@@ -21,3 +22,4 @@ pub use Rattle.bc_change.proofs.of_bc_entry
 pub use Rattle.bc_change.proofs.of_bc_hand
 pub use Rattle.bc_change.proofs.of_bc_nodes_known
 pub use Rattle.bc_append.proofs as of_bc_append
+pub use Rattle.bc_parent_set.proofs as of_bc_parent_set

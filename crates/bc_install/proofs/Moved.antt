@@ -1,11 +1,14 @@
--- The inner nodes of a tree whose changed nodes all moved, up to a new root.
+-- The inner nodes of a tree whose changed nodes all moved, up to a new root, or of which one took a
+-- set.
 use Rattle.std.proofs.Common.{◌≡◌, ◌⊎◌, inl, inr, ℕ, ◌+◌, List, [], ◌∷◌, ◌++◌, length, Option, Some, None, refl, sym, subst}
 use Rattle.bc_change.specs.Goes.{BringsBy, beside_come, top_moved}
 use Rattle.bc_change.proofs.Lists.{get_in, in_get}
 use Rattle.bc_change.proofs.Nexts.{IsSet, IsTopSet, TakesAt, inserted, next_at, removed, set_in}
 use Rattle.bc_facts.proofs.Stood.{in_behind}
 use Rattle.bc_inner.specs.Inner.{Inner}
+use Rattle.bc_key.specs.declared.key.Key.{Key}
 use Rattle.bc_meta.specs.Facts.{In}
+use Rattle.bc_parent_set.specs.Takes.{TakesAlone}
 use Rattle.bc_tree.specs.Next.{below_next, beside_next, nodes_next, root_next}
 use Rattle.bc_tree.specs.Same.{SameNode, SameNodes}
 use Rattle.bc_tree.specs.declared.beside.Beside.{Beside}
@@ -129,3 +132,18 @@ in_same (a ∷ more) (b ∷ bs) x same (inl here) =
     (b, inl refl, subst (λ (z : Inner). SameNode z b) (sym here) same.0)
 in_same (a ∷ more) (b ∷ bs) x same (inr later) =
     let one = in_same more bs x same.1 later in (one.0, inr one.1, one.2)
+
+-- ---- where a node takes a set
+
+-- the root stands where it stood
+pub root_stays : (root : Inner) (below : List Inner) (place : ℕ) (b : NodeChange)
+    (top : Option NodeChange) (at : ℕ) (put : List Key) → TakesAlone below place b top at put
+    → (root_next root below b top).ptr ≡ root.ptr
+root_stays root [] place (Set keys) None at put h = refl
+root_stays root [] place (Set keys) (Some x) at put h = absurd h
+root_stays root [] place (Move n) top at put h = absurd h
+root_stays root (x ∷ xs) place (Set keys) None at put h = refl
+root_stays root (x ∷ xs) place (Set keys) (Some y) at put h = absurd h
+root_stays root (x ∷ xs) place (Move n) None at put h = absurd h
+root_stays root (x ∷ xs) place (Move n) (Some (Set keys)) at put h = refl
+root_stays root (x ∷ xs) place (Move n) (Some (Move t)) at put h = absurd h

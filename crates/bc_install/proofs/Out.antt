@@ -63,6 +63,11 @@ none_out k a misses = record {
     ],
   );
   stay = λ i c at. inr at;
+  emptied = λ i c at m. elim m [
+    | inl same ↦ absurd (misses i (record { cached = c; there = at; number_is = same }))
+    | inr none ↦ absurd none
+  ];
+  empty = λ i none. none;
 }
 
 pub slot_out : (k slot : ℕ) (a b d : NodeCache) (leaf : Leaf) → IsSlotOf a.slots k slot
@@ -71,6 +76,12 @@ slot_out k slot a b d leaf is free out = record {
   geometry = ap (λ (x : NodeCache). x.geometry) out.after ∙ free.geometry;
   now = λ i c at. go_now i c at (cases_eq i slot);
   stay = λ i c at. go_stay i c at (cases_eq i slot);
+  emptied = λ i c at m. elim m [
+    | inl same ↦ subst (λ n. slice_get d.slots n ≡ Some None)
+        (sym (is.only i (record { cached = c; there = at; number_is = same }))) out.empty
+    | inr none ↦ absurd none
+  ];
+  empty = λ i none. go_empty i none (cases_eq i slot);
 }
   where
     other_slot : (i : ℕ) → i ≢ slot → slice_get d.slots i ≡ slice_get a.slots i
@@ -104,6 +115,12 @@ slot_out k slot a b d leaf is free out = record {
         inl (inl (ap (λ (x : Cached). x.number) same ∙ is.has.number_is))
     go_stay i c at (inr ne) = inr (other_slot i ne ∙ at)
 
+    go_empty : (i : ℕ) → slice_get a.slots i ≡ Some None → (i ≡ slot) ⊎ (i ≢ slot)
+        → slice_get d.slots i ≡ Some None
+    go_empty i none (inl here) =
+        subst (λ n. slice_get d.slots n ≡ Some None) (sym here) out.empty
+    go_empty i none (inr ne) = other_slot i ne ∙ none
+
 -- ---- one behind the other
 
 pub out_none : (a : NodeCache) → AreTakenOut [] a a
@@ -111,6 +128,8 @@ out_none a = record {
   geometry = refl;
   now = λ i c at. (at, λ m. m);
   stay = λ i c at. inr at;
+  emptied = λ i c at m. absurd m;
+  empty = λ i none. none;
 }
 
 pub out_both : (xs ys : List ℕ) (a b d : NodeCache) → AreTakenOut xs a b → AreTakenOut ys b d
@@ -133,6 +152,14 @@ out_both xs ys a b d one two = record {
       | inr still ↦ inr still
     ]
   ];
+  emptied = λ i c at m. elim (in_either c.number xs ys m) [
+    | inl first ↦ two.empty i (one.emptied i c at first)
+    | inr second ↦ elim (one.stay i c at) [
+      | inl gone ↦ two.empty i (one.emptied i c at gone)
+      | inr there ↦ two.emptied i c there second
+    ]
+  ];
+  empty = λ i none. two.empty i (one.empty i none);
 }
 
 pub out_next : (ls : List LeafRange) (p i : ℕ) (l : LeafRange) (a b d : NodeCache)

@@ -2,20 +2,22 @@
 use Rattle.std.proofs.Common.{◌≡◌, inl, inr, ℕ, ◌*◌, ◌≤◌, true, List, [], ◌∷◌, Option, Some, None, refl, sym, ap, ◌∙◌, subst}
 use Rattle.std.specs.Prelude.{Result, Ok, Err, IfErr, OnOk, is_some}
 use Rattle.bc_change.specs.Put.{HasCutBehind, HasPutBehind, KeepsByRoot}
-use Rattle.bc_change.specs.Root.{HasSealedRoot}
+use Rattle.bc_change.specs.Root.{HasSealedRoot, IsUnheard}
 use Rattle.bc_change.specs.Under.{IsByRoot}
 use Rattle.bc_disk.specs.Disk.{DiskFacts}
+use Rattle.bc_disk.specs.declared.disk.Device.{Device}
 use Rattle.bc_disk.specs.declared.geometry.Geometry.{Geometry}
 use Rattle.bc_change.specs.bc_entry.Entry.{IsNewestEntry}
 use Rattle.bc_change.specs.bc_entry.Put.{IsCause, IsNoFault}
 use Rattle.bc_change.specs.bc_deed.Asked.{IsHaltedOr}
 use Rattle.bc_change.specs.bc_deed.Flushed.{HasDone}
-use Rattle.bc_change.specs.bc_hand.Seats.{Did, View, world}
+use Rattle.bc_change.specs.bc_hand.Seats.{Did, IsCoreSeat, View, world}
 use Rattle.bc_change.specs.bc_hand.declared.error.StepError.{StepError}
 use Rattle.bc_change.specs.bc_hand.declared.error.StepError.TheVariants as error
 use Rattle.bc_change.specs.bc_hand.declared.hand.Hand.{Hand}
 use Rattle.bc_change.specs.bc_machine.World.{FromEach}
 use Rattle.bc_change.proofs.of_bc_entry.Ending.{with_durable}
+use Rattle.bc_change.proofs.of_bc_deed.May.{did_nothing}
 use Rattle.bc_change.proofs.of_bc_deed.Sequence.{done_both, done_one}
 use Rattle.bc_events.specs.declared.event.Change.{Change}
 use Rattle.bc_events.specs.declared.event.Deed.{Deed}
@@ -24,7 +26,7 @@ use Rattle.bc_journal.specs.Journal.{IsSealed, Journal}
 use Rattle.bc_journal.specs.Sealed.{Sealed, heads_of, numbers_of}
 use Rattle.bc_journal.specs.declared.heads.Heads.{Heads}
 use Rattle.bc_tree.specs.declared.plan.Plan.{Plan}
-use Rattle.bc_install.specs.RootPut.{GoesOnWith, HasCutRoot, HasPutRoot, IsSealedThen, durable_by, seal_by}
+use Rattle.bc_install.specs.RootPut.{GoesOnWith, HasCutRoot, HasNotSealed, HasPutRoot, IsSealedThen, durable_by, seal_by}
 
 -- ---- the hand
 
@@ -81,6 +83,17 @@ journal_put (Err e) first middle last j heads s k at is here good = tt
 
 -- ---- deeds
 
+module _ {C B : Type 0} (cache_facts : C → DiskFacts) (backing_facts : B → DiskFacts) where
+  -- a step that gave up before it did anything
+  pub unsealed : (e : StepError) (v : View cache_facts backing_facts) (h : Hand C B)
+      → IsNoFault e → IsCoreSeat cache_facts backing_facts v
+      → HasNotSealed cache_facts backing_facts e h h v v
+  unsealed e v h no_fault seat = record {
+    no_fault = no_fault;
+    same = refl;
+    did = did_nothing cache_facts backing_facts v seat;
+  }
+
 module _ {C B : Type 0} (cache_facts : C → DiskFacts) (backing_facts : B → DiskFacts)
     (j : Journal) (heads : Heads) (slot : ℕ) (c : Change)
     (t : View cache_facts backing_facts) where
@@ -89,19 +102,34 @@ module _ {C B : Type 0} (cache_facts : C → DiskFacts) (backing_facts : B → D
   no_fault (error.Halted device) es h = tt
   no_fault error.Memory es h = tt
 
+  -- behind the seal there is never want of memory
+  unheard_behind : (e : StepError) (s : Sealed) (v w : View cache_facts backing_facts)
+      (heard : Option Device) → HasCutBehind cache_facts backing_facts e s v w
+      → IsUnheard e heard
+  unheard_behind (error.Fault device) s v w heard h = tt
+  unheard_behind (error.Halted device) s v w heard h = tt
+  unheard_behind error.Memory s v w heard h = absurd h.cut
+
+  pub unheard_put : (r : Result (Unit {0}) StepError) (s : Sealed)
+      (v w : View cache_facts backing_facts) (heard : Option Device)
+      → IfErr r (λ e. HasCutBehind cache_facts backing_facts e s v w)
+      → IfErr r (λ e. IsUnheard e heard)
+  unheard_put (Ok z) s v w heard h = tt
+  unheard_put (Err e) s v w heard h = unheard_behind e s v w heard h
+
   pub cause_seal : (e : StepError) (es : List Event) → IsHaltedOr e es → IsCause e es
   cause_seal (error.Fault device) es h = absurd h
   cause_seal (error.Halted device) es h = h
   cause_seal error.Memory es h = tt
 
-  pub cut_seal : (e : StepError) (u : View cache_facts backing_facts) → IsHaltedOr e u.seen
-      → Did cache_facts backing_facts None t u
-      → HasCutRoot cache_facts backing_facts e j heads slot c t u
-  cut_seal e u halted h = record {
-    deeds = [];
-    cut = inl (no_fault e u.seen halted, refl);
-    done = done_one cache_facts backing_facts None t u h;
-  }
+  pub cut_seal : (e : StepError) (u : View cache_facts backing_facts) (a b : Hand C B)
+      → IsHaltedOr e u.seen → Did cache_facts backing_facts None t u → b ≡ a
+      → HasCutRoot cache_facts backing_facts e j heads slot c a b t u
+  cut_seal e u a b halted h same = inl (record {
+    no_fault = no_fault e u.seen halted;
+    same = same;
+    did = h;
+  })
 
   module _ (u w : View cache_facts backing_facts) (s : Sealed) (k : Journal)
       (is : IsSealed j heads s k) (a : HasSealedRoot cache_facts backing_facts j s slot c t u) where
@@ -122,15 +150,15 @@ module _ {C B : Type 0} (cache_facts : C → DiskFacts) (backing_facts : B → D
       is = refl;
     }
 
-    pub cut_behind : (r : Result (Unit {0}) StepError)
+    pub cut_behind : (r : Result (Unit {0}) StepError) (a b : Hand C B)
         → IfErr r (λ e. HasCutBehind cache_facts backing_facts e s u w)
-        → IfErr r (λ e. HasCutRoot cache_facts backing_facts e j heads slot c t w)
-    cut_behind (Ok z) h = tt
-    cut_behind (Err e) h = record {
+        → IfErr r (λ e. HasCutRoot cache_facts backing_facts e j heads slot c a b t w)
+    cut_behind (Ok z) a b h = tt
+    cut_behind (Err e) a b h = inr (record {
       deeds = seal ∷ h.deeds;
-      cut = inr (record { at = sealed_then h.deeds; cut = h.cut });
+      cut = record { at = sealed_then h.deeds; cut = h.cut };
       done = done_both cache_facts backing_facts (seal ∷ []) h.deeds t u w one h.done;
-    }
+    })
 
     module _ (plan : Plan) (keeps : KeepsByRoot cache_facts backing_facts u w)
         (known : FromEach (world cache_facts backing_facts u)

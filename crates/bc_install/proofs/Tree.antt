@@ -1,17 +1,19 @@
--- The tree in memory stands for the core's behind an install of a change by a new root.
+-- The tree in memory stands for the core's behind an install of a change.
 use Rattle.std.proofs.Common.{◌≡◌, ◌≢◌, ◌⊎◌, inl, inr, ℕ, List, ◌∷◌, refl, sym, subst, ap, ◌∙◌}
-use Rattle.std.specs.Prelude.{map}
+use Rattle.std.specs.Prelude.{Some, map, slice_get}
 use Rattle.bc_change.specs.Goes.{BringsRoot, IsChangeBy, new_leaves, new_nodes, old_nodes}
 use Rattle.bc_change.specs.Ready.{HasBoth, IsNewLeaf, IsRangeFor, IsTree}
 use Rattle.bc_change.specs.Under.{IsUnderWay}
-use Rattle.bc_change.proofs.Lists.{in_get, in_map, map_in}
-use Rattle.bc_change.proofs.Nexts.{kept_next, new_in, next_is}
+use Rattle.bc_change.proofs.Lists.{get_in, in_get, in_map, map_in}
+use Rattle.bc_change.proofs.Nexts.{TakesAt, kept_next, new_in, next_is}
 use Rattle.bc_change.proofs.Places.{new_leaf}
 use Rattle.bc_change.proofs.Sites.{leaf_comes, leaf_next, leaf_stays, slots_apart}
 use Rattle.bc_events.specs.declared.event.Change.{Change}
 use Rattle.bc_facts.proofs.Stood.{contains_in, in_contains}
+use Rattle.bc_image.specs.Children.{with_children}
 use Rattle.bc_inner.specs.Inner.{Inner}
 use Rattle.bc_key.specs.Words.{ptr_word}
+use Rattle.bc_key.specs.declared.key.Key.{Key}
 use Rattle.bc_key.specs.declared.ptr.Ptr.{Ptr}
 use Rattle.bc_leaves.specs.After.{inner_with_role, installed, with_role}
 use Rattle.bc_leaves.specs.Parts.{Role, NoNode, Draft, Free, Leaving, Coming, ByRoot, BySet, NoChange}
@@ -20,20 +22,25 @@ use Rattle.bc_leaves.proofs.Chains.{in_has}
 use Rattle.bc_change.specs.bc_machine.Containers.{HasSets, IsAtRest, IsInTree, IsSpineOf, IsTreeInner, IsTreeLeaf, NamesRoot, Rests, child_of, inner_slot}
 use Rattle.bc_meta.specs.Facts.{In}
 use Rattle.bc_meta.specs.Records.{Node, Records}
+use Rattle.bc_meta.specs.Tree.{children_of}
 use Rattle.bc_node.specs.Leaf.{Leaf}
+use Rattle.bc_parent_set.specs.Takes.{IsTaker}
+use Rattle.bc_parent_set.proofs.Taker.{one_of_next, only_taker, taker_next}
 use Rattle.bc_shares.specs.Shares.{InnerShare, inner_share, leaf_share, node_share, shape_of}
 use Rattle.bc_spine.specs.Exchange.{coming, going}
 use Rattle.bc_spine.specs.Numbers.{HasNumber}
 use Rattle.bc_spine.specs.declared.leaf.LeafRange.{LeafRange}
-use Rattle.bc_tree.specs.Next.{below_next, leaves_next, root_next}
+use Rattle.bc_tree.specs.Next.{below_next, leaves_next, node_next, root_next}
 use Rattle.bc_tree.specs.Plan.{Fits}
 use Rattle.bc_tree.specs.Same.{SameNode, SameNodes}
 use Rattle.bc_tree.specs.Spine.{Spine}
 use Rattle.bc_tree.specs.declared.change.NodeChange.{NodeChange}
+use Rattle.bc_tree.specs.declared.change.NodeChange.TheVariants.{Set}
 use Rattle.bc_tree.specs.declared.plan.Plan.{Plan}
 use Rattle.bc_whole.specs.State.{Opening}
+use Rattle.bc_install.specs.Ended.{ByNewRoot, ByNodeSet, How, Makes}
 use Rattle.bc_install.specs.Installed.{IsTreeWith}
-use Rattle.bc_install.proofs.Moved.{AllMove, all_move, in_same, next_same, none_takes, root_is, same_in}
+use Rattle.bc_install.proofs.Moved.{AllMove, all_move, in_same, next_same, none_takes, same_in}
 
 -- ---- roles
 
@@ -85,6 +92,32 @@ ended st r = record {
   change = NoChange;
   sent = st.sent;
 }
+
+-- the node in this slot took a set that made the change, and has the children that it put
+pub record IsTakerNow (w : Opening) (st : parts.State) (taker : Inner) (put : List Key) (slot : ℕ) :
+    Type 0 where
+  pub slot_is : inner_slot w taker ≡ slot
+  pub change : st.change ≡ BySet slot
+  pub stays : (st.inner_nodes slot).role ≡ Free
+  pub children_are : children_of (inner_share st slot).node.sets
+      ≡ map (child_of w) (with_children put taker.children)
+
+abbrev pub Making : Opening → parts.State → How → Type 0
+Making w st (ByNewRoot root number slot) = st.change ≡ ByRoot number
+Making w st (ByNodeSet at taker put slot) = IsTakerNow w st taker put slot
+
+by_root_no_set : (number : ℕ) (change : parts.Change) → change ≡ ByRoot number → (x : ℕ)
+    → change ≢ BySet x
+by_root_no_set number change by_root x same =
+    let other : ByRoot number ≡ BySet x = sym by_root ∙ same in cc
+
+one_set : (a b : ℕ) → BySet a ≡ BySet b → a ≡ b
+one_set a b e = cc
+
+some_one : (xs : List Inner) (i j : ℕ) (a b : Inner) → slice_get xs i ≡ Some a
+    → slice_get xs j ≡ Some b → i ≡ j → a ≡ b
+some_one xs i j a b at there same =
+    let both : Some a ≡ Some b = sym at ∙ ap (λ k. slice_get xs k) same ∙ there in cc
 
 module _ (w : Opening) (st : parts.State) (sp : Spine) (plan : Plan) (c : Change)
     (both : HasBoth plan) (is : IsChangeBy w sp plan c) (under : IsUnderWay w st plan c)
@@ -141,8 +174,8 @@ module _ (w : Opening) (st : parts.State) (sp : Spine) (plan : Plan) (c : Change
       let known = under.come l one.0 (in_contains (new_leaves plan) (l, one.0) one.1) in
       (one.0, known.0, known.1)
 
-  module _ (tree : IsTree sp) (stands : IsSpineOf w st sp) (fits : Fits sp plan) (root : Inner)
-      (brings : BringsRoot sp plan root) (number : ℕ) (by_root : st.change ≡ ByRoot number) where
+  module _ (tree : IsTree sp) (stands : IsSpineOf w st sp) (fits : Fits sp plan) (how : How)
+      (makes : Makes sp plan how) (making : Making w st how) where
     came_leaf : (l : LeafRange) → In l (coming plan.leaves)
         → IsTreeLeaf w l.from l.end l.ptr (shape_of ((ended st r).leaves l.number))
     came_leaf l m = let one = new_at l m in
@@ -202,12 +235,13 @@ module _ (w : Opening) (st : parts.State) (sp : Spine) (plan : Plan) (c : Change
     next = root_next sp.root sp.below plan.bottom plan.top
         ∷ below_next sp.below plan.place plan.bottom plan.beside
 
-    move : AllMove plan.bottom plan.top
-    move = all_move sp.below plan.bottom plan.top root brings fits.alone
-
     -- one that doesn't come was there as it is
-    as_it_was : (n : Inner) → In n next → In n (new_nodes plan) ⊎ In n here
-    as_it_was n m = elim (next_same sp.root sp.below plan.place move.node plan.top plan.beside move.up n
+    as_it_was : (root : Inner) → BringsRoot sp plan root → (n : Inner) → In n next
+        → In n (new_nodes plan) ⊎ In n here
+    as_it_was root brings n m =
+        let move : AllMove plan.bottom plan.top =
+        all_move sp.below plan.bottom plan.top root brings fits.alone in
+        elim (next_same sp.root sp.below plan.place move.node plan.top plan.beside move.up n
         (subst (λ (b : NodeChange). In n (root_next sp.root sp.below b plan.top
         ∷ below_next sp.below plan.place b plan.beside)) move.is m)) [
           | inl new ↦ inl (subst (λ (b : NodeChange).
@@ -244,9 +278,6 @@ module _ (w : Opening) (st : parts.State) (sp : Spine) (plan : Plan) (c : Change
               ])
         ]
 
-    not_by_set : (x : ℕ) → st.change ≢ BySet x
-    not_by_set x same = let other : ByRoot number ≡ BySet x = sym by_root ∙ same in cc
-
     came_inner : (n : Inner) → In n (new_nodes plan)
         → IsTreeInner w NoChange (inner_slot w n) n (inner_share (ended st r) (inner_slot w n))
     came_inner n m = let new = under.new n (in_contains (new_nodes plan) n m) in
@@ -263,9 +294,10 @@ module _ (w : Opening) (st : parts.State) (sp : Spine) (plan : Plan) (c : Change
           children = λ ne. new.children;
         })
 
-    kept_inner : (n : Inner) → In n here → (st.inner_nodes (inner_slot w n)).role ≡ Free
+    kept_inner : (n : Inner) → In n here → st.change ≢ BySet (inner_slot w n)
+        → (st.inner_nodes (inner_slot w n)).role ≡ Free
         → IsTreeInner w NoChange (inner_slot w n) n (inner_share (ended st r) (inner_slot w n))
-    kept_inner n m free = let h = node_at n m in
+    kept_inner n m off free = let h = node_at n m in
         let x = inner_slot w n in
         subst (λ (s : InnerShare). IsTreeInner w NoChange x n s) (sym (inner_is x)) (record {
           role = free_after (st.inner_nodes x).role free;
@@ -276,18 +308,69 @@ module _ (w : Opening) (st : parts.State) (sp : Spine) (plan : Plan) (c : Change
           level = h.level;
           loaded = h.loaded;
           own = h.own;
-          children = λ ne. h.children (not_by_set x);
+          children = λ ne. h.children off;
         })
 
-    inner_after : (n : Inner) → In n next
+    -- the node that took a set has its children now
+    taker_inner : (at : ℕ) (taker : Inner) (put : List Key) (slot : ℕ) → IsTaker sp plan at taker put
+        → IsTakerNow w st taker put slot → (n : Inner) → n ≡ node_next taker (Set put)
         → IsTreeInner w NoChange (inner_slot w n) n (inner_share (ended st r) (inner_slot w n))
-    inner_after n m = elim (as_it_was n m) [
+    taker_inner at taker put slot take now n n_is =
+        let x = inner_slot w taker in
+        let h = node_at taker (get_in here at taker take.there) in
+        subst (λ (y : Inner).
+        IsTreeInner w NoChange (inner_slot w y) y (inner_share (ended st r) (inner_slot w y)))
+        (sym n_is)
+        (subst (λ (s : InnerShare). IsTreeInner w NoChange x (node_next taker (Set put)) s)
+        (sym (inner_is x)) (record {
+          role = free_after (st.inner_nodes x).role
+              (ap (λ k. (st.inner_nodes k).role) now.slot_is ∙ now.stays);
+          first = h.first;
+          end = h.end;
+          bucket = h.bucket;
+          word = h.word;
+          level = h.level;
+          loaded = h.loaded;
+          own = h.own;
+          children = λ ne. ap (λ k. children_of (inner_share st k).node.sets) now.slot_is
+              ∙ now.children_are;
+        }))
+
+    -- a node at another place isn't it
+    not_taker : (at : ℕ) (taker : Inner) (put : List Key) (slot : ℕ) → IsTaker sp plan at taker put
+        → IsTakerNow w st taker put slot → (j : ℕ) (n : Inner) → slice_get here j ≡ Some n → j ≢ at
+        → st.change ≢ BySet (inner_slot w n)
+    not_taker at taker put slot take now j n there ne same =
+        slots_apart w st sp tree stands j at n taker there take.there ne
+        (one_set (inner_slot w n) slot (sym same ∙ now.change) ∙ sym now.slot_is)
+
+    after_by : (h : How) → Makes sp plan h → Making w st h → (n : Inner) → In n next
+        → IsTreeInner w NoChange (inner_slot w n) n (inner_share (ended st r) (inner_slot w n))
+    after_by (ByNewRoot root number slot) brings by_root n m = elim (as_it_was root brings n m) [
       | inl new ↦ came_inner n new
       | inr old ↦ elim (stays_free n m old) [
         | inl new ↦ came_inner n new
-        | inr free ↦ kept_inner n old free
+        | inr free ↦ kept_inner n old
+            (by_root_no_set number st.change by_root (inner_slot w n)) free
       ]
     ]
+    after_by (ByNodeSet at taker put slot) take now n m =
+        elim (one_of_next sp.root sp.below plan.place plan.bottom plan.top plan.beside at taker put
+        take.takes take.there n m) [
+          | inl new ↦ came_inner n new
+          | inr more ↦ elim more [
+            | inl its ↦ taker_inner at taker put slot take now n its
+            | inr old ↦ (let there = get_in here old.0 n old.1 in elim (stays_free n m there) [
+              | inl new ↦ came_inner n new
+              | inr free ↦ kept_inner n there
+                  (not_taker at taker put slot take now old.0 n old.1 old.2) free
+            ])
+          ]
+        ]
+
+    inner_after : (n : Inner) → In n next
+        → IsTreeInner w NoChange (inner_slot w n) n (inner_share (ended st r) (inner_slot w n))
+    inner_after = after_by how makes making
 
     -- a node that is the same but for its room
     same_inner : (n m : Inner) → SameNode n m
@@ -312,6 +395,22 @@ module _ (w : Opening) (st : parts.State) (sp : Spine) (plan : Plan) (c : Change
               ∙ ap (map (child_of w)) (sym same.children_are);
         })
 
+    -- one that takes a set stands there with its new children
+    takes_by : (h : How) → Makes sp plan h → (j : ℕ) (n : Inner) → slice_get here j ≡ Some n
+        → TakesAt sp.below plan.place plan.bottom plan.top j
+        → (y : Inner) × In y next × (inner_slot w y ≡ inner_slot w n)
+    takes_by (ByNewRoot root number slot) brings j n there takes =
+        absurd (none_takes sp.below plan.place plan.bottom plan.top j
+        (all_move sp.below plan.bottom plan.top root brings fits.alone) takes)
+    takes_by (ByNodeSet at taker put slot) take j n there takes = (
+      node_next taker (Set put),
+      taker_next sp.root sp.below plan.place sp.room plan.bottom plan.top plan.beside at taker put
+          take.takes take.there fits.stands,
+      ap (inner_slot w) (some_one here at j taker n take.there there
+          (sym (only_taker sp.root sp.below plan.place plan.bottom plan.top at put take.takes j n
+          there takes))),
+    )
+
     -- each slot of the tree has one of these
     inners_after : (x : ℕ) → IsInTree ((ended st r).inner_nodes x).role
         → (n : Inner) × In n next × (inner_slot w n ≡ x)
@@ -324,7 +423,8 @@ module _ (w : Opening) (st : parts.State) (sp : Spine) (plan : Plan) (c : Change
           fits.node fits.there fits.stands at.0 one.0 at.1 (λ gone. two_roles (st.inner_nodes x).role
           free (subst (λ k. (st.inner_nodes k).role ≡ Leaving) one.2 (gone_slot one.0 gone)))) [
             | inl stays ↦ (one.0, stays, one.2)
-            | inr takes ↦ absurd (none_takes sp.below plan.place plan.bottom plan.top at.0 move takes)
+            | inr takes ↦ (let now = takes_by how makes at.0 one.0 at.1 takes in
+                (now.0, now.1, now.2 ∙ one.2))
           ])
       | inr comes ↦ (
           let one = in_map (inner_slot w) (new_nodes plan) x
@@ -361,14 +461,12 @@ module _ (w : Opening) (st : parts.State) (sp : Spine) (plan : Plan) (c : Change
       }
 
       -- it is at rest
-      pub rest_after : (slot : ℕ) → inner_slot w root ≡ slot → NamesRoot r slot
-          → IsAtRest w (ended st r) new
-      rest_after slot slot_is named = record {
+      pub rest_after : NamesRoot r
+          (inner_slot w (root_next sp.root sp.below plan.bottom plan.top)) → IsAtRest w (ended st r) new
+      rest_after named = record {
         change = refl;
         leaves = λ k. rests_after (st.leaves k).role (under.no_leaf k);
         inner_nodes = λ x. rests_after (st.inner_nodes x).role (under.no_inner x);
-        root = subst (NamesRoot r) (sym slot_is
-            ∙ ap (inner_slot w)
-            (sym (root_is sp.root sp.below plan.bottom plan.top root brings))
-            ∙ ap (λ (p : Ptr). w.flow.books.bucket p.offset) (sym made.root.node.ptr)) named;
+        root = subst (NamesRoot r)
+            (ap (λ (p : Ptr). w.flow.books.bucket p.offset) (sym made.root.node.ptr)) named;
       }

@@ -37,13 +37,16 @@ pub record IsLetGoIn (slot : ℕ) (a b : NodeCache) : Type 0 where
   pub free : IsTakenBy b.slots slot false
   pub others : (i : ℕ) → i ≢ slot → slice_get b.slots i ≡ slice_get a.slots i
 
--- The leaves of these numbers are in no slot, and the other slots are as they were.
+-- The leaves of these numbers are in no slot, theirs are empty, and the other slots are as they were.
 pub record AreTakenOut (gone : List ℕ) (a b : NodeCache) : Type 0 where
   pub geometry : b.geometry ≡ a.geometry
   pub now : (i : ℕ) (c : Cached) → slice_get b.slots i ≡ Some (Some c)
       → (slice_get a.slots i ≡ Some (Some c)) × ¬ (In c.number gone)
   pub stay : (i : ℕ) (c : Cached) → slice_get a.slots i ≡ Some (Some c)
       → In c.number gone ⊎ (slice_get b.slots i ≡ Some (Some c))
+  pub emptied : (i : ℕ) (c : Cached) → slice_get a.slots i ≡ Some (Some c) → In c.number gone
+      → slice_get b.slots i ≡ Some None
+  pub empty : (i : ℕ) → slice_get a.slots i ≡ Some None → slice_get b.slots i ≡ Some None
 
 -- a leaf of the plan is in a slot of the part that has the leaves of its number
 pub record IsBrought (plan : Plan) (count part : ℕ) (c : Cached) : Type 0 where

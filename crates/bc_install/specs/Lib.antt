@@ -11,3 +11,4 @@ pub use Rattle.bc_change.specs.bc_entry
 pub use Rattle.bc_append.specs.bc_hand
 pub use Rattle.bc_change.specs.bc_deed
 pub use Rattle.bc_append.specs as bc_append
+pub use Rattle.bc_parent_set.specs as bc_parent_set

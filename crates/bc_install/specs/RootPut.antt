@@ -7,8 +7,9 @@ use Rattle.bc_change.specs.bc_entry.Entry.{AreValuesOf, IsNewestEntry}
 use Rattle.bc_change.specs.bc_entry.Put.{IsCutBehind, IsNoFault, write_by}
 use Rattle.bc_change.specs.bc_entry.Seal.{begun_by}
 use Rattle.bc_change.specs.bc_deed.Flushed.{HasDone}
-use Rattle.bc_change.specs.bc_hand.Seats.{View, world}
+use Rattle.bc_change.specs.bc_hand.Seats.{Did, View, world}
 use Rattle.bc_change.specs.bc_hand.declared.error.StepError.{StepError}
+use Rattle.bc_change.specs.bc_hand.declared.hand.Hand.{Hand}
 use Rattle.bc_change.specs.bc_machine.World.{FromEach}
 use Rattle.bc_events.specs.declared.event.Change.{Change}
 use Rattle.bc_events.specs.declared.event.Deed.{Deed}
@@ -52,11 +53,6 @@ pub record IsCutRootAt (e : StepError) (j : Journal) (heads : Heads) (slot : ℕ
   pub at : IsSealedThen j heads slot c deeds
   pub cut : IsCutBehind e at.sealed at.more
 
--- or not even to the seal
-abbrev pub IsCutRoot : StepError → Journal → Heads → ℕ → Change → List Deed → Type 0
-IsCutRoot e j heads slot c deeds =
-    (IsNoFault e × (deeds ≡ [])) ⊎ IsCutRootAt e j heads slot c deeds
-
 -- a barrier, it is written, a barrier, and it is durable
 abbrev pub durable_by : Sealed → List Value → List Deed
 durable_by s values =
@@ -78,9 +74,21 @@ module _ {C B : Type 0} (cache_facts : C → DiskFacts) (backing_facts : B → D
     pub under : FromEach (world cache_facts backing_facts w)
         (IsByRoot v.first plan c at.sealed.entry.seq slot)
 
-  -- it came so far, for this error
-  pub record HasCutRoot (e : StepError) (j : Journal) (heads : Heads) (slot : ℕ) (c : Change)
+  -- it came so far behind its seal, for this error
+  pub record HasCutRootAt (e : StepError) (j : Journal) (heads : Heads) (slot : ℕ) (c : Change)
       (v w : View cache_facts backing_facts) : Type 0 where
     pub deeds : List Deed
-    pub cut : IsCutRoot e j heads slot c deeds
+    pub cut : IsCutRootAt e j heads slot c deeds
     pub done : HasDone cache_facts backing_facts deeds v w
+
+  -- It wasn't even sealed: nothing was done, and what is in hand is as it was.
+  pub record HasNotSealed (e : StepError) (h k : Hand C B)
+      (v w : View cache_facts backing_facts) : Type 0 where
+    pub no_fault : IsNoFault e
+    pub same : k ≡ h
+    pub did : Did cache_facts backing_facts None v w
+
+  -- the one or the other
+  abbrev pub HasCutRoot : StepError → Journal → Heads → ℕ → Change → Hand C B → Hand C B
+      → View cache_facts backing_facts → View cache_facts backing_facts → Type 0
+  HasCutRoot e j heads slot c h k v w = HasNotSealed e h k v w ⊎ HasCutRootAt e j heads slot c v w

@@ -12,13 +12,12 @@ use Rattle.bc_change.specs.bc_machine.declared.part.SpinePart.{SpinePart}
 use Rattle.bc_disk.specs.Disk.{DiskFacts}
 use Rattle.bc_events.specs.declared.event.Change.{Change}
 use Rattle.bc_events.specs.declared.event.Deed.TheVariants as deed
-use Rattle.bc_inner.specs.Inner.{Inner}
 use Rattle.bc_spine.specs.Exchange.{going}
 use Rattle.bc_spine.specs.declared.leaf.LeafRange.{LeafRange}
 use Rattle.bc_tree.specs.Plan.{Fits}
 use Rattle.bc_tree.specs.declared.plan.Plan.{Plan}
 use Rattle.bc_install.specs.Buckets.{HasBucketsWith}
-use Rattle.bc_install.specs.Ended.{AreEndsOf, CountsFrom, HasProperKeys, IsMadeByRoot, MovesUp, leaves_of}
+use Rattle.bc_install.specs.Ended.{AreEndsOf, CountsFrom, HasProperKeys, How, IsMadeSo, MakesSo, leaves_of}
 use Rattle.bc_install.specs.Installed.{AreBroughtIn, AreTakenOut, HasTreeWith}
 
 -- ---- in hand
@@ -55,21 +54,19 @@ pub record IsPutIn {C B : Type 0} (count : ℕ) (plan : Plan) (first : ℕ) (com
 
 -- ---- the step
 
--- The change was made by a new root, and these are its ends. The part in hand has the leaves that
--- go.
+-- The change was made by a new root or by a set, and these are its ends. The part in hand has the
+-- leaves that go.
 pub record MayInstall {C B : Type 0} (h : Hand C B) (parts i first : ℕ) (plan : Plan) (c : Change)
     (come gone : Vec ℕ Global) (x : World) : Type 0 where
   pub at : HasForInstall h plan
   pub gone_are : c.gone.items ≡ numbers (going at.spine.spine.leaves plan.leaves)
   pub its_part : (range : LeafRange) → Contains (going at.spine.spine.leaves plan.leaves) range
       → at.leaves.part ≡ 6 + range.number % (parts - 6)
-  pub root : Inner
-  pub up : MovesUp at.spine.spine plan root
+  pub how : How
+  pub up : MakesSo at.spine.spine plan how
   pub proper : HasProperKeys plan
-  pub number : ℕ
-  pub slot : ℕ
   pub counts : FromEach x (CountsFrom first)
-  pub made : FromEach x (IsMadeByRoot i at.spine.spine plan root c number slot)
+  pub made : FromEach x (IsMadeSo i at.spine.spine plan c how)
   pub ends : FromEach x (λ o st. AreEndsOf o.opening.machine at.spine.spine plan come.items
       gone.items)
 

@@ -1,5 +1,6 @@
 //! The step that installs a change of the tree which an entry with a new root has made.
 ghost use Rattle.std.specs.Prelude.{◌≡◌, ◌+◌, ◌-◌, ◌<◌, ◌≤◌, ◌^◌, false, None, Some, length, IfErr, OnErr, OnOk};
+ghost use Rattle.bc_append.specs.bc_place.Written.{KeepsPlaces};
 ghost use Rattle.bc_change.specs.bc_entry.bc_deed.Asked.{IsHalted};
 ghost use Rattle.bc_change.specs.bc_hand.Seats.{Did, Works, kinds, world};
 ghost use Rattle.bc_change.specs.bc_hand.declared.hand.LeafHand.{LeafHand};
@@ -85,6 +86,7 @@ fn put_in<C, B>(
 /// The numbers of the buckets of what comes and of what goes are given twice, once for the deed.
 ///
 /// `Halted` names the device that halted the run before; then nothing is done. No memory is taken.
+/// Whatever comes, the seat keeps its places.
 pub fn install<C: Disk + Drop, B: Disk + Drop, R: Wait>(
     rt: &R,
     parts: &CoreParts<C, B>,
@@ -114,6 +116,7 @@ pub fn install<C: Disk + Drop, B: Disk + Drop, R: Wait>(
     ensures err { OnErr result (Did C.facts B.facts None seat.old seat.new) }
     ensures same { OnErr result (hand.new ≡ hand.old) }
     ensures cause { IfErr result (λ error. IsHalted error seat.new.seen) }
+    ensures places { KeepsPlaces C.facts B.facts seat.old seat.new }
 {
     if let Some(device) = seat.heard() {
         return Err(StepError::Halted(device));

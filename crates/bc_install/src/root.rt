@@ -1,6 +1,7 @@
 //! An entry with a new root, as the steps that it takes.
 ghost use Rattle.std.specs.Prelude.{◌≡◌, ◌+◌, ◌*◌, ◌≤◌, false, Some, length, IfErr, OnOk};
-ghost use Rattle.bc_change.specs.Root.{MaySealRoot};
+ghost use Rattle.bc_append.specs.bc_place.Written.{KeepsPlaces};
+ghost use Rattle.bc_change.specs.Root.{IsUnheard, MaySealRoot};
 ghost use Rattle.bc_change.specs.bc_entry.Entry.{HasJournalAndCache};
 ghost use Rattle.bc_change.specs.bc_entry.Put.{IsCause};
 ghost use Rattle.bc_change.specs.bc_hand.Seats.{Works, kinds, world};
@@ -28,8 +29,10 @@ use std::sync::Wait;
 /// as it was until the change is installed.
 ///
 /// An error is a call of the device that failed, which is the last deed then; a device that had
-/// halted the run before; or want of memory, and nothing was done. How far the entry came is told
-/// by the seat's own deeds. All memory is taken before the entry is sealed.
+/// halted the run before; or want of memory, where the seat had heard of no halt, and nothing was
+/// done. How far the entry came is told by the seat's own deeds. Where nothing was done, what is in
+/// hand is as it was, so it may be tried again. All memory is taken before the entry is sealed.
+/// Whatever comes, the seat keeps its places.
 pub fn put_root_entry<C: Disk + Drop, B: Disk + Drop, R: Wait>(
     rt: &R,
     alloc: Global,
@@ -64,9 +67,15 @@ pub fn put_root_entry<C: Disk + Drop, B: Disk + Drop, R: Wait>(
     ensures ok { OnOk result ((j : Journal) × (hand.old.journal ≡ Some j)
         × HasPutRoot C.facts B.facts j heads.now root plan.now change seat.old seat.new) }
     ensures err { IfErr result (λ error. (j : Journal) × (hand.old.journal ≡ Some j)
-        × HasCutRoot C.facts B.facts error j heads.now root change seat.old seat.new) }
+        × HasCutRoot C.facts B.facts error j heads.now root change hand.old hand.new seat.old
+        seat.new) }
     ensures cause { IfErr result (λ error. IsCause error seat.new.seen) }
+    ensures memory { IfErr result (λ error. IsUnheard error seat.new.heard) }
+    ensures places { KeepsPlaces C.facts B.facts seat.old seat.new }
 {
+    if let Some(device) = seat.heard() {
+        return Err(StepError::Halted(device));
+    }
     let Ok(room) = EntryRoom::new(alloc) else {
         return Err(StepError::Memory);
     };

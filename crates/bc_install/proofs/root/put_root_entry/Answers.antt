@@ -1,30 +1,50 @@
-use Rattle.std.proofs.Common.{ap, ◌∙◌}
+use Rattle.std.proofs.Common.{inl, ap, ◌∙◌}
 use Rattle.std.specs.Prelude.{is_some}
 use Rattle.bc_change.specs.bc_hand.declared.hand.Hand.{Hand}
 use Rattle.bc_change.specs.bc_hand.declared.error.StepError.TheVariants as error
 use Rattle.bc_change.proofs.of_bc_entry.Putting.{if_err, sealed_hand, sealed_kinds}
-use Rattle.bc_change.proofs.of_bc_deed.May.{did_nothing}
+use Rattle.bc_append.proofs.of_bc_place.Keeping.{keeps_waited}
 use Rattle.bc_change.proofs.of_bc_hand.Knowing.{map_ok}
-use Rattle.bc_install.proofs.Rooted.{cause_seal, cut_behind, cut_seal, has_put, journal_put, rest_none, rest_then, same_journal, same_sectors, same_spine, sealed_numbers_are}
+use Rattle.bc_install.proofs.Keeping.{keeps_nothing, keeps_put}
+use Rattle.bc_install.proofs.Rooted.{cause_seal, cut_behind, cut_seal, has_put, journal_put, rest_none, rest_then, same_journal, same_sectors, same_spine, sealed_numbers_are, unheard_put, unsealed}
 use Rattle.bc_install.proofs.root.put_root_entry.Goals as goal
 
-pub returns-in_default-clause-err : goal.returns-in_default-clause-err
-returns-in_default-clause-err g c = (
+pub returns-in-Some-clause-err : goal.returns-in-Some-clause-err
+returns-in-Some-clause-err g c = (
   c.requires.disk.0,
   c.requires.disk.1,
-  cut_seal g.C.Disk.facts g.B.Disk.facts c.requires.disk.0 c.args.heads.now c.args.root
-      c.args.change c.args.seat.now error.Memory c.args.seat.now tt
-      (did_nothing g.C.Disk.facts g.B.Disk.facts c.args.seat.now c.requires.works.seat),
+  inl (unsealed g.C.Disk.facts g.B.Disk.facts (error.Halted c.in-Some.device) c.args.seat.now
+      c.args.hand.now tt c.requires.works.seat),
 )
+
+pub returns-in-Some-clause-places : goal.returns-in-Some-clause-places
+returns-in-Some-clause-places g c = keeps_nothing g.C.Disk.facts g.B.Disk.facts c.args.seat.now
+    c.requires.works.seat
+
+pub returns-in_default-new-clause-err : goal.returns-in_default-new-clause-err
+returns-in_default-new-clause-err g c = (
+  c.requires.disk.0,
+  c.requires.disk.1,
+  inl (unsealed g.C.Disk.facts g.B.Disk.facts error.Memory c.args.seat.now c.args.hand.now tt
+      c.requires.works.seat),
+)
+
+pub returns-in_default-new-clause-places : goal.returns-in_default-new-clause-places
+returns-in_default-new-clause-places g c = keeps_nothing g.C.Disk.facts g.B.Disk.facts
+    c.args.seat.now c.requires.works.seat
 
 pub returns-in-Err-clause-err : goal.returns-in-Err-clause-err
 returns-in-Err-clause-err g c = (
   c.requires.disk.0,
   c.requires.disk.1,
   cut_seal g.C.Disk.facts g.B.Disk.facts c.requires.disk.0 c.args.heads.now c.args.root
-      c.args.change c.args.seat.now c.in-Err.error c.seal_root.new.seat c.in-Err.ensures.cause
-      c.in-Err.ensures.err,
+      c.args.change c.args.seat.now c.in-Err.error c.seal_root.new.seat c.args.hand.now
+      c.seal_root.new.hand c.in-Err.ensures.cause c.in-Err.ensures.err c.in-Err.ensures.same,
 )
+
+pub returns-in-Err-clause-places : goal.returns-in-Err-clause-places
+returns-in-Err-clause-places g c = keeps_waited g.C.Disk.facts g.B.Disk.facts c.args.seat.now
+    c.seal_root.new.seat c.requires.works.seat c.in-Err.ensures.err.is
 
 pub returns-in-Err-clause-cause : goal.returns-in-Err-clause-cause
 returns-in-Err-clause-cause g c = cause_seal g.C.Disk.facts g.B.Disk.facts c.requires.disk.0
@@ -87,4 +107,16 @@ returns-clause-err g c = let ok = c.in-Ok-seal_root.ensures.ok in
     if_err c.put_sealed.result (λ e cut. (ok.0, ok.2, cut))
     (cut_behind g.C.Disk.facts g.B.Disk.facts ok.0 c.args.heads.now c.args.root c.args.change
     c.args.seat.now c.seal_root.new.seat c.put_sealed.new.seat c.in-Ok-seal_root.entry ok.1 ok.4
-    ok.5 c.put_sealed.result c.put_sealed.ensures.err)
+    ok.5 c.put_sealed.result c.args.hand.now c.put_sealed.new.hand c.put_sealed.ensures.err)
+
+pub returns-clause-memory : goal.returns-clause-memory
+returns-clause-memory g c = let ok = c.in-Ok-seal_root.ensures.ok in
+    unheard_put g.C.Disk.facts g.B.Disk.facts ok.0 c.args.heads.now c.args.root c.args.change
+    c.args.seat.now c.put_sealed.result c.in-Ok-seal_root.entry c.seal_root.new.seat
+    c.put_sealed.new.seat c.put_sealed.new.seat.heard c.put_sealed.ensures.err
+
+pub returns-clause-places : goal.returns-clause-places
+returns-clause-places g c = let ok = c.in-Ok-seal_root.ensures.ok in
+    keeps_put g.C.Disk.facts g.B.Disk.facts c.args.seat.now c.seal_root.new.seat
+    c.put_sealed.new.seat c.requires.works.seat ok.0 c.in-Ok-seal_root.entry c.args.root
+    c.args.change ok.5 c.put_sealed.result c.put_sealed.ensures.ok c.put_sealed.ensures.err

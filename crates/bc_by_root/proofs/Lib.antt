@@ -1,0 +1,10 @@
+pub mod Copied
+pub mod Later
+pub mod Named
+pub mod Sealing
+pub mod Handed
+pub mod Before
+pub mod Putting
+pub mod Around
+mod Waiting
+pub use Rattle.bc_install.proofs as of_bc_install
