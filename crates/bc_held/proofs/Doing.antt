@@ -29,7 +29,7 @@ use Rattle.bc_place.proofs.of_bc_hand.Knowing.{View, m}
 use Rattle.bc_place.specs.Place.{HasBefore, IsOwn}
 use Rattle.bc_place.specs.Written.{HasWritten, KeepsPlaces}
 use Rattle.bc_place.specs.bc_hand.Seats.{Did, IsCoreSeat, MayDo, Works, by, numbers, with_leaves, with_part, world}
-use Rattle.bc_place.specs.bc_machine.Containers.{AreBucketsOf}
+use Rattle.bc_place.specs.bc_machine.Containers.{AreBucketsOf, SameRest}
 use Rattle.bc_place.specs.bc_machine.World.{AreBuckets, FromEach, Origin, World, after, are_plain, replay}
 use Rattle.bc_place.specs.bc_machine.declared.part.BucketsPart.{BucketsPart}
 use Rattle.bc_place.specs.bc_hand.declared.hand.Hand.{Hand}
@@ -243,8 +243,8 @@ module _ {C B : Type 0} (cache_facts : C → DiskFacts) (backing_facts : B → D
       went_did = subst (λ d. Did cache_facts backing_facts (Some d) v w)
           (sym (let_go_deed b before n flag g number says)) did
 
-      pub went_as : LetGo cache_facts backing_facts before b p q v w
-      went_as = record {
+      pub went_as : SameRest p q → LetGo cache_facts backing_facts before b p q v w
+      went_as rest = record {
         goes = goes_there cache_facts backing_facts v seat cached holds_buckets p on before first b mine
             tree vacant w went_did q goes;
         did = went_did;
@@ -252,6 +252,7 @@ module _ {C B : Type 0} (cache_facts : C → DiskFacts) (backing_facts : B → D
         behind = went_did.is.state;
         stood = buckets_since cache_facts backing_facts v seat holds_buckets p on
             went_did.is.before went_did.is.since;
+        rest = rest;
       }
 
       pub gone_as : AreBuckets q (world cache_facts backing_facts w)
@@ -272,6 +273,13 @@ map_on_err (Ok a) f h = tt
 map_on_err (Err e) f h = f h
 
 module _ {C B : Type 0} (cache_facts : C → DiskFacts) (backing_facts : B → DiskFacts) where
+  -- where there was none the part is as it was
+  pub none_left : {P : Type 0} (before : ℕ) (x : Want) (r : Result HeldBucket NoBucket)
+      (old new : BucketsPart) (v w : View cache_facts backing_facts)
+      → TookOr cache_facts backing_facts before x r old new v w → (new ≡ old → P) → OnErr r P
+  none_left before x (Ok b) old new v w h f = tt
+  none_left before x (Err none) old new v w h f = f h.same
+
   pub known_returned : (w x : View cache_facts backing_facts) (P : ℕ → Origin → core.State → Type 0)
       → Waited (m cache_facts backing_facts) w x → x.seen ≡ w.seen
       → FromEach (world cache_facts backing_facts w) (P w.first)
@@ -316,24 +324,30 @@ module _ {C B : Type 0} (cache_facts : C → DiskFacts) (backing_facts : B → D
       took = took_between before y r old new h;
     }
 
+    pub went_between : (before : ℕ) (b : HeldBucket) (old new : BucketsPart)
+        → LetGo cache_facts backing_facts before b old new v w
+        → LetGo cache_facts backing_facts before b old new u x
+    went_between before b old new h = record {
+      goes = subst (λ (y : World). FromEach y (λ o st. LetsGo b old new))
+          (sym (seen_alike (m cache_facts backing_facts) w x last.same seen)) h.goes;
+      did = did_between cache_facts backing_facts
+          (Some (let_go_by before b (takes_back b.purpose old.reserves))) u v w x still first h.did
+          last seen told end;
+      state = h.state;
+      behind = seen_alike (m cache_facts backing_facts) w x last.same seen ∙ h.behind
+          ∙ ap (λ i. after h.state
+          (by i (let_go_by before b (takes_back b.purpose old.reserves)))) first.same.first;
+      stood = h.stood;
+      rest = h.rest;
+    }
+
     pub let_go_between : (before : ℕ) (b : HeldBucket) (old new : BucketsPart)
         → LetGo cache_facts backing_facts before b old new v w
         → HasLetGo cache_facts backing_facts before b u x
     let_go_between before b old new h = record {
       old = old;
       new = new;
-      went = record {
-        goes = subst (λ (y : World). FromEach y (λ o st. LetsGo b old new))
-            (sym (seen_alike (m cache_facts backing_facts) w x last.same seen)) h.goes;
-        did = did_between cache_facts backing_facts
-            (Some (let_go_by before b (takes_back b.purpose old.reserves))) u v w x still first h.did
-            last seen told end;
-        state = h.state;
-        behind = seen_alike (m cache_facts backing_facts) w x last.same seen ∙ h.behind
-            ∙ ap (λ i. after h.state
-            (by i (let_go_by before b (takes_back b.purpose old.reserves)))) first.same.first;
-        stood = h.stood;
-      };
+      went = went_between before b old new h;
     }
 
     -- what the seat knows of what it holds

@@ -7,6 +7,7 @@ mod Many
 mod Parting
 mod Taking
 mod LettingGo
+pub mod Hands
 pub mod Doing
 pub use Rattle.bc_place.proofs.of_bc_deed
 pub use Rattle.bc_place.proofs.of_bc_hand

@@ -11,6 +11,8 @@ use Rattle.bc_held.specs.declared.held.HeldBucket.{HeldBucket}
 use Rattle.bc_held.specs.declared.held.Want.{Want}
 use Rattle.bc_parts.specs.Seat.{Holds}
 use Rattle.bc_place.specs.bc_hand.Seats.{Did, View, by, world}
+use Rattle.bc_place.specs.bc_hand.declared.hand.Hand.{Hand}
+use Rattle.bc_place.specs.bc_machine.Containers.{SameRest}
 use Rattle.bc_place.specs.bc_machine.World.{AreBuckets, FromEach, World, after}
 use Rattle.bc_place.specs.bc_machine.declared.part.BucketsPart.{BucketsPart}
 
@@ -20,6 +22,15 @@ take_by before b = deed.Take b.purpose (b.bucket - before)
 
 abbrev pub let_go_by : ℕ → HeldBucket → Bool → Deed
 let_go_by before b back = deed.Unpin (unpin.Hold (b.bucket - before) back)
+
+-- ---- of a hand
+
+-- The buckets, where they were in hand, are there still, and those that come out are tied so to those
+-- that went in.
+abbrev pub TiesBuckets : {C B : Type 0} → (old new : Hand C B)
+    → (BucketsPart → BucketsPart → Type 0) → Type 0
+TiesBuckets old new tie = (p : BucketsPart) → old.buckets ≡ Some p
+    → (q : BucketsPart) × (new.buckets ≡ Some q) × tie p q
 
 module _ {C B : Type 0} (cache_facts : C → DiskFacts) (backing_facts : B → DiskFacts) where
   -- ---- of the part in hand
@@ -49,7 +60,8 @@ module _ {C B : Type 0} (cache_facts : C → DiskFacts) (backing_facts : B → D
   TookOr before x (Err none) old new v w = TookNone x none old new v w
 
   -- The seat let it go, which was its own from each opening; and the buckets stood for the state in
-  -- which it was let go. The deed says whether its list takes it back.
+  -- which it was let go. The deed says whether its list takes it back. Of the part's chain and round
+  -- nothing changed, whatever the opening.
   pub record LetGo (before : ℕ) (b : HeldBucket) (old new : BucketsPart)
       (v w : View cache_facts backing_facts) : Type 0 where
     pub goes : FromEach (world cache_facts backing_facts w) (λ o st. LetsGo b old new)
@@ -59,6 +71,7 @@ module _ {C B : Type 0} (cache_facts : C → DiskFacts) (backing_facts : B → D
     pub behind : world cache_facts backing_facts w
         ≡ after state (by v.first (let_go_by before b (takes_back b.purpose old.reserves)))
     pub stood : AreBuckets old state
+    pub rest : SameRest old new
 
   -- ---- of whichever buckets the step had
 

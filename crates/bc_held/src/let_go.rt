@@ -2,7 +2,7 @@
 ghost use Rattle.std.specs.Prelude.{◌≡◌, ◌+◌, ◌<◌, ◌≤◌, ◌==◌, true, false, None, Some, is_some, IfErr, OnErr, OnOk};
 ghost use Rattle.bc_alloc.specs.declared.purpose.Purpose.TheVariants as list;
 ghost use Rattle.bc_held.specs.Held.{IsHeldFor, IsVacantIn};
-ghost use Rattle.bc_held.specs.Taken.{HasLetGo, KeepsHeldBut, LetGo};
+ghost use Rattle.bc_held.specs.Taken.{HasLetGo, KeepsHeldBut, LetGo, TiesBuckets};
 ghost use Rattle.bc_parts.specs.Seat.{Holds};
 ghost use Rattle.bc_place.specs.Place.{HasBefore};
 ghost use Rattle.bc_place.specs.Written.{KeepsPlaces};
@@ -12,12 +12,13 @@ ghost use Rattle.bc_place.specs.bc_machine.World.{FromEach, AreBuckets, are_plai
 ghost use Rattle.bc_seats.specs.Seats.{Kept};
 
 use crate::held::HeldBucket;
+use crate::lent::lend_buckets;
 use crate::part::{put_down, takes_back};
 use bc_disk::disk::Disk;
 use bc_events::event::{Deed, UnpinKind};
 use bc_place::bc_hand::error::StepError;
 use bc_place::bc_hand::hand::Hand;
-use bc_place::bc_hand::lend::{borrow_buckets, return_buckets};
+use bc_place::bc_hand::lend::return_buckets;
 use bc_place::bc_hand::seat::commit;
 use bc_place::bc_machine::machine::{CoreParts, CoreSeat};
 use bc_place::bc_machine::part::BucketsPart;
@@ -51,6 +52,9 @@ pub fn let_go_bucket<C: Disk + Drop, B: Disk + Drop, R: Wait>(
     ensures hand { kinds hand.new ≡ kinds hand.old }
     ensures rest { hand.new ≡ record hand.old { buckets = hand.new.buckets } }
     ensures ok { OnOk result (HasLetGo C.facts B.facts before bucket seat.old seat.new) }
+    ensures part { OnOk result (TiesBuckets hand.old hand.new (λ p q.
+        LetGo C.facts B.facts before bucket p q seat.old seat.new)) }
+    ensures same { OnErr result (hand.new ≡ hand.old) }
     ensures err { OnErr result (Did C.facts B.facts None seat.old seat.new) }
     ensures cause { IfErr result (λ error. IsHalted error seat.new.seen) }
     ensures left { seat.old.promises ≤ seat.new.promises + 1 }
@@ -60,7 +64,7 @@ pub fn let_go_bucket<C: Disk + Drop, B: Disk + Drop, R: Wait>(
     if let Some(device) = seat.heard() {
         return Err(StepError::Halted(device));
     }
-    let (mut buckets, taken) = borrow_buckets(rt, parts, seat, hand);
+    let (mut buckets, taken) = lend_buckets(rt, parts, seat, hand);
     let done = let_go_in(rt, parts, seat, buckets.get_mut(), before, bucket);
     return_buckets(parts, seat, hand, buckets, taken);
     done

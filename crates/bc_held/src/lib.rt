@@ -15,6 +15,7 @@
 
 pub mod held;
 pub mod laws;
+mod lent;
 pub mod let_go;
 mod part;
 pub mod take;

@@ -2,6 +2,7 @@
 ghost use Rattle.std.specs.Prelude.{◌≡◌, ◌↔◌, ◌<◌, ℕ, ◌∷◌, List, IfNone, IfSome, IsTrue, length};
 ghost use Rattle.bc_alloc.specs.Reserves.{list_of};
 ghost use Rattle.bc_held.specs.Next.{HasNoneFor, IsNextFor, IsPlaceOf, IsTakenIn, LetsGo, TakesBucket, is_among, takes_back};
+ghost use Rattle.bc_place.specs.bc_machine.Containers.{SameRest};
 
 use crate::held::{HeldBucket, Want};
 use bc_alloc::Purpose;
@@ -79,7 +80,8 @@ pub(crate) fn takes_back(part: &BucketsPart, purpose: Purpose) -> bool
 
 // Ends the hold of a bucket, where it is one that was taken.
 pub(crate) fn put_down(part: &mut BucketsPart, bucket: HeldBucket)
-    ensures { IsTakenIn part.old bucket.bucket → LetsGo bucket part.old part.new }
+    ensures goes { IsTakenIn part.old bucket.bucket → LetsGo bucket part.old part.new }
+    ensures rest { SameRest part.old part.new }
 {
     if !is_taken(part, bucket.bucket) {
         return;
@@ -92,16 +94,15 @@ pub(crate) fn put_down(part: &mut BucketsPart, bucket: HeldBucket)
     }
 }
 
-// Whether a bucket of the device is held, and neither on a list nor open for data.
+// Whether a bucket of the device is held, and neither on a list nor open for data. What is held is on
+// no list.
 fn is_taken(part: &BucketsPart, bucket: u32) -> bool
     ensures { IsTrue result ↔ IsTakenIn part.now bucket }
 {
     if bucket as usize >= part.buckets.records().len() {
         return false;
     }
-    part.buckets.get(bucket).held
-        && !part.reserves.is_listed(bucket)
-        && !is_among(part.fill.open(), bucket)
+    part.buckets.get(bucket).held && !is_among(part.fill.open(), bucket)
 }
 
 // Whether the bucket is one of these.

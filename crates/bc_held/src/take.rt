@@ -1,7 +1,7 @@
 //! The step that takes a bucket.
 ghost use Rattle.std.specs.Prelude.{◌≡◌, ◌+◌, ◌<◌, ◌≤◌, ◌==◌, false, None, Some, IfOk, IfErr, OnErr};
 ghost use Rattle.bc_held.specs.Held.{IsHeldFor, IsVacantIn};
-ghost use Rattle.bc_held.specs.Taken.{HasTakenOr, IsNewBucket, KeepsHeld, TookOr};
+ghost use Rattle.bc_held.specs.Taken.{HasTakenOr, IsNewBucket, KeepsHeld, TiesBuckets, TookOr};
 ghost use Rattle.bc_parts.specs.Seat.{Holds};
 ghost use Rattle.bc_place.specs.Place.{HasBefore};
 ghost use Rattle.bc_place.specs.Written.{KeepsPlaces};
@@ -11,13 +11,14 @@ ghost use Rattle.bc_place.specs.bc_machine.World.{FromEach, AreBuckets, are_plai
 ghost use Rattle.bc_seats.specs.Seats.{Kept};
 
 use crate::held::{HeldBucket, Want};
+use crate::lent::lend_buckets;
 use crate::part::{hold_next, next_bucket};
 use bc_alloc::NoBucket;
 use bc_disk::disk::Disk;
 use bc_events::event::Deed;
 use bc_place::bc_hand::error::StepError;
 use bc_place::bc_hand::hand::Hand;
-use bc_place::bc_hand::lend::{borrow_buckets, return_buckets};
+use bc_place::bc_hand::lend::return_buckets;
 use bc_place::bc_hand::seat::commit;
 use bc_place::bc_machine::machine::{CoreParts, CoreSeat};
 use bc_place::bc_machine::part::BucketsPart;
@@ -32,9 +33,9 @@ use std::sync::Wait;
 /// no node lay in it, and while the seat keeps the tree in hand none comes to lie there.
 ///
 /// An inner `Err` says that both lists are empty, with the name of the second one and with their
-/// lengths; then nothing is done. `Halted`
-/// names the device that halted the run; nothing is done then either. Whatever comes, the seat knows
-/// of the places and of the other buckets that it holds what it knew.
+/// lengths; then nothing is done. `Halted` names the device that halted the run; nothing is done then
+/// either. Whatever comes, the seat knows of the places and of the other buckets that it holds what
+/// it knew; and buckets that were in hand are there still, with their chain and round as they were.
 pub fn take_bucket<C: Disk + Drop, B: Disk + Drop, R: Wait>(
     rt: &R,
     parts: &CoreParts<C, B>,
@@ -53,6 +54,10 @@ pub fn take_bucket<C: Disk + Drop, B: Disk + Drop, R: Wait>(
     ensures rest { hand.new ≡ record hand.old { buckets = hand.new.buckets } }
     ensures ok { IfOk result (λ answer. HasTakenOr C.facts B.facts before want answer
         seat.old seat.new) }
+    ensures part { IfOk result (λ answer. TiesBuckets hand.old hand.new (λ p q.
+        TookOr C.facts B.facts before want answer p q seat.old seat.new)) }
+    ensures none { IfOk result (λ answer. OnErr answer (hand.new ≡ hand.old)) }
+    ensures same { OnErr result (hand.new ≡ hand.old) }
     ensures knows { IfOk result (λ answer. IfOk answer (λ b.
         FromEach (world C.facts B.facts seat.new) (IsHeldFor seat.new.first b))) }
     ensures vacant { IfOk result (λ answer. IfOk answer (λ b.
@@ -68,7 +73,7 @@ pub fn take_bucket<C: Disk + Drop, B: Disk + Drop, R: Wait>(
     if let Some(device) = seat.heard() {
         return Err(StepError::Halted(device));
     }
-    let (mut buckets, taken) = borrow_buckets(rt, parts, seat, hand);
+    let (mut buckets, taken) = lend_buckets(rt, parts, seat, hand);
     let done = take_in(rt, parts, seat, buckets.get_mut(), before, want);
     return_buckets(parts, seat, hand, buckets, taken);
     done

@@ -1,14 +1,17 @@
 -- Steps one behind the other, and what the seat has of its buckets then.
 use Rattle.std.proofs.Common.{◌≡◌, inl, inr, ℕ, ◌+◌, ◌<◌, true, false, List, [], ◌∷◌, ◌++◌, length, take, get_or, Option, Some, None, refl, sym, ap, ◌∙◌, subst, arith}
 use Rattle.std.proofs.lemmas.List.{take_more}
-use Rattle.std.specs.Prelude.{Contains, Ok, is_some}
+use Rattle.std.specs.Prelude.{Contains, Err, Ok, Result, is_some}
+use Rattle.bc_alloc.specs.declared.purpose.NoBucket.{NoBucket}
 use Rattle.bc_disk.specs.Disk.{DiskFacts}
 use Rattle.bc_held.proofs.of_bc_hand.Knowing.{View}
 use Rattle.bc_held.specs.Held.{AreOther, IsHeldFor, IsVacantIn}
-use Rattle.bc_held.specs.Taken.{HasLetGo, HasTakenOr, IsNewBucket, KeepsHeld, KeepsHeldBut}
+use Rattle.bc_held.specs.Taken.{HasLetGo, HasTakenOr, IsNewBucket, KeepsHeld, KeepsHeldBut, LetGo, TiesBuckets, TookOr}
 use Rattle.bc_held.specs.bc_hand.Seats.{HasNoneBehindBuckets, Kinds, kinds, world}
 use Rattle.bc_held.specs.bc_hand.declared.hand.Hand.{Hand}
+use Rattle.bc_held.specs.bc_machine.Containers.{SameRest}
 use Rattle.bc_held.specs.bc_machine.World.{FromEach, World}
+use Rattle.bc_held.specs.bc_machine.declared.part.BucketsPart.{BucketsPart}
 use Rattle.bc_held.specs.declared.held.HeldBucket.{HeldBucket}
 use Rattle.bc_held.specs.declared.held.Want.{Want}
 use Rattle.bc_held_all.proofs.Lists.{in_first, in_push, in_rest}
@@ -20,6 +23,14 @@ use Rattle.bc_parts.specs.Seat.{Holds}
 none_of : {X : Type 0} (o : Option X) → is_some o ≡ false → o ≡ None
 none_of None is = refl
 none_of (Some x) is = absurd (cc)
+
+same_rest : (p : BucketsPart) → SameRest p p
+same_rest p = record {
+  chain = refl;
+  renewing = refl;
+  round = refl;
+  served = refl;
+}
 
 module _ {C B : Type 0} where
   -- the buckets may be taken still
@@ -42,7 +53,52 @@ module _ {C B : Type 0} where
   rest_both a b c first second = second
       ∙ ap (λ (h : Hand C B). record h { buckets = c.buckets }) first
 
+  -- ---- the buckets in hand
+
+  pub ties_none : (a : Hand C B) → TiesBuckets a a SameRest
+  ties_none a p is = (p, is, same_rest p)
+
+  -- as they were
+  pub ties_same : (a b : Hand C B) → b ≡ a → TiesBuckets a b SameRest
+  ties_same a b same = subst (λ (h : Hand C B). TiesBuckets a h SameRest) (sym same) (ties_none a)
+
+  pub ties_both : (a b c : Hand C B) → TiesBuckets a b SameRest → TiesBuckets b c SameRest
+      → TiesBuckets a c SameRest
+  ties_both a b c first second p is =
+      let one = first p is in
+      let two = second one.0 one.1 in (
+        two.0,
+        two.1,
+        record {
+          chain = two.2.chain ∙ one.2.chain;
+          renewing = two.2.renewing ∙ one.2.renewing;
+          round = two.2.round ∙ one.2.round;
+          served = two.2.served ∙ one.2.served;
+        },
+      )
+
 module _ {C B : Type 0} (cache_facts : C → DiskFacts) (backing_facts : B → DiskFacts) where
+  -- what a step says of the buckets in hand
+  pub took_rest : (before : ℕ) (x : Want) (r : Result HeldBucket NoBucket) (p q : BucketsPart)
+      (v w : View cache_facts backing_facts)
+      → TookOr cache_facts backing_facts before x r p q v w → SameRest p q
+  took_rest before x (Ok b) p q v w h = h.takes.rest
+  took_rest before x (Err none) p q v w h =
+      subst (λ (y : BucketsPart). SameRest p y) (sym h.same) (same_rest p)
+
+  pub taken_ties : (before : ℕ) (x : Want) (r : Result HeldBucket NoBucket) (a b : Hand C B)
+      (v w : View cache_facts backing_facts)
+      → TiesBuckets a b (λ p q. TookOr cache_facts backing_facts before x r p q v w)
+      → TiesBuckets a b SameRest
+  taken_ties before x r a b v w h p is = let one = h p is in
+      (one.0, one.1, took_rest before x r p one.0 v w one.2)
+
+  pub gone_ties : (before : ℕ) (x : HeldBucket) (a b : Hand C B)
+      (v w : View cache_facts backing_facts)
+      → TiesBuckets a b (λ p q. LetGo cache_facts backing_facts before x p q v w)
+      → TiesBuckets a b SameRest
+  gone_ties before x a b v w h p is = let one = h p is in (one.0, one.1, one.2.rest)
+
   -- ---- steps
 
   pub one_taken : (before : ℕ) (xs : List Want) (bs : List HeldBucket) (x : Want) (b : HeldBucket)

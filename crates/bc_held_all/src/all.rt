@@ -1,7 +1,8 @@
 //! All buckets of a change.
-ghost use Rattle.std.specs.Prelude.{◌≡◌, ◌+◌, ◌*◌, ◌<◌, ◌≤◌, [], false, true, None, Some, is_some, length, slice_get, vec_capacity, IfErr, IfOk, OnOk};
-ghost use Rattle.bc_held.specs.Taken.{KeepsHeld};
+ghost use Rattle.std.specs.Prelude.{◌≡◌, ◌+◌, ◌*◌, ◌<◌, ◌≤◌, [], false, true, None, Some, is_some, length, slice_get, vec_capacity, IfErr, IfOk, OnErr, OnOk};
+ghost use Rattle.bc_held.specs.Taken.{KeepsHeld, TiesBuckets};
 ghost use Rattle.bc_held.specs.bc_hand.Seats.{HasNoneBehindBuckets, Works, kinds, world};
+ghost use Rattle.bc_held.specs.bc_machine.Containers.{SameRest};
 ghost use Rattle.bc_held.specs.bc_machine.World.{FromEach, are_plain};
 ghost use Rattle.bc_held.specs.bc_place.Place.{HasBefore};
 ghost use Rattle.bc_held.specs.bc_place.Written.{KeepsPlaces};
@@ -26,7 +27,8 @@ use std::sync::Wait;
 /// An inner `Err` says for which list there was none; then those that were taken are let go, and
 /// `into` is empty. `Halted` names the device that halted the run, behind which nothing can be let
 /// go: then `into` has those that were taken, which nobody needs in this run, though some of them may
-/// have been let go before.
+/// have been let go before. Buckets that were in hand are there still, with their chain and round as
+/// they were.
 pub fn take_buckets<C: Disk + Drop, B: Disk + Drop, R: Wait>(
     rt: &R,
     parts: &CoreParts<C, B>,
@@ -47,6 +49,8 @@ pub fn take_buckets<C: Disk + Drop, B: Disk + Drop, R: Wait>(
     ensures works { Works C.facts B.facts parts.now seat.new hand.new }
     ensures hand { kinds hand.new ≡ kinds hand.old }
     ensures rest { hand.new ≡ record hand.old { buckets = hand.new.buckets } }
+    ensures part { TiesBuckets hand.old hand.new SameRest }
+    ensures same { OnErr result (into.new.items ≡ [] → hand.new ≡ hand.old) }
     ensures ok { IfOk result (λ answer. HaveTakenOr C.facts B.facts before (wants_of needs) answer
         into.new.items seat.old seat.new) }
     ensures are { IfOk result (λ answer. AreHeld C.facts B.facts into.new.items seat.new) }
@@ -95,7 +99,8 @@ fn want_at(needs: Needs, place: usize) -> Want
 /// Lets these buckets go, one behind the other. The tree is in hand, and no node lies in any of them.
 ///
 /// `Halted` names the device that halted the run, which keeps those out that are left: nobody needs
-/// them in this run.
+/// them in this run. Buckets that were in hand are there still, with their chain and round as they
+/// were.
 pub fn let_go_all<C: Disk + Drop, B: Disk + Drop, R: Wait>(
     rt: &R,
     parts: &CoreParts<C, B>,
@@ -114,6 +119,8 @@ pub fn let_go_all<C: Disk + Drop, B: Disk + Drop, R: Wait>(
     ensures works { Works C.facts B.facts parts.now seat.new hand.new }
     ensures hand { kinds hand.new ≡ kinds hand.old }
     ensures rest { hand.new ≡ record hand.old { buckets = hand.new.buckets } }
+    ensures part { TiesBuckets hand.old hand.new SameRest }
+    ensures same { buckets.now ≡ [] → hand.new ≡ hand.old }
     ensures ok { OnOk result (HaveLetGo C.facts B.facts before buckets.now seat.old seat.new) }
     ensures err { IfErr result (λ error. HaveHalted C.facts B.facts before error buckets.now seat.old
         seat.new) }

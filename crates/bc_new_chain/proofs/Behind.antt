@@ -27,7 +27,7 @@ use Rattle.bc_events.specs.declared.event.Deed.TheVariants as deed
 use Rattle.bc_events.specs.declared.event.Event.{Event}
 use Rattle.bc_journal.specs.Journal.{Journal}
 use Rattle.bc_journal.specs.Sealed.{Sealed}
-use Rattle.bc_new_chain.specs.Put.{HasCutBehind, HasPutBehind, ReadiesChain}
+use Rattle.bc_new_chain.specs.Put.{HasCutBehind, HasPutBehind, IsChainCause, ReadiesChain}
 use Rattle.bc_parts.specs.Seat.{Holds, PartsView}
 use Rattle.bc_seats.proofs.Knowing.{still}
 use Rattle.bc_seats.specs.Seats.{Since}
@@ -269,10 +269,63 @@ pub still_buckets : {C B : Type 0} (h new : Hand C B) → new ≡ record h { cac
     → new.buckets ≡ h.buckets
 still_buckets h new is = ap (λ (x : Hand _ _). x.buckets) is
 
-pub ended_buckets : {C B E : Type 0} (r : Result (Unit {0}) E) (h new : Hand C B) (s : Sealed)
-    (j : Journal) → h.journal ≡ Some j
-    → OnOk r ((j : Journal) → h.journal ≡ Some j
-    → new ≡ record h { journal = Some (with_durable s j) }) → OnErr r (new ≡ h)
-    → new.buckets ≡ h.buckets
-ended_buckets (Ok z) h new s j is good bad = ap (λ (x : Hand _ _). x.buckets) (good j is)
-ended_buckets (Err e) h new s j is good bad = ap (λ (x : Hand _ _). x.buckets) bad
+-- ---- why it came no further
+
+module _ {C B : Type 0} (cache_facts : C → DiskFacts) (backing_facts : B → DiskFacts) where
+  pub cause_barrier : (e : StepError) (v w : View cache_facts backing_facts)
+      → HasFailedAtCache cache_facts backing_facts e failed_barrier v w → IsChainCause e w.seen
+  cause_barrier (error.Fault device) v w h = h.0
+  cause_barrier (error.Halted device) v w h = h.0
+  cause_barrier error.Memory v w h = absurd h
+
+  pub cause_write : (e : StepError) (s : Sealed) (v w : View cache_facts backing_facts)
+      → HasFailedToWrite cache_facts backing_facts e s v w → IsChainCause e w.seen
+  cause_write (error.Fault device) s v w h = h.0
+  cause_write (error.Halted device) s v w h = h.0
+  cause_write error.Memory s v w h = absurd h
+
+pub cause_halt : (e : StepError) (es : List Event) → IsHalted e es → IsChainCause e es
+cause_halt (error.Fault device) es h = absurd h
+cause_halt (error.Halted device) es h = h
+cause_halt error.Memory es h = absurd h
+
+pub cause_end : (r : Result (Unit {0}) StepError) (es : List Event) → IfErr r (λ e. IsHalted e es)
+    → IfErr r (λ e. IsChainCause e es)
+cause_end (Ok u) es h = tt
+cause_end (Err e) es h = cause_halt e es h
+
+-- ---- what of the hand has changed
+
+-- the device alone
+pub rest_cache : {C B : Type 0} (h new : Hand C B) → new ≡ record h { cache = new.cache }
+    → new ≡ record h { journal = new.journal; cache = new.cache }
+rest_cache h new is = is ∙ ap (λ (j : Option Journal). record h {
+  journal = j;
+  cache = new.cache;
+}) (sym (ap (λ (x : Hand _ _). x.journal) is))
+
+-- and again
+pub rest_both : {C B : Type 0} (h a new : Hand C B) → a ≡ record h { cache = a.cache }
+    → new ≡ record a { cache = new.cache } → new ≡ record h { cache = new.cache }
+rest_both h a new first second = second
+    ∙ ap (λ (x : Hand _ _). record x { cache = new.cache }) first
+
+-- and at last the journal
+pub rest_ended : {C B E : Type 0} (r : Result (Unit {0}) E) (h a new : Hand C B) (s : Sealed)
+    (j : Journal) → h.journal ≡ Some j → a ≡ record h { cache = a.cache }
+    → OnOk r ((j : Journal) → a.journal ≡ Some j
+    → new ≡ record a { journal = Some (with_durable s j) }) → OnErr r (new ≡ a)
+    → new ≡ record h { journal = new.journal; cache = new.cache }
+rest_ended (Ok z) h a new s j is before good bad =
+    let end = good j (ap (λ (x : Hand _ _). x.journal) before ∙ is) in
+    end ∙ ap (λ (x : Hand _ _). record x { journal = Some (with_durable s j) }) before
+    ∙ ap (λ (x : Hand _ _). record h { journal = x.journal; cache = x.cache })
+    (sym (end ∙ ap (λ (x : Hand _ _). record x { journal = Some (with_durable s j) }) before))
+rest_ended (Err e) h a new s j is before good bad = rest_cache h new
+    (bad ∙ before ∙ ap (λ (x : Hand _ _). record h { cache = x.cache }) (sym bad))
+
+pub still_ended : {C B E : Type 0} (r : Result (Unit {0}) E) (h a new : Hand C B)
+    → a ≡ record h { cache = a.cache } → OnErr r (new ≡ a) → OnErr r (new.journal ≡ h.journal)
+still_ended (Ok z) h a new before bad = tt
+still_ended (Err e) h a new before bad = ap (λ (x : Hand _ _). x.journal) bad
+    ∙ ap (λ (x : Hand _ _). x.journal) before

@@ -1,14 +1,17 @@
 -- A seat that seals an entry with a new chain: that it may, and what it leaves.
-use Rattle.std.proofs.Common.{◌≡◌, ◌≢◌, ℕ, ◌-◌, ◌==◌, ◌||◌, Bool, true, false, List, Option, None, Some, refl, sym, ap, ◌∙◌, subst}
-use Rattle.std.specs.Prelude.{if◌then◌else◌, Vec}
+use Rattle.std.proofs.Common.{◌≡◌, ◌≢◌, ℕ, ◌-◌, ◌==◌, ◌||◌, Bool, true, false, List, Option, None, Some, refl, sym, ap, ◌∙◌, subst, arith}
+use Rattle.std.specs.Prelude.{if◌then◌else◌, not, Vec}
 use Rattle.std.specs.declared.alloc.Global.{Global}
 use Rattle.bc_alloc.proofs.Times.{by_test}
+use Rattle.bc_alloc.specs.Reserve.{times}
 use Rattle.bc_chain.proofs.of_bc_hand.Knowing.{View, m}
+use Rattle.bc_chain.proofs.of_bc_place.Keeping.{keeps_deed as places_deed, opening_lasts, since_by}
 use Rattle.bc_chain.proofs.of_bc_place.Knowing.{buckets_since, few, known_committed, may_from}
-use Rattle.bc_chain.specs.bc_hand.Seats.{Did, IsCoreSeat, MayDo, world}
+use Rattle.bc_chain.specs.bc_hand.Seats.{Did, IsCoreSeat, MayDo, by, world}
 use Rattle.bc_chain.specs.bc_machine.Standing.{origin_before}
 use Rattle.bc_chain.specs.bc_machine.World.{AreBuckets, FromEach, IsCourseOf, IsJournal, IsOrigin, Origin, World, are_plain, replay}
 use Rattle.bc_chain.specs.bc_machine.declared.part.BucketsPart.{BucketsPart}
+use Rattle.bc_chain.specs.bc_place.Written.{KeepsPlaces}
 use Rattle.bc_chained.specs.Chained.{AreForChain, AreSetsOf, HasRenewing, IsSealedChain}
 use Rattle.bc_chained.specs.Laws.{HasChain, numbers}
 use Rattle.bc_chained.proofs.of_bc_chains.Law.{law_made}
@@ -23,12 +26,18 @@ use Rattle.bc_entry.specs.Seal.{CanSeal, begun_by}
 use Rattle.bc_events.specs.declared.event.Deed.{Deed}
 use Rattle.bc_events.specs.declared.event.Deed.TheVariants as deed
 use Rattle.bc_facts.specs.Seen.{entry_rest, seen_prio}
+use Rattle.bc_held.proofs.Keeping.{held_since, law_held_kept, other_deed, vacant_behind, vacant_since}
+use Rattle.bc_held.specs.Held.{IsHeldFor, Leaves, LiesAt, number_in}
+use Rattle.bc_held.specs.declared.held.HeldBucket.{HeldBucket}
 use Rattle.bc_journal.specs.Journal.{IsJournal as IsGoodJournal, IsSealed, Journal}
 use Rattle.bc_journal.specs.Sealed.{Sealed}
 use Rattle.bc_journal.specs.declared.heads.Heads.{Heads}
+use Rattle.bc_leaves.specs.After.{has}
 use Rattle.bc_meta.specs.Layout.{PrioSet}
 use Rattle.bc_needs.specs.Needs.{NeedsFrom}
+use Rattle.bc_new_chain.proofs.Keeping.{not_among}
 use Rattle.bc_new_chain.proofs.State.{IsLeft, enabled, left, sealing}
+use Rattle.bc_new_chain.specs.Beside.{IsBeside, KeepsHeldBeside}
 use Rattle.bc_new_chain.specs.Seal.{HasSealedChain, IsReadyChain, with_chain}
 use Rattle.bc_parts.specs.Seat.{Holds}
 use Rattle.bc_seats.proofs.Knowing.{still}
@@ -143,6 +152,19 @@ module _ {C B : Type 0} (cache_facts : C → DiskFacts) (backing_facts : B → D
           sets = sets_since v x j.ring.geometry records new two four since ready.sets;
         }
 
+    leaves_beside : (x : World) → Since (m cache_facts backing_facts) v x → (o : Origin)
+        → IsOrigin x o → IsCourseOf o x.log → (b : HeldBucket) → times b.bucket new ≡ 0
+        → LiesAt b o → Leaves b d o (replay o x.log)
+    leaves_beside x since o is course b none lies =
+        let chain = chain_at x since o is course in
+        let first = chain.before in
+        let at = lies.number in
+        ap (λ (t : Bool). not t) (subst (λ (ks : List ℕ). has ks (number_in b o) ≡ false)
+        (sym chained_is)
+        (not_among j.ring.geometry.first_bucket (number_in b o) b.bucket new
+        (omega (arith, first, at))
+        (λ n some. let low = (chain.each n some).0 in omega (arith, first, low)) none))
+
     pub may_seal : MayDo cache_facts backing_facts v d
     may_seal = may_from cache_facts backing_facts v cached d refl (λ o x since is course running.
         let place = has_place j can in
@@ -179,6 +201,35 @@ module _ {C B : Type 0} (cache_facts : C → DiskFacts) (backing_facts : B → D
             (sym (ap (λ (k : Journal). k.needed) is.journal))
             (needs_committed cache_facts backing_facts v w d j.needed did
             (journal_at did.is.before did.is.since).needs);
+      }
+
+      pub keeps_left : KeepsPlaces cache_facts backing_facts v w
+      keeps_left = places_deed cache_facts backing_facts v w d seat refl did
+
+      -- a bucket that isn't of the chain is held still
+      held_kept : (b : HeldBucket)
+          → FromEach (world cache_facts backing_facts v) (IsBeside new b)
+          → FromEach (world cache_facts backing_facts v) (IsHeldFor v.first b)
+          → FromEach (world cache_facts backing_facts w) (IsHeldFor w.first b)
+      held_kept b none h =
+          let x = did.is.before in
+          let held = held_since cache_facts backing_facts v x seat did.is.since b h in
+          let beside = since_by cache_facts backing_facts (λ i. IsBeside new b)
+          (opening_lasts (λ o. times b.bucket new ≡ 0)) v x seat did.is.since none in
+          subst (λ i. FromEach (world cache_facts backing_facts w) (IsHeldFor i b))
+          (sym did.is.same.first)
+          (subst (λ (y : World). FromEach y (IsHeldFor v.first b)) (sym did.is.state)
+          (law_held_kept x (by v.first d) b
+          (λ o origin course. leaves_beside x did.is.since o origin course b
+          (beside o origin course)
+          (held o origin course).lies) held))
+
+      pub held_left : KeepsHeldBeside cache_facts backing_facts new v w
+      held_left = record {
+        held = held_kept;
+        vacant = λ spine b h. vacant_behind cache_facts backing_facts v w d refl did b
+            (vacant_since cache_facts backing_facts v did.is.before spine did.is.since b h);
+        other = other_deed cache_facts backing_facts v w d seat did;
       }
 
       pub fixed_left : FromEach (world cache_facts backing_facts w) (IsFixedEntry s)

@@ -9,11 +9,15 @@
 //! Of the buckets in hand a seal changes one note alone: that a newer chain than the one in hand may
 //! be named. While it stands no other chain is sealed.
 //!
-//! Read `specs/` in this order: Seal, Put; then `seal`, `put`.
+//! All memory is taken before the sets are written: a chain that was written, and for whose entry
+//! there is no memory, would keep its buckets for nothing.
+//!
+//! Read `specs/` in this order: Beside, Seal, Put; then `room`, `seal`, `put`.
 #![tactic(auto)]
 
 mod names;
 pub mod put;
+pub mod room;
 pub mod seal;
 
 // Passed on, so that a crate above need not list these.
@@ -22,3 +26,4 @@ pub use bc_chain::{bc_chains, bc_deed, bc_hand, bc_machine, bc_place};
 pub use bc_chained;
 pub use bc_chained::bc_renew;
 pub use bc_entry;
+pub use bc_held;

@@ -1,48 +1,52 @@
 //! The step that seals an entry with a new chain.
-ghost use Rattle.std.specs.Prelude.{◌≡◌, ◌+◌, ◌<◌, ◌≤◌, ◌==◌, ◌||◌, List, ℕ, false, None, Some, IfErr, IfOk, OnErr, OnOk, IsOk};
-ghost use Rattle.bc_chain.specs.bc_deed.Asked.{IsHaltedOr};
+ghost use Rattle.std.specs.Prelude.{◌≡◌, ◌+◌, ◌<◌, ◌≤◌, ◌==◌, ◌||◌, List, ℕ, false, length, None, Some, IfErr, IfOk, OnErr, OnOk};
+ghost use Rattle.bc_chain.specs.bc_deed.Asked.{IsHalted};
 ghost use Rattle.bc_chain.specs.bc_hand.Seats.{core, world, IsCoreSeat, Works, Did};
 ghost use Rattle.bc_chain.specs.bc_machine.World.{AreBuckets, FromEach, IsJournal, are_plain};
+ghost use Rattle.bc_chain.specs.bc_place.Written.{KeepsPlaces};
 ghost use Rattle.bc_chained.specs.Chained.{HasRenewing, IsSealedChain};
 ghost use Rattle.bc_disk.specs.declared.gens.BucketRecord.{BucketRecord};
 ghost use Rattle.bc_entry.specs.Entry.{IsFixedEntry};
 ghost use Rattle.bc_entry.specs.Seal.{CanSeal};
 ghost use Rattle.bc_journal.specs.Journal.{IsSealed, Journal as JournalSeen};
+ghost use Rattle.bc_new_chain.specs.Beside.{KeepsHeldBeside};
 ghost use Rattle.bc_new_chain.specs.Seal.{HasSealedChain, IsReadyChain, IsSealedIn, MaySealChain, with_chain};
 ghost use Rattle.bc_parts.specs.Seat.{Holds};
 ghost use Rattle.bc_seats.specs.Seats.{Kept};
 
-use crate::names::{heads_with, numbers_in};
+use crate::names::{heads_with, said_in};
+use crate::room::ChainRoom;
 use bc_chain::bc_hand::error::StepError;
 use bc_chain::bc_hand::hand::Hand;
 use bc_chain::bc_hand::seat::commit;
 use bc_chain::bc_machine::machine::{CoreParts, CoreSeat};
 use bc_chain::bc_machine::part::BucketsPart;
 use bc_disk::disk::Disk;
-use bc_entry::next::{bucket_begun, rest_in};
+use bc_entry::next::bucket_begun;
 use bc_events::event::{Deed, NewChain};
 use bc_journal::{Journal, Sealed};
-use std::alloc::Global;
 use std::sync::Wait;
 
 /// Seals the keys that wait into an entry that names the chain in these buckets, and the root that
 /// the newest durable entry names. The sets of the chain were written into them, with the
 /// generations of the buckets in hand, and the seat holds them for it. The buckets, the journal and
 /// the cache device are in hand, and stay so; of the buckets it is noted that a newer chain than the
-/// one in hand may be named.
+/// one in hand may be named. Takes no memory beside `room`, which is for so many buckets at least.
 ///
-/// `Err` comes from want of memory, or names the device that halted the run; then nothing is done.
+/// `Halted` names the device that halted the run; then nothing is done. Whatever comes, the seat knows
+/// of its places and of the other buckets that it holds what it knew.
 pub fn seal_chain<C: Disk + Drop, B: Disk + Drop, R: Wait>(
     rt: &R,
-    alloc: Global,
     parts: &CoreParts<C, B>,
     seat: &mut CoreSeat<C, B>,
     hand: &mut Hand<C, B>,
     new: &[u32],
+    room: ChainRoom,
 ) -> Result<Sealed, StepError>
     requires works { Works C.facts B.facts parts.now seat.old hand.old }
     requires cached { are_plain C.facts B.facts parts.now.run.start ≡ false }
     requires promise { 0 < seat.old.promises }
+    requires room { length new.now ≤ room.len }
     requires may { MaySealChain hand.old seat.old.first new.now (world C.facts B.facts seat.old) }
     ensures works { Works C.facts B.facts parts.now seat.new hand.new }
     ensures left { seat.old.promises ≤ seat.new.promises + 1 }
@@ -55,7 +59,9 @@ pub fn seal_chain<C: Disk + Drop, B: Disk + Drop, R: Wait>(
         (IsSealedChain seat.old.first new.now)) }
     ensures err { OnErr result (Did C.facts B.facts None seat.old seat.new) }
     ensures same { OnErr result (hand.new ≡ hand.old) }
-    ensures cause { IfErr result (λ error. IsHaltedOr error seat.new.seen) }
+    ensures cause { IfErr result (λ error. IsHalted error seat.new.seen) }
+    ensures keeps { KeepsPlaces C.facts B.facts seat.old seat.new }
+    ensures held { KeepsHeldBeside C.facts B.facts new.now seat.old seat.new }
 {
     if let Some(device) = seat.heard() {
         return Err(StepError::Halted(device));
@@ -67,7 +73,7 @@ pub fn seal_chain<C: Disk + Drop, B: Disk + Drop, R: Wait>(
         unreachable!()
     };
     let part = buckets.get_mut();
-    let done = seal_in(rt, alloc, parts, seat, part, journal.get_mut(), new);
+    let done = seal_in(rt, parts, seat, part, journal.get_mut(), new, room);
     hand.buckets = Some(buckets);
     hand.journal = Some(journal);
     done
@@ -76,17 +82,18 @@ pub fn seal_chain<C: Disk + Drop, B: Disk + Drop, R: Wait>(
 // The same, of the parts in hand.
 fn seal_in<C: Disk, B: Disk, R: Wait>(
     rt: &R,
-    alloc: Global,
     parts: &CoreParts<C, B>,
     seat: &mut CoreSeat<C, B>,
     part: &mut BucketsPart,
     journal: &mut Journal,
     new: &[u32],
+    room: ChainRoom,
 ) -> Result<Sealed, StepError>
     requires run { seat.old.run ≡ parts.now.run }
     requires seat { IsCoreSeat C.facts B.facts seat.old }
     requires cached { are_plain C.facts B.facts parts.now.run.start ≡ false }
     requires promise { 0 < seat.old.promises }
+    requires room { length new.now ≤ room.len }
     requires holds { Holds seat.old.parts 2 × Holds seat.old.parts 3 × Holds seat.old.parts 4 }
     requires buckets { AreBuckets part.old (world C.facts B.facts seat.old) }
     requires journal { IsJournal journal.old (world C.facts B.facts seat.old) }
@@ -111,17 +118,14 @@ fn seal_in<C: Disk, B: Disk, R: Wait>(
     ensures err { OnErr result (Did C.facts B.facts None seat.old seat.new) }
     ensures same { OnErr result (part.new ≡ part.old) }
     ensures same_journal { OnErr result (journal.new ≡ journal.old) }
-    ensures cause { IfErr result (λ error. IsHaltedOr error seat.new.seen) }
+    ensures cause { IfErr result (λ error. IsHalted error seat.new.seen) }
+    ensures keeps { KeepsPlaces C.facts B.facts seat.old seat.new }
+    ensures held { KeepsHeldBeside C.facts B.facts new.now seat.old seat.new }
 {
     let heads = heads_with(journal, new);
     let last_seq = journal.needed();
     let bucket = bucket_begun(journal);
-    let Ok(rest) = rest_in(alloc, journal.waiting(), &heads) else {
-        return Err(StepError::Memory);
-    };
-    let Ok(buckets) = numbers_in(alloc, journal, new) else {
-        return Err(StepError::Memory);
-    };
+    let (rest, buckets) = said_in(journal, &heads, new, room);
     let deed = Deed::Seal {
         last_seq,
         bucket,

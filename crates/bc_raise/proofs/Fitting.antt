@@ -9,7 +9,7 @@ use Rattle.bc_bucket.specs.Bucket.{raised}
 use Rattle.bc_bucket.specs.Buckets.{bucket_of, changed}
 use Rattle.bc_fill.specs.Fill.{AreOpen}
 use Rattle.bc_renew.proofs.Parts.{are_open}
-use Rattle.bc_place.specs.bc_machine.declared.part.BucketsPart.{BucketsPart}
+use Rattle.bc_held.specs.bc_machine.declared.part.BucketsPart.{BucketsPart}
 
 never : (b : Bool) → b ≡ true → b ≡ false → ⊥
 never b is off = cc

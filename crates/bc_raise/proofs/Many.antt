@@ -11,13 +11,13 @@ use Rattle.bc_bucket.specs.Buckets.{Buckets, changed}
 use Rattle.bc_disk.specs.Disk.{DiskFacts}
 use Rattle.bc_events.specs.declared.event.Deed.{Deed}
 use Rattle.bc_events.specs.declared.event.Deed.TheVariants as deed
-use Rattle.bc_place.proofs.of_bc_deed.Sequence.{done_then}
-use Rattle.bc_place.proofs.of_bc_hand.Knowing.{View}
-use Rattle.bc_place.specs.bc_deed.Flushed.{HasDone}
-use Rattle.bc_place.specs.bc_hand.Seats.{Did}
-use Rattle.bc_place.specs.bc_machine.Containers.{SameRest}
-use Rattle.bc_place.specs.bc_machine.declared.part.BucketsPart.{BucketsPart}
-use Rattle.bc_place.specs.bc_hand.declared.hand.Hand.{Hand}
+use Rattle.bc_held.proofs.of_bc_deed.Sequence.{done_then}
+use Rattle.bc_held.proofs.of_bc_hand.Knowing.{View}
+use Rattle.bc_held.specs.bc_deed.Flushed.{HasDone}
+use Rattle.bc_held.specs.bc_hand.Seats.{Did}
+use Rattle.bc_held.specs.bc_machine.Containers.{SameRest}
+use Rattle.bc_held.specs.bc_machine.declared.part.BucketsPart.{BucketsPart}
+use Rattle.bc_held.specs.bc_hand.declared.hand.Hand.{Hand}
 use Rattle.bc_raise.specs.Raise.{HasRaisedIn, HasRaisedSome, raises}
 use Rattle.bc_renew.specs.Raised.{HasRaised}
 use Rattle.bc_raise.proofs.InHand.{same_some}

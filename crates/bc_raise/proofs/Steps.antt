@@ -14,15 +14,15 @@ use Rattle.bc_leaves.proofs.Chains.{put_else, put_there}
 use Rattle.bc_model.specs.Sector.{Value}
 use Rattle.bc_fill.specs.declared.fill.Placed.{Placed}
 use Rattle.bc_parts.specs.Seat.{Holds}
-use Rattle.bc_place.proofs.Keeping.{made_by, opening_deed, own_lasts, written_lasts}
-use Rattle.bc_place.proofs.Knowing.{before_since, buckets_since, few, known_committed, may_from}
-use Rattle.bc_place.proofs.of_bc_hand.Knowing.{View, m}
-use Rattle.bc_place.specs.Place.{HasBefore, IsOwn}
-use Rattle.bc_place.specs.Written.{HasWritten, KeepsPlaces}
-use Rattle.bc_place.specs.bc_hand.Seats.{Did, IsCoreSeat, MayDo, by, world}
-use Rattle.bc_place.specs.bc_machine.Containers.{AreBucketsOf}
-use Rattle.bc_place.specs.bc_machine.World.{AreBuckets, FromEach, IsCourseOf, IsOrigin, Origin, World, are_plain, replay}
-use Rattle.bc_place.specs.bc_machine.declared.part.BucketsPart.{BucketsPart}
+use Rattle.bc_held.proofs.of_bc_place.Keeping.{made_by, opening_deed, own_lasts, written_lasts}
+use Rattle.bc_held.proofs.of_bc_place.Knowing.{before_since, buckets_since, few, known_committed, may_from}
+use Rattle.bc_held.proofs.of_bc_hand.Knowing.{View, m}
+use Rattle.bc_held.specs.bc_place.Place.{HasBefore, IsOwn}
+use Rattle.bc_held.specs.bc_place.Written.{HasWritten, KeepsPlaces}
+use Rattle.bc_held.specs.bc_hand.Seats.{Did, IsCoreSeat, MayDo, by, world}
+use Rattle.bc_held.specs.bc_machine.Containers.{AreBucketsOf}
+use Rattle.bc_held.specs.bc_machine.World.{AreBuckets, FromEach, IsCourseOf, IsOrigin, Origin, World, are_plain, replay}
+use Rattle.bc_held.specs.bc_machine.declared.part.BucketsPart.{BucketsPart}
 use Rattle.bc_seats.specs.Seats.{Since}
 use Rattle.bc_shares.specs.Shares.{books_of}
 use Rattle.bc_renew.proofs.Law.{law_raise}

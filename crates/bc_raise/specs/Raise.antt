@@ -3,10 +3,10 @@ use Rattle.std.specs.Prelude.{◌≡◌, ℕ, ◌-◌, ◌<◌, List, length, ma
 use Rattle.bc_disk.specs.Disk.{DiskFacts}
 use Rattle.bc_events.specs.declared.event.Deed.{Deed}
 use Rattle.bc_events.specs.declared.event.Deed.TheVariants as deed
-use Rattle.bc_place.specs.bc_deed.Flushed.{HasDone}
-use Rattle.bc_place.specs.bc_hand.Seats.{View}
-use Rattle.bc_place.specs.bc_hand.declared.hand.Hand.{Hand}
-use Rattle.bc_place.specs.bc_machine.declared.part.BucketsPart.{BucketsPart}
+use Rattle.bc_held.specs.bc_deed.Flushed.{HasDone}
+use Rattle.bc_held.specs.bc_hand.Seats.{View}
+use Rattle.bc_held.specs.bc_hand.declared.hand.Hand.{Hand}
+use Rattle.bc_held.specs.bc_machine.declared.part.BucketsPart.{BucketsPart}
 use Rattle.bc_renew.specs.Raised.{HasRaised}
 
 -- the containers count the buckets before the core's too

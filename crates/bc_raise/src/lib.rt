@@ -18,6 +18,7 @@
 pub mod raise;
 
 // Passed on, so that a crate above need not list these.
-pub use bc_place;
-pub use bc_place::{bc_deed, bc_hand, bc_machine};
+pub use bc_held;
+pub use bc_held::bc_place;
+pub use bc_held::bc_place::{bc_deed, bc_hand, bc_machine};
 pub use bc_renew;

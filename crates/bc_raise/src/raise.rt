@@ -2,25 +2,26 @@
 ghost use Rattle.std.specs.Prelude.{◌≡◌, ◌+◌, ◌-◌, ◌<◌, ◌≤◌, ◌==◌, [], ◌∷◌, false, None, Some, length, OnOk, OnErr, IfErr};
 ghost use Rattle.bc_alloc.specs.Victims.{AreVictims, IsCandidate};
 ghost use Rattle.bc_events.specs.declared.event.Deed.TheVariants.{Raise};
+ghost use Rattle.bc_held.specs.Taken.{KeepsHeld};
 ghost use Rattle.bc_parts.specs.Seat.{Holds};
-ghost use Rattle.bc_place.specs.Place.{HasBefore};
-ghost use Rattle.bc_place.specs.Written.{KeepsPlaces};
-ghost use Rattle.bc_place.specs.bc_deed.Asked.{IsHalted};
-ghost use Rattle.bc_place.specs.bc_deed.Flushed.{HasDone};
-ghost use Rattle.bc_place.specs.bc_hand.Seats.{core, world, IsCoreSeat, Works, Did};
-ghost use Rattle.bc_place.specs.bc_machine.World.{AreBuckets, FromEach, are_plain};
-ghost use Rattle.bc_place.specs.bc_machine.declared.part.BucketsPart.{BucketsPart as PartSeen};
+ghost use Rattle.bc_held.specs.bc_place.Place.{HasBefore};
+ghost use Rattle.bc_held.specs.bc_place.Written.{KeepsPlaces};
+ghost use Rattle.bc_held.specs.bc_deed.Asked.{IsHalted};
+ghost use Rattle.bc_held.specs.bc_deed.Flushed.{HasDone};
+ghost use Rattle.bc_held.specs.bc_hand.Seats.{core, world, IsCoreSeat, Works, Did};
+ghost use Rattle.bc_held.specs.bc_machine.World.{AreBuckets, FromEach, are_plain};
+ghost use Rattle.bc_held.specs.bc_machine.declared.part.BucketsPart.{BucketsPart as PartSeen};
 ghost use Rattle.bc_raise.specs.Raise.{HasRaisedIn, HasRaisedSome, raises};
 ghost use Rattle.bc_renew.specs.Raised.{HasRaised};
 ghost use Rattle.bc_seats.specs.Seats.{Kept};
 
 use bc_disk::disk::Disk;
 use bc_events::event::Deed;
-use bc_place::bc_hand::error::StepError;
-use bc_place::bc_hand::hand::Hand;
-use bc_place::bc_hand::seat::commit;
-use bc_place::bc_machine::machine::{CoreParts, CoreSeat};
-use bc_place::bc_machine::part::BucketsPart;
+use bc_held::bc_hand::error::StepError;
+use bc_held::bc_hand::hand::Hand;
+use bc_held::bc_hand::seat::commit;
+use bc_held::bc_machine::machine::{CoreParts, CoreSeat};
+use bc_held::bc_machine::part::BucketsPart;
 use std::sync::Wait;
 
 /// Raises these buckets in order, which are the victims of a refill: those with the least priority,
@@ -28,6 +29,7 @@ use std::sync::Wait;
 /// hand. `before` buckets of the device lie before the journal's. Takes no memory.
 ///
 /// `Halted` names the device that halted the run; then the first ones are raised, and not all.
+/// Whatever comes, the seat knows of its places and of the buckets that it holds what it knew.
 pub fn raise_all<C: Disk + Drop, B: Disk + Drop, R: Wait>(
     rt: &R,
     parts: &CoreParts<C, B>,
@@ -51,6 +53,7 @@ pub fn raise_all<C: Disk + Drop, B: Disk + Drop, R: Wait>(
     ensures cause { IfErr result (λ error. IsHalted error seat.new.seen) }
     ensures left { seat.old.promises ≤ seat.new.promises + length victims.now }
     ensures keeps { KeepsPlaces C.facts B.facts seat.old seat.new }
+    ensures held { KeepsHeld C.facts B.facts seat.old seat.new }
 {
     for bucket in victims {
         match raise(rt, parts, seat, hand, before, *bucket) {
@@ -87,6 +90,7 @@ pub fn raise<C: Disk + Drop, B: Disk + Drop, R: Wait>(
     ensures same { OnErr result (hand.new ≡ hand.old) }
     ensures cause { IfErr result (λ error. IsHalted error seat.new.seen) }
     ensures keeps { KeepsPlaces C.facts B.facts seat.old seat.new }
+    ensures held { KeepsHeld C.facts B.facts seat.old seat.new }
 {
     let Some(mut buckets) = hand.buckets.take() else {
         unreachable!()
@@ -123,6 +127,7 @@ fn raise_in<C: Disk, B: Disk, R: Wait>(
     ensures same { OnErr result (part.new ≡ part.old) }
     ensures cause { IfErr result (λ error. IsHalted error seat.new.seen) }
     ensures keeps { KeepsPlaces C.facts B.facts seat.old seat.new }
+    ensures held { KeepsHeld C.facts B.facts seat.old seat.new }
 {
     let number = bucket.saturating_sub(before);
     if let Err(device) = commit(rt, parts, seat, Deed::Raise { bucket: number }) {

@@ -38,7 +38,7 @@ returns-clause-buckets g c = gone_as g.C.Disk.facts g.B.Disk.facts c.args.seat.n
     c.requires.before c.args.bucket c.requires.held c.requires.tree c.requires.vacant
     c.saturating_sub-number.result c.saturating_sub-number.ensures c.takes_back-back.result
     c.takes_back-back.ensures c.commit.new.seat
-    c.in_default.ensures.ok c.put_down.new.part c.put_down.ensures
+    c.in_default.ensures.ok c.put_down.new.part c.put_down.ensures.goes
 
 pub returns-clause-ok : goal.returns-clause-ok
 returns-clause-ok g c = went_as g.C.Disk.facts g.B.Disk.facts c.args.seat.now c.requires.seat
@@ -47,7 +47,8 @@ returns-clause-ok g c = went_as g.C.Disk.facts g.B.Disk.facts c.args.seat.now c.
     c.requires.before c.args.bucket c.requires.held c.requires.tree c.requires.vacant
     c.saturating_sub-number.result c.saturating_sub-number.ensures c.takes_back-back.result
     c.takes_back-back.ensures c.commit.new.seat
-    c.in_default.ensures.ok c.put_down.new.part c.put_down.ensures
+    c.in_default.ensures.ok c.put_down.new.part c.put_down.ensures.goes
+    c.put_down.ensures.rest
 
 pub returns-clause-keeps : goal.returns-clause-keeps
 returns-clause-keeps g c = keeps_as g.C.Disk.facts g.B.Disk.facts c.args.seat.now c.requires.seat
@@ -56,4 +57,4 @@ returns-clause-keeps g c = keeps_as g.C.Disk.facts g.B.Disk.facts c.args.seat.no
     c.requires.before c.args.bucket c.requires.held c.requires.tree c.requires.vacant
     c.saturating_sub-number.result c.saturating_sub-number.ensures c.takes_back-back.result
     c.takes_back-back.ensures c.commit.new.seat
-    c.in_default.ensures.ok c.put_down.new.part c.put_down.ensures
+    c.in_default.ensures.ok c.put_down.new.part c.put_down.ensures.goes

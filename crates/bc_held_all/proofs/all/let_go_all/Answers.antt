@@ -1,9 +1,9 @@
-use Rattle.std.proofs.Common.{◌+◌, List, ◌∷◌, drop, take, sym, ap, ◌∙◌, subst, arith}
+use Rattle.std.proofs.Common.{◌+◌, List, ◌∷◌, drop, length, take, sym, ap, ◌∙◌, subst, arith}
 use Rattle.std.proofs.lemmas.List.{drop_more, take-append-drop}
 use Rattle.bc_held.proofs.Doing.{holds_spine}
 use Rattle.bc_held.proofs.of_bc_place.Keeping.{keeps_both as places_both}
 use Rattle.bc_held.specs.declared.held.HeldBucket.{HeldBucket}
-use Rattle.bc_held_all.proofs.Going.{held_less, keeps_gone, next_gone, rest_both, spine_stays}
+use Rattle.bc_held_all.proofs.Going.{gone_ties, held_less, keeps_gone, next_gone, rest_both, spine_stays, ties_both, ties_same}
 use Rattle.bc_held_all.proofs.Lists.{in_first, in_place}
 use Rattle.bc_held_all.specs.All.{AreHeld}
 use Rattle.bc_held_all.proofs.all.let_go_all.Goals as goal
@@ -62,6 +62,21 @@ returns-in-Err-clause-places g c = places_both g.C.Disk.facts g.B.Disk.facts c.a
     c.loop-bucket.seat c.let_go_bucket.new.seat c.loop-bucket.invariant.8
     c.let_go_bucket.ensures.places
 
+pub returns-in-Err-clause-part : goal.returns-in-Err-clause-part
+returns-in-Err-clause-part g c = ties_both c.args.hand.now c.loop-bucket.hand
+    c.let_go_bucket.new.hand c.loop-bucket.invariant.9
+    (ties_same c.loop-bucket.hand c.let_go_bucket.new.hand c.in-Err.ensures.same)
+
+pub returns-in-Err-clause-same : goal.returns-in-Err-clause-same
+returns-in-Err-clause-same g c = λ none. absurd
+    (let long = ap (λ (xs : List HeldBucket). length xs) none in
+    let test = c.loop-bucket-test.true in omega (arith, long, test))
+
+pub returns-clause-same : goal.returns-clause-same
+returns-clause-same g c = λ none. c.loop-bucket.invariant.10
+    (let long = ap (λ (xs : List HeldBucket). length xs) none in
+    let test = c.loop-bucket-test.false in omega (arith, long, test))
+
 pub loop-bucket-preserved : goal.loop-bucket-preserved
 loop-bucket-preserved g c =
     let cf = g.C.Disk.facts in
@@ -93,4 +108,8 @@ loop-bucket-preserved g c =
           c.let_go_bucket.ensures.keeps,
       places_both cf bf c.args.seat.now l.seat next l.invariant.8
           c.let_go_bucket.ensures.places,
+      ties_both c.args.hand.now l.hand c.let_go_bucket.new.hand l.invariant.9
+          (gone_ties cf bf c.args.before b l.hand c.let_go_bucket.new.hand l.seat next
+          c.in_default.ensures.part),
+      (λ none. absurd (omega (arith, none))),
     )

@@ -1,5 +1,7 @@
 use Rattle.std.proofs.Common.{◌≡◌, ◌+◌, ◌≤◌, drop, take}
 use Rattle.bc_held.specs.bc_hand.Seats.{Works, kinds, world}
+use Rattle.bc_held.specs.Taken.{TiesBuckets}
+use Rattle.bc_held.specs.bc_machine.Containers.{SameRest}
 use Rattle.bc_held.specs.bc_machine.World.{FromEach}
 use Rattle.bc_held.specs.bc_place.Place.{HasBefore}
 use Rattle.bc_held.specs.bc_place.Written.{KeepsPlaces}
@@ -17,3 +19,5 @@ invariant-loop-bucket g l = Works g.C.Disk.facts g.B.Disk.facts l.parts l.seat l
     l.initial.seat l.seat
     × KeepsHeldApart g.C.Disk.facts g.B.Disk.facts l.buckets l.initial.seat l.seat
     × KeepsPlaces g.C.Disk.facts g.B.Disk.facts l.initial.seat l.seat
+    × TiesBuckets l.initial.hand l.hand SameRest
+    × (l.bucket-index ≡ 0 → l.hand ≡ l.initial.hand)

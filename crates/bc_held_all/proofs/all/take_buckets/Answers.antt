@@ -1,6 +1,6 @@
-use Rattle.std.proofs.Common.{◌+◌, List, [], ◌∷◌, ◌++◌, drop, inl, inr, length, take, sym, ap, ◌∙◌, subst, arith}
+use Rattle.std.proofs.Common.{◌≡◌, ◌+◌, List, [], ◌∷◌, ◌++◌, drop, inl, inr, length, take, refl, sym, ap, ◌∙◌, subst, arith, rules}
 use Rattle.std.proofs.lemmas.List.{length-append, take-append-drop}
-use Rattle.std.specs.Prelude.{IfOk}
+use Rattle.std.specs.Prelude.{IfOk, OnErr}
 use Rattle.bc_held.proofs.Doing.{holds_spine}
 use Rattle.bc_held.proofs.of_bc_place.Keeping.{keeps_both as places_both}
 use Rattle.bc_held.specs.Held.{IsHeldFor, IsVacantIn}
@@ -9,7 +9,7 @@ use Rattle.bc_held.specs.bc_hand.Seats.{world}
 use Rattle.bc_held.specs.bc_machine.World.{FromEach}
 use Rattle.bc_held.specs.declared.held.HeldBucket.{HeldBucket}
 use Rattle.bc_held.specs.declared.held.Want.{Want}
-use Rattle.bc_held_all.proofs.Going.{AreNew, held_more, held_on, kept_apart, keeps_both, new_more, new_on, one_taken, rest_both, spine_stays}
+use Rattle.bc_held_all.proofs.Going.{AreNew, held_more, held_on, kept_apart, keeps_both, new_more, new_on, one_taken, rest_both, spine_stays, taken_ties, ties_both, ties_none, ties_same}
 use Rattle.bc_held_all.proofs.Lists.{split_next, take_next}
 use Rattle.bc_held_all.specs.All.{AreHeld, HaveHalted, HaveLetGo, HaveTaken, KeepsHeldApart, wants_of}
 use Rattle.bc_held_all.proofs.all.take_buckets.Goals as goal
@@ -38,6 +38,36 @@ returns-in-Err-clause-keeps g c =
 pub returns-in-Err-clause-places : goal.returns-in-Err-clause-places
 returns-in-Err-clause-places g c = places_both g.C.Disk.facts g.B.Disk.facts c.args.seat.now
     c.loop-done.seat c.take_bucket.new.seat c.loop-done.invariant.12 c.take_bucket.ensures.places
+
+pub returns-in-Err-clause-part : goal.returns-in-Err-clause-part
+returns-in-Err-clause-part g c = ties_both c.args.hand.now c.loop-done.hand c.take_bucket.new.hand
+    c.loop-done.invariant.14
+    (ties_same c.loop-done.hand c.take_bucket.new.hand c.in-Err.ensures.same)
+
+pub returns-in-Err-clause-same : goal.returns-in-Err-clause-same
+returns-in-Err-clause-same g c = λ none. c.in-Err.ensures.same ∙ c.loop-done.invariant.15
+    (let long = ap (λ (xs : List HeldBucket). length xs) none in
+    let count = c.loop-done.invariant.3 in omega (arith, long, count))
+
+pub loop-done-init : goal.loop-done-init
+loop-done-init g c = (
+  c.requires.works,
+  refl,
+  refl,
+  sym (ap (λ (xs : List HeldBucket). length xs) c.requires.empty),
+  omega arith,
+  c.requires.room,
+  omega arith,
+  c.requires.before,
+  search rules,
+  search rules,
+  search rules,
+  search rules,
+  search rules,
+  search rules,
+  ties_none c.args.hand.now,
+  (λ none. refl),
+)
 
 pub loop-done-preserved : goal.loop-done-preserved
 loop-done-preserved g c =
@@ -93,6 +123,10 @@ loop-done-preserved g c =
       places_both cf bf c.args.seat.now l.seat next l.invariant.12
           c.take_bucket.ensures.places,
       l.invariant.13,
+      ties_both c.args.hand.now l.hand c.take_bucket.new.hand l.invariant.14
+          (taken_ties cf bf c.args.before c.want_at-want.result c.in-Ok.answer l.hand
+          c.take_bucket.new.hand l.seat next c.in-Ok.ensures.part),
+      (λ none. absurd (omega (arith, none))),
     )
 
 pub let_go_all-requires-clause-before : goal.let_go_all-requires-clause-before
@@ -210,3 +244,29 @@ returns-in-Err-answer-clause-places g c =
     places_both cf bf c.args.seat.now c.take_bucket.new.seat c.let_go_all.new.seat
     (places_both cf bf c.args.seat.now c.loop-done.seat c.take_bucket.new.seat
     c.loop-done.invariant.12 c.take_bucket.ensures.places) c.let_go_all.ensures.places
+
+pub returns-in-Err-let_go_all-clause-part : goal.returns-in-Err-let_go_all-clause-part
+returns-in-Err-let_go_all-clause-part g c =
+    let l = c.loop-done in
+    ties_both c.args.hand.now l.hand c.let_go_all.new.hand l.invariant.14
+    (ties_both l.hand c.take_bucket.new.hand c.let_go_all.new.hand
+    (taken_ties g.C.Disk.facts g.B.Disk.facts c.args.before c.want_at-want.result c.in-Ok.answer
+    l.hand c.take_bucket.new.hand l.seat c.take_bucket.new.seat c.in-Ok.ensures.part)
+    c.let_go_all.ensures.part)
+
+pub returns-in-Err-answer-clause-part : goal.returns-in-Err-answer-clause-part
+returns-in-Err-answer-clause-part g c =
+    let l = c.loop-done in
+    ties_both c.args.hand.now l.hand c.let_go_all.new.hand l.invariant.14
+    (ties_both l.hand c.take_bucket.new.hand c.let_go_all.new.hand
+    (taken_ties g.C.Disk.facts g.B.Disk.facts c.args.before c.want_at-want.result c.in-Ok.answer
+    l.hand c.take_bucket.new.hand l.seat c.take_bucket.new.seat c.in-Ok.ensures.part)
+    c.let_go_all.ensures.part)
+
+pub returns-in-Err-let_go_all-clause-same : goal.returns-in-Err-let_go_all-clause-same
+returns-in-Err-let_go_all-clause-same g c =
+    let l = c.loop-done in λ none.
+    c.let_go_all.ensures.same (c.deref.ensures.value ∙ none)
+    ∙ subst (λ a. OnErr a (c.take_bucket.new.hand ≡ l.hand)) c.in-Err-answer.is c.in-Ok.ensures.none
+    ∙ l.invariant.15 (let long = ap (λ (xs : List HeldBucket). length xs) none in
+    let count = l.invariant.3 in omega (arith, long, count))

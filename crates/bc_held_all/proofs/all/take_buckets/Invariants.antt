@@ -1,7 +1,8 @@
 use Rattle.std.proofs.Common.{◌≡◌, ◌+◌, ◌-◌, ◌≤◌, length, take}
 use Rattle.std.specs.Prelude.{vec_capacity}
-use Rattle.bc_held.specs.Taken.{KeepsHeld}
+use Rattle.bc_held.specs.Taken.{KeepsHeld, TiesBuckets}
 use Rattle.bc_held.specs.bc_hand.Seats.{Works, kinds, world}
+use Rattle.bc_held.specs.bc_machine.Containers.{SameRest}
 use Rattle.bc_held.specs.bc_machine.World.{FromEach}
 use Rattle.bc_held.specs.bc_place.Place.{HasBefore}
 use Rattle.bc_held.specs.bc_place.Written.{KeepsPlaces}
@@ -25,6 +26,8 @@ invariant-loop-done g l = Works g.C.Disk.facts g.B.Disk.facts l.parts l.seat l.h
     × KeepsHeld g.C.Disk.facts g.B.Disk.facts l.initial.seat l.seat
     × KeepsPlaces g.C.Disk.facts g.B.Disk.facts l.initial.seat l.seat
     × (l.count ≡ l.needs.tree + l.needs.moving)
+    × TiesBuckets l.initial.hand l.hand SameRest
+    × (l.done ≡ 0 → l.hand ≡ l.initial.hand)
 
 abbrev pub decreases-loop-done : goal.decreases-loop-done
 decreases-loop-done g l = l.needs.tree + l.needs.moving - l.done

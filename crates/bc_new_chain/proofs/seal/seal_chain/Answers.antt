@@ -1,9 +1,12 @@
-use Rattle.std.proofs.Common.{◌≡◌, false, Some, refl, sym, ap, ◌∙◌, subst}
+use Rattle.std.proofs.Common.{◌≡◌, false, None, Some, refl, sym, ap, ◌∙◌, subst}
 use Rattle.bc_chain.proofs.of_bc_deed.May.{did_nothing}
 use Rattle.bc_chain.specs.bc_hand.Seats.{world}
 use Rattle.bc_chain.specs.bc_machine.declared.part.BucketsPart.{BucketsPart}
+use Rattle.bc_chain.proofs.of_bc_place.Storing.{keeps_nothing}
 use Rattle.bc_entry.specs.Seal.{CanSeal}
+use Rattle.bc_held.proofs.Keeping.{keeps_nothing as held_nothing}
 use Rattle.bc_journal.specs.Journal.{Journal}
+use Rattle.bc_new_chain.proofs.Keeping.{beside_all}
 use Rattle.bc_new_chain.proofs.InHand.{holds_three, same_some, three_ok, works_both}
 use Rattle.bc_new_chain.proofs.seal.seal_chain.Goals as goal
 use Rattle.bc_new_chain.specs.Seal.{IsReadyChain}
@@ -12,6 +15,14 @@ use Rattle.bc_parts.specs.Seat.{Holds}
 pub returns-in-Some-clause-err : goal.returns-in-Some-clause-err
 returns-in-Some-clause-err g c = did_nothing g.C.Disk.facts g.B.Disk.facts c.args.seat.now
     c.requires.works.seat
+
+pub returns-in-Some-clause-keeps : goal.returns-in-Some-clause-keeps
+returns-in-Some-clause-keeps g c = keeps_nothing g.C.Disk.facts g.B.Disk.facts c.args.seat.now
+    c.requires.works.seat
+
+pub returns-in-Some-clause-held : goal.returns-in-Some-clause-held
+returns-in-Some-clause-held g c = beside_all g.C.Disk.facts g.B.Disk.facts c.args.new.now
+    c.args.seat.now c.args.seat.now (held_nothing g.C.Disk.facts g.B.Disk.facts None c.args.seat.now)
 
 pub seal_in-done-requires-clause-holds : goal.seal_in-done-requires-clause-holds
 seal_in-done-requires-clause-holds g c =

@@ -1,5 +1,5 @@
 use Rattle.std.proofs.Common.{Some, refl, sym, ap, ◌∙◌, subst}
-use Rattle.bc_place.specs.bc_machine.declared.part.BucketsPart.{BucketsPart}
+use Rattle.bc_held.specs.bc_machine.declared.part.BucketsPart.{BucketsPart}
 use Rattle.bc_alloc.specs.Victims.{IsCandidate}
 use Rattle.bc_raise.proofs.InHand.{on_ok, same_some, works_anew}
 use Rattle.bc_raise.proofs.raise.raise.Goals as goal

@@ -1,8 +1,10 @@
 use Rattle.std.proofs.Common.{None, get_or, refl, arith}
-use Rattle.bc_place.proofs.Keeping.{keeps_both}
-use Rattle.bc_place.proofs.Storing.{keeps_nothing}
-use Rattle.bc_place.proofs.of_bc_deed.May.{did_nothing}
-use Rattle.bc_place.proofs.of_bc_deed.Sequence.{done_first}
+use Rattle.bc_held.proofs.of_bc_place.Keeping.{keeps_both}
+use Rattle.bc_held.proofs.of_bc_place.Storing.{keeps_nothing}
+use Rattle.bc_held.proofs.of_bc_deed.May.{did_nothing}
+use Rattle.bc_held.proofs.of_bc_deed.Sequence.{done_first}
+use Rattle.bc_held.proofs.Keeping.{keeps_nothing as held_nothing}
+use Rattle.bc_raise.proofs.InHand.{held_both, spine_on}
 use Rattle.bc_raise.proofs.Many.{done_more, next_may, raised_all, raised_next, raised_none, raised_some}
 use Rattle.bc_raise.proofs.raise.raise_all.Goals as goal
 
@@ -18,6 +20,7 @@ loop-bucket-init g c =
           c.requires.victims.1 c.requires.victims.2,
       done_first cf bf None v v (did_nothing cf bf v c.requires.works.seat),
       keeps_nothing cf bf v c.requires.works.seat,
+      held_nothing cf bf None v,
     )
 
 pub raise-requires-clause-may : goal.raise-requires-clause-may
@@ -34,6 +37,14 @@ returns-in-Err-clause-err g c = raised_some g.C.Disk.facts g.B.Disk.facts c.args
 pub returns-in-Err-clause-keeps : goal.returns-in-Err-clause-keeps
 returns-in-Err-clause-keeps g c = keeps_both g.C.Disk.facts g.B.Disk.facts c.args.seat.now
     c.loop-bucket.seat c.raise.new.seat c.loop-bucket.invariant.5 c.raise.ensures.keeps
+
+pub returns-in-Err-clause-held : goal.returns-in-Err-clause-held
+returns-in-Err-clause-held g c =
+    let l = c.loop-bucket in
+    held_both g.C.Disk.facts g.B.Disk.facts c.args.seat.now l.seat c.raise.new.seat
+    (spine_on g.C.Disk.facts g.B.Disk.facts c.args.parts.now c.args.seat.now l.seat
+    c.args.hand.now l.hand l.invariant.3.0 l.invariant.3.1 l.invariant.3.2 l.invariant.3.3
+    c.requires.works l.invariant.0) l.invariant.6 c.raise.ensures.held
 
 pub loop-bucket-preserved : goal.loop-bucket-preserved
 loop-bucket-preserved g c =
@@ -54,6 +65,10 @@ loop-bucket-preserved g c =
       done_more cf bf c.args.before ns i n c.args.seat.now l.seat next c.loop-bucket-test.true refl
           l.invariant.4 c.in-Ok.ensures.ok,
       keeps_both cf bf c.args.seat.now l.seat next l.invariant.5 c.raise.ensures.keeps,
+      held_both cf bf c.args.seat.now l.seat next
+          (spine_on cf bf c.args.parts.now c.args.seat.now l.seat c.args.hand.now l.hand
+          l.invariant.3.0 l.invariant.3.1 l.invariant.3.2 l.invariant.3.3 c.requires.works
+          l.invariant.0) l.invariant.6 c.raise.ensures.held,
     )
 
 pub returns-clause-part : goal.returns-clause-part

@@ -1,9 +1,10 @@
 use Rattle.std.proofs.Common.{◌+◌, ◌≤◌, take}
-use Rattle.bc_place.specs.Place.{HasBefore}
-use Rattle.bc_place.specs.Written.{KeepsPlaces}
-use Rattle.bc_place.specs.bc_deed.Flushed.{HasDone}
-use Rattle.bc_place.specs.bc_hand.Seats.{Works, world}
-use Rattle.bc_place.specs.bc_machine.World.{FromEach}
+use Rattle.bc_held.specs.Taken.{KeepsHeld}
+use Rattle.bc_held.specs.bc_place.Place.{HasBefore}
+use Rattle.bc_held.specs.bc_place.Written.{KeepsPlaces}
+use Rattle.bc_held.specs.bc_deed.Flushed.{HasDone}
+use Rattle.bc_held.specs.bc_hand.Seats.{Works, world}
+use Rattle.bc_held.specs.bc_machine.World.{FromEach}
 use Rattle.bc_raise.specs.Raise.{raises}
 use Rattle.bc_raise.proofs.Many.{AreRaisedTo}
 use Rattle.bc_raise.proofs.raise.raise_all.Given as goal
@@ -16,3 +17,4 @@ invariant-loop-bucket g l = Works g.C.Disk.facts g.B.Disk.facts l.parts l.seat l
     × HasDone g.C.Disk.facts g.B.Disk.facts (raises l.before (take l.bucket-index l.victims))
     l.initial.seat l.seat
     × KeepsPlaces g.C.Disk.facts g.B.Disk.facts l.initial.seat l.seat
+    × KeepsHeld g.C.Disk.facts g.B.Disk.facts l.initial.seat l.seat

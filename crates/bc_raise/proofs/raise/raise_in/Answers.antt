@@ -1,8 +1,11 @@
+use Rattle.std.proofs.Common.{None, refl}
+use Rattle.bc_events.specs.declared.event.Deed.TheVariants.{Raise}
+use Rattle.bc_held.proofs.Keeping.{keeps_deed as held_deed, keeps_waited as held_waited}
 use Rattle.bc_raise.proofs.of_bc_deed.May.{kept_as}
-use Rattle.bc_place.proofs.Keeping.{keeps_waited}
-use Rattle.bc_place.proofs.Knowing.{buckets_since}
-use Rattle.bc_place.proofs.Storing.{cached_by}
-use Rattle.bc_place.specs.bc_hand.Seats.{world}
+use Rattle.bc_held.proofs.of_bc_place.Keeping.{keeps_waited}
+use Rattle.bc_held.proofs.of_bc_place.Knowing.{buckets_since}
+use Rattle.bc_held.proofs.of_bc_place.Storing.{cached_by}
+use Rattle.bc_held.specs.bc_hand.Seats.{world}
 use Rattle.bc_raise.proofs.Steps.{buckets_changed, did_raise, keeps_raise, may_do, raised_after}
 use Rattle.bc_raise.proofs.raise.raise_in.Goals as goal
 
@@ -42,4 +45,13 @@ returns-clause-keeps g c = keeps_raise g.C.Disk.facts g.B.Disk.facts c.args.seat
 pub returns-clause-ok : goal.returns-clause-ok
 returns-clause-ok g c = did_raise g.C.Disk.facts g.B.Disk.facts c.args.seat.now c.commit.new.seat
     c.args.bucket c.args.before c.saturating_sub-number.result c.saturating_sub-number.ensures
+    c.in_default.ensures.ok
+
+pub returns-in-Err-clause-held : goal.returns-in-Err-clause-held
+returns-in-Err-clause-held g c = held_waited g.C.Disk.facts g.B.Disk.facts None c.args.seat.now
+    c.commit.new.seat c.requires.seat c.in-Err.ensures.err.is
+
+pub returns-clause-held : goal.returns-clause-held
+returns-clause-held g c = held_deed g.C.Disk.facts g.B.Disk.facts c.args.seat.now
+    c.commit.new.seat (Raise c.saturating_sub-number.result) c.requires.seat (λ q. refl) refl
     c.in_default.ensures.ok
