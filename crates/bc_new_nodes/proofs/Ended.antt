@@ -17,7 +17,7 @@ use Rattle.bc_new_node.specs.bc_held.declared.held.HeldBucket.{HeldBucket}
 use Rattle.bc_new_node.specs.bc_machine.declared.part.SpinePart.{SpinePart}
 use Rattle.bc_new_node.specs.bc_place.Written.{KeepsPlaces}
 use Rattle.bc_new_nodes.specs.Course.{HaveStoppedAt, counted}
-use Rattle.bc_new_nodes.specs.Nodes.{nodes_of}
+use Rattle.bc_planned.specs.Nodes.{nodes_of}
 use Rattle.bc_new_nodes.specs.Wrote.{HaveNotWritten, HaveStopped, HaveWritten, KeepsBuckets, changed, noted}
 use Rattle.bc_plan.specs.declared.write.NewNode.{NewNode}
 use Rattle.bc_tree.specs.declared.plan.Plan.{Plan}

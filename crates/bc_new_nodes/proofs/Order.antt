@@ -1,7 +1,7 @@
 -- The new nodes of a plan rise: each is another one than those before it, and leaves come first.
 use Rattle.std.proofs.Common.{◌≡◌, ℕ, suc, ◌<◌, ◌≤◌, Bool, true, false, List, [], ◌∷◌, ◌++◌, refl, sym, ap, ◌∙◌, subst, arith, append_assoc, if◌then◌else◌}
 use Rattle.bc_new_nodes.specs.Course.{AreOnce, Differs}
-use Rattle.bc_new_nodes.specs.Nodes.{are_under, comes_behind, nodes_by, nodes_of, when}
+use Rattle.bc_planned.specs.Nodes.{are_under, comes_behind, nodes_by, nodes_of, when}
 use Rattle.bc_plan.specs.declared.write.NewNode.{NewNode}
 use Rattle.bc_plan.specs.declared.write.NewNode.TheVariants.{Behind, First, Lowest, Parent, Root, Second}
 use Rattle.bc_tree.specs.declared.beside.Beside.{Beside}

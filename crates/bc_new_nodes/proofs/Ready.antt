@@ -35,7 +35,7 @@ use Rattle.bc_new_node.specs.bc_machine.World.{FromEach, Origin}
 use Rattle.bc_new_nodes.proofs.Same.{leaf_kind}
 use Rattle.bc_new_nodes.proofs.Pure.{EndBefore, children_say, leaf_says}
 use Rattle.bc_new_nodes.specs.Course.{AreThere, Brings, HasInnerIn, HasLeafIn, HasOnly, IsThere}
-use Rattle.bc_new_nodes.specs.Nodes.{are_under, comes_behind, is_leaf, is_moved, nodes_of, number_in as range_number, range_of, slot_of, top_is_moved, when}
+use Rattle.bc_planned.specs.Nodes.{are_under, comes_behind, is_leaf, is_moved, nodes_of, number_in as range_number, range_of, slot_of, top_is_moved, when}
 use Rattle.bc_node.specs.Leaf.{AreLast, AreLastOfAll, Leaf, pending_set}
 use Rattle.bc_node.specs.Writing.{set_of}
 use Rattle.bc_plan.specs.Write.{behind_of, lowest_of}

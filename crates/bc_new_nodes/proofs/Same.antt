@@ -8,7 +8,7 @@ use Rattle.bc_new_node.specs.Kind.{IsInnerOf, IsLeafOf}
 use Rattle.bc_new_node.specs.bc_held.declared.held.HeldBucket.{HeldBucket}
 use Rattle.bc_new_nodes.specs.Asked.{ComesIn, IsNodeFor}
 use Rattle.bc_new_nodes.specs.Course.{Brings}
-use Rattle.bc_new_nodes.specs.Nodes.{are_under, comes_behind, is_leaf, is_moved, nodes_by, nodes_of, number_in, range_of, slot_of, top_is_moved}
+use Rattle.bc_planned.specs.Nodes.{are_under, comes_behind, is_leaf, is_moved, nodes_by, nodes_of, number_in, range_of, slot_of, top_is_moved}
 use Rattle.bc_node.specs.Leaf.{IsAppended, Leaf}
 use Rattle.bc_plan.specs.Write.{CanWrite, FirstSet, HasFirstSet, HasNodeWritten, IsUnwritten, behind_of, leaf_set, lowest_of, with_behind, with_lowest}
 use Rattle.bc_plan.specs.declared.write.NewNode.{NewNode}

@@ -34,7 +34,7 @@ use Rattle.bc_new_nodes.proofs.Ready.{is_ready}
 use Rattle.bc_new_nodes.proofs.Same.{inner_back, inner_before, same_at}
 use Rattle.bc_new_nodes.specs.Asked.{ChildrenPoint, PointsInto}
 use Rattle.bc_new_nodes.specs.Course.{AreThere, HasOnly}
-use Rattle.bc_new_nodes.specs.Nodes.{nodes_of}
+use Rattle.bc_planned.specs.Nodes.{nodes_of}
 use Rattle.bc_new_nodes.specs.Wrote.{HaveWritten, StaysAsked}
 use Rattle.bc_node.specs.Leaf.{Leaf}
 use Rattle.bc_parts.specs.Seat.{Holds}

@@ -25,7 +25,7 @@ use Rattle.bc_new_nodes.proofs.Same.{inner_kind, same_leaves, same_nodes, slot_c
 use Rattle.bc_new_nodes.proofs.There.{are_stay, is_there, one_there, one_wrote, to_write_stay}
 use Rattle.bc_new_nodes.specs.Asked.{ChildrenPoint, PointsInto}
 use Rattle.bc_new_nodes.specs.Course.{AreOnce, AreRooms, AreThere, AreToWrite, Brings, HasOnly, HaveDoneEach, counted}
-use Rattle.bc_new_nodes.specs.Nodes.{nodes_of, slot_of}
+use Rattle.bc_planned.specs.Nodes.{nodes_of, slot_of}
 use Rattle.bc_new_nodes.specs.Wrote.{HaveWritten}
 use Rattle.bc_parts.specs.Seat.{Holds}
 use Rattle.bc_plan.specs.Write.{HasNodeWritten}

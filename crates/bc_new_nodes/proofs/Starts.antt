@@ -1,11 +1,15 @@
 -- A tree at rest has no new nodes; so the first of a plan may be written.
 use Rattle.std.proofs.Common.{◌≡◌, ◌≢◌, inl, inr, ℕ, suc, ◌+◌, ◌-◌, ◌<◌, Bool, true, false, List, [], ◌∷◌, length, Option, Some, refl, sym, ap, ◌∙◌, subst, arith}
-use Rattle.std.specs.Prelude.{Contains, IfSome, Vec, is_some}
+use Rattle.std.specs.Prelude.{Contains, IfSome, Vec, is_some, option_to_list}
 use Rattle.std.specs.declared.alloc.Global.{Global}
+use Rattle.bc_spine.proofs.Lists.{AllPairs-right}
+use Rattle.bc_change.proofs.Sites.{two_apart}
 use Rattle.bc_disk.specs.Disk.{DiskFacts}
 use Rattle.bc_disk.specs.declared.geometry.Geometry.{Geometry}
+use Rattle.bc_facts.proofs.Stood.{contains_in}
 use Rattle.bc_held_all.specs.All.{AreHeld}
 use Rattle.bc_leaves.specs.Parts.{NoNode, Role}
+use Rattle.bc_meta.specs.Facts.{In}
 use Rattle.bc_new_node.specs.Kind.{IsDividedBy}
 use Rattle.bc_new_node.specs.bc_drafts.Draft.{HasNoInner, HasNoLeaf}
 use Rattle.bc_new_node.specs.bc_hand.Seats.{View, Works, kinds, numbers, world}
@@ -22,14 +26,16 @@ use Rattle.bc_shares.specs.Shares.{inner_share}
 use Rattle.bc_new_nodes.proofs.Order.{Rising, differs_by, first_rank, once_by, rank, rising}
 use Rattle.bc_new_nodes.specs.Asked.{AreNodesFor, ChildrenPoint, IsNodeFor, MayWriteNodes}
 use Rattle.bc_new_nodes.specs.Course.{AreRooms, AreToWrite, CanWriteEach, GoesApart, HasOnly, SlotsDiffer}
-use Rattle.bc_new_nodes.specs.Nodes.{are_under, is_leaf, nodes_of, number_in, slot_of}
+use Rattle.bc_planned.specs.Nodes.{are_under, is_leaf, nodes_of, number_in, slot_of}
 use Rattle.bc_new_nodes.specs.Wrote.{noted}
 use Rattle.bc_parts.specs.Seat.{PartsView}
 use Rattle.bc_plan.specs.declared.write.NewNode.{NewNode}
 use Rattle.bc_plan.specs.declared.write.NewNode.TheVariants.{Behind, First, Lowest, Parent, Root, Second}
-use Rattle.bc_spine.specs.Exchange.{HaveLeastNumbers}
-use Rattle.bc_spine.specs.Numbers.{HasNumber, IsLeastFree}
+use Rattle.bc_spine.specs.Exchange.{coming}
+use Rattle.bc_spine.specs.Leaves.{HaveTwoNumbers}
+use Rattle.bc_spine.specs.Numbers.{HasNumber}
 use Rattle.bc_spine.specs.declared.leaf.LeafRange.{LeafRange}
+use Rattle.bc_tree.specs.Plan.{Fits}
 use Rattle.bc_tree.specs.declared.plan.Plan.{Plan}
 
 in_tree_none : (r : Role) → IsInTree r → r ≡ NoNode → ⊥
@@ -38,6 +44,9 @@ in_tree_none r live none = subst IsInTree none live
 none_there : (r : Role) → Rests r → (IsInTree r → ⊥) → r ≡ NoNode
 none_there r (inl none) not_in = none
 none_there r (inr free) not_in = absurd (not_in (subst IsInTree (sym free) tt))
+
+second_in : (o : Option LeafRange) (l : LeafRange) → o ≡ Some l → In l (option_to_list o)
+second_in o l is = subst (λ (x : Option LeafRange). In l (option_to_list x)) (sym is) (inl refl)
 
 pub as_many : (g : Geometry) (sectors : ℕ) (p : Plan) (seq : ℕ) (ns : List NewNode)
     (bs : List HeldBucket) → AreNodesFor g sectors p seq ns bs → length ns ≡ length bs
@@ -97,7 +106,7 @@ module _ {C B : Type 0} (cache_facts : C → DiskFacts) (backing_facts : B → D
 module _ {C B : Type 0} (cache_facts : C → DiskFacts) (backing_facts : B → DiskFacts)
     (v : View cache_facts backing_facts) (sp : SpinePart)
     (on : IsSpinePart sp (world cache_facts backing_facts v)) (rest : sp.changing ≡ false)
-    (p : Plan) (free : HaveLeastNumbers sp.spine.leaves p.leaves) (before : ℕ)
+    (p : Plan) (fits : Fits sp.spine p) (before : ℕ)
     (first : FromEach (world cache_facts backing_facts v) (HasBefore before)) where
   pub only_none : (bs : List HeldBucket) (ns : List NewNode)
       → FromEach (world cache_facts backing_facts v) (HasOnly p.leaves ns bs)
@@ -110,12 +119,15 @@ module _ {C B : Type 0} (cache_facts : C → DiskFacts) (backing_facts : B → D
   module _ (g : Geometry) (sectors : ℕ) where
     number_free : (seq : ℕ) (n : NewNode) (b : HeldBucket) → IsNodeFor g sectors p seq n b
         → is_leaf n ≡ true → HasNumber sp.spine.leaves (slot_of p n) → ⊥
-    number_free seq First b node leaf has = free.first.free has
-    number_free seq Second b node leaf has =
+    number_free seq First b node leaf (old, there, same) =
+        two_apart sp.spine.leaves (coming p.leaves) old p.leaves.first
+        fits.leaves_fit.fits.numbers (contains_in sp.spine.leaves old there) (inl refl) same
+    number_free seq Second b node leaf (old, there, same) =
         let comes = node.leaf node.can.0 node.can.1 in
-        let least = subst (λ (o : Option LeafRange). IfSome o (λ (l : LeafRange).
-        IsLeastFree sp.spine.leaves (suc p.leaves.first.number) l.number)) comes.its_range free.second in
-        least.free (subst (HasNumber sp.spine.leaves) (ap number_in comes.its_range) has)
+        two_apart sp.spine.leaves (coming p.leaves) old comes.range
+        fits.leaves_fit.fits.numbers (contains_in sp.spine.leaves old there)
+        (inr (second_in p.leaves.second comes.range comes.its_range))
+        (same ∙ ap number_in comes.its_range)
     number_free seq Parent b node leaf has = absurd (let e : false ≡ true = leaf in cc)
     number_free seq Root b node leaf has = absurd (let e : false ≡ true = leaf in cc)
     number_free seq Behind b node leaf has = absurd (let e : false ≡ true = leaf in cc)
@@ -168,12 +180,13 @@ module _ {C B : Type 0} (cache_facts : C → DiskFacts) (backing_facts : B → D
       leaf_differs seq n First c node less leaf same = absurd (omega (arith, less))
       leaf_differs seq n Second c node less leaf same =
           let comes = node.leaf node.can.0 node.can.1 in
-          let least = subst (λ (o : Option LeafRange). IfSome o (λ (l : LeafRange).
-          IsLeastFree sp.spine.leaves (suc p.leaves.first.number) l.number)) comes.its_range free.second in
-          let more = least.from in
           let number : slot_of p Second ≡ comes.range.number = ap number_in comes.its_range in
           let first : slot_of p n ≡ p.leaves.first.number = ap (slot_of p) (first_rank under n less) in
-          omega (arith, more, number, first, same)
+          two_apart (p.leaves.first ∷ []) (option_to_list p.leaves.second) p.leaves.first comes.range
+          (AllPairs-right HaveTwoNumbers sp.spine.leaves (coming p.leaves)
+          fits.leaves_fit.fits.numbers) (inl refl)
+          (second_in p.leaves.second comes.range comes.its_range)
+          (sym first ∙ sym same ∙ number)
       leaf_differs seq n Parent c node less leaf same = let e : false ≡ true = leaf in absurd (cc)
       leaf_differs seq n Root c node less leaf same = let e : false ≡ true = leaf in absurd (cc)
       leaf_differs seq n Behind c node less leaf same = let e : false ≡ true = leaf in absurd (cc)
@@ -241,10 +254,10 @@ module _ {C B : Type 0} (cache_facts : C → DiskFacts) (backing_facts : B → D
         numbered = may.numbered;
         as_many = as_many sp.spine.geometry sectors p sp.next_seq (nodes_of p) bs may.nodes;
         once = once_by under 0 (nodes_of p) (rising p);
-        to_write = to_write cache_facts backing_facts v sp on may.rest p may.free before first sp.spine.geometry
+        to_write = to_write cache_facts backing_facts v sp on may.rest p may.fits before first sp.spine.geometry
             sectors under sp.next_seq 0 (nodes_of p) bs may.nodes (rising p) are;
         held = are.held;
-        only = only_none cache_facts backing_facts v sp on may.rest p may.free before first bs (nodes_of p);
+        only = only_none cache_facts backing_facts v sp on may.rest p may.fits before first bs (nodes_of p);
         divided = divided sp may.in_hand;
         points = points sp may.in_hand;
         rooms_are = rooms_are sp may.in_hand;

@@ -13,7 +13,7 @@ use Rattle.bc_new_node.specs.bc_held.declared.held.HeldBucket.{HeldBucket}
 use Rattle.bc_new_node.specs.bc_machine.declared.part.SpinePart.{SpinePart}
 use Rattle.bc_new_nodes.proofs.Lists.{drop_next}
 use Rattle.bc_new_nodes.specs.Course.{HaveStoppedAt, counted}
-use Rattle.bc_new_nodes.specs.Nodes.{slot_of}
+use Rattle.bc_planned.specs.Nodes.{slot_of}
 use Rattle.bc_new_nodes.specs.Wrote.{HaveWritten, IsCutBy}
 use Rattle.bc_plan.specs.declared.write.NewNode.{NewNode}
 use Rattle.bc_tree.specs.declared.plan.Plan.{Plan}

@@ -19,7 +19,7 @@ use Rattle.bc_new_nodes.proofs.Lists.{NoneIs}
 use Rattle.bc_new_nodes.proofs.Same.{brings_on, brings_written, comes_on, inner_back, inner_before, leaf_back, leaf_before, node_for_on, none_taken, same_at, same_leaves, slot_same}
 use Rattle.bc_new_nodes.specs.Asked.{IsNodeFor}
 use Rattle.bc_new_nodes.specs.Course.{AreThere, AreToWrite, Differs, GoesApart, HasInnerIn, HasLeafIn, IsThere, SlotsDiffer}
-use Rattle.bc_new_nodes.specs.Nodes.{slot_of}
+use Rattle.bc_planned.specs.Nodes.{slot_of}
 use Rattle.bc_new_nodes.specs.Wrote.{HaveWritten}
 use Rattle.bc_node.specs.Leaf.{Leaf, pending_set}
 use Rattle.bc_plan.specs.Write.{FirstSet, HasNodeWritten}

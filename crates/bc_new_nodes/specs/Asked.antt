@@ -13,11 +13,10 @@ use Rattle.bc_new_node.specs.bc_hand.declared.hand.Hand.{Hand}
 use Rattle.bc_new_node.specs.bc_held.declared.held.HeldBucket.{HeldBucket}
 use Rattle.bc_new_node.specs.bc_machine.World.{Origin}
 use Rattle.bc_new_node.specs.bc_machine.declared.part.SpinePart.{SpinePart}
-use Rattle.bc_new_nodes.specs.Nodes.{nodes_of, range_of}
+use Rattle.bc_planned.specs.Nodes.{nodes_of, range_of}
 use Rattle.bc_node.specs.Leaf.{AreLast, AreLastOfAll, Leaf}
 use Rattle.bc_plan.specs.Write.{CanWrite, FirstSet, HasFirstSet}
 use Rattle.bc_plan.specs.declared.write.NewNode.{NewNode}
-use Rattle.bc_spine.specs.Exchange.{HaveLeastNumbers}
 use Rattle.bc_spine.specs.declared.leaf.LeafRange.{LeafRange}
 use Rattle.bc_tree.specs.Plan.{Fits}
 use Rattle.bc_tree.specs.declared.plan.Plan.{Plan}
@@ -55,9 +54,9 @@ AreNodesFor g sectors p seq (node ∷ nodes) [] = ⊥
 AreNodesFor g sectors p seq (node ∷ nodes) (b ∷ bs) =
     IsNodeFor g sectors p seq node b × AreNodesFor g sectors p (seq + 1) nodes bs
 
--- The tree is in hand and at rest. The plan fits it, its leaves come with numbers that no leaf has,
--- and each of its new nodes can be written to the bucket at its place, with the numbers that the
--- next new nodes get.
+-- The tree is in hand and at rest. The plan fits it, so that its leaves come with numbers that no
+-- leaf has, and each of its new nodes can be written to the bucket at its place, with the numbers
+-- that the next new nodes get.
 pub record MayWriteNodes {C B : Type 0} (h : Hand C B) (sectors : ℕ) (p : Plan)
     (bs : List HeldBucket) : Type 0 where
   pub spine : SpinePart
@@ -65,7 +64,6 @@ pub record MayWriteNodes {C B : Type 0} (h : Hand C B) (sectors : ℕ) (p : Plan
   pub rest : spine.changing ≡ false
   pub fits : Fits spine.spine p
   pub both : HasBoth p
-  pub free : HaveLeastNumbers spine.spine.leaves p.leaves
   pub nodes : AreNodesFor spine.spine.geometry sectors p spine.next_seq (nodes_of p) bs
   pub numbered : spine.next_seq + length bs < 2 ^ 64
 

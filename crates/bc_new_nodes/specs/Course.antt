@@ -20,7 +20,7 @@ use Rattle.bc_new_node.specs.bc_machine.Containers.{Rests}
 use Rattle.bc_new_node.specs.bc_machine.World.{FromEach, Origin}
 use Rattle.bc_new_node.specs.bc_machine.declared.part.SpinePart.{SpinePart}
 use Rattle.bc_new_nodes.specs.Asked.{ChildrenPoint, ComesIn, IsNodeFor}
-use Rattle.bc_new_nodes.specs.Nodes.{is_leaf, nodes_of, slot_of}
+use Rattle.bc_planned.specs.Nodes.{is_leaf, nodes_of, slot_of}
 use Rattle.bc_new_nodes.specs.Wrote.{HaveWritten, IsCutBy}
 use Rattle.bc_node.specs.Leaf.{IsAppended, Leaf, pending_set}
 use Rattle.bc_plan.specs.declared.write.NewNode.{NewNode}

@@ -16,7 +16,7 @@ use Rattle.bc_new_node.specs.bc_held.Held.{IsHeldFor}
 use Rattle.bc_new_node.specs.bc_held.declared.held.HeldBucket.{HeldBucket}
 use Rattle.bc_new_node.specs.bc_machine.World.{FromEach}
 use Rattle.bc_new_node.specs.bc_machine.declared.part.SpinePart.{SpinePart}
-use Rattle.bc_new_nodes.specs.Nodes.{nodes_of, slot_of}
+use Rattle.bc_planned.specs.Nodes.{nodes_of, slot_of}
 use Rattle.bc_plan.specs.Write.{HasNodeWritten}
 use Rattle.bc_plan.specs.declared.write.NewNode.{NewNode}
 use Rattle.bc_tree.specs.LastKeys.{LeafKeys, keys_next}

@@ -9,12 +9,14 @@
 //! that began with a tree at rest knows each new node that there is: they are those that it wrote.
 //! That is what the core asks of the write that names them.
 //!
-//! Read `specs/` in this order: Nodes, Asked, Wrote; then `all`.
+//! Which new nodes a plan brings, and in which order, is said in `bc_planned`. Read `specs/` in this
+//! order: Asked, Wrote; then `all`.
 #![tactic(auto)]
 
 pub mod all;
 mod nodes;
 
 // Passed on, so that a crate above need not list these.
+pub use bc_held_all;
 pub use bc_new_node;
 pub use bc_new_node::{bc_hand, bc_held, bc_machine, bc_place};

@@ -1,6 +1,6 @@
 //! Which new nodes a plan brings, and in which slots leaves come.
 ghost use Rattle.std.specs.Prelude.{◌≡◌, ◌+◌, ◌<◌, ◌++◌, IfSome, length, vec_capacity};
-ghost use Rattle.bc_new_nodes.specs.Nodes.{are_under, comes_behind, is_moved, nodes_of, slot_of, top_is_moved, when};
+ghost use Rattle.bc_planned.specs.Nodes.{are_under, comes_behind, is_moved, nodes_of, slot_of, top_is_moved, when};
 
 use bc_plan::NewNode;
 use bc_tree::{Beside, NodeChange, Plan};

@@ -11,7 +11,7 @@ use Rattle.bc_new_nodes.proofs.Settled.{both_behind, had_before, ready_behind, s
 use Rattle.bc_new_nodes.proofs.Starts.{can_each}
 use Rattle.bc_new_nodes.proofs.Stopped.{same_part}
 use Rattle.bc_new_nodes.specs.Course.{AreThere, HasOnly}
-use Rattle.bc_new_nodes.specs.Nodes.{nodes_of}
+use Rattle.bc_planned.specs.Nodes.{nodes_of}
 use Rattle.bc_new_nodes.specs.Wrote.{HaveNotWritten, HaveWrittenAll, changed}
 use Rattle.bc_tree.specs.Plan.{Fits}
 use Rattle.bc_new_nodes.proofs.all.write_new_nodes.Goals as goal
