@@ -1,5 +1,5 @@
 #!/usr/bin/env bash
-# Tries must-fail edits beside those of the gate, which takes two or three of each crate so that it stays within its time.
+# Tries must-fail edits beside those of the gate, which takes few of each crate so that it stays within its time.
 # They are in bench/further_edits, by crate: CRATE.. names those to try, else all are. In a clone of what is committed.
 set -euo pipefail
 cd "$(dirname "$0")/.."
