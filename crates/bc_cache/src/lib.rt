@@ -15,8 +15,6 @@ mod cache;
 mod error;
 pub mod laws;
 mod slots;
-#[cfg(test)]
-mod tests;
 
 pub use cache::NodeCache;
 pub use error::FetchError;

@@ -27,6 +27,3 @@ pub use text::{ReportText, report_text, tell_pair};
 pub use totals::{Totals, count_sectors};
 pub use verdict::{CheckError, Verdict};
 pub use window::first_aged;
-
-#[cfg(test)]
-mod tests;

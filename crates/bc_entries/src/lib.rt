@@ -22,6 +22,3 @@ mod room;
 pub use error::JournalError;
 pub use journal::Journal;
 pub use read::read_journal;
-
-#[cfg(test)]
-mod tests;

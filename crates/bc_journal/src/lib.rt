@@ -27,6 +27,3 @@ pub use journal::{Journal, JournalEnd};
 pub use place::{Numbers, Place};
 pub use ring::Ring;
 pub use sealed::Sealed;
-
-#[cfg(test)]
-mod tests;

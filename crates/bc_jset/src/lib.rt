@@ -14,6 +14,3 @@ pub use entry::JEntry;
 pub use error::JsetError;
 pub use read::read_entry;
 pub use write::{write_entry, write_entry_with};
-
-#[cfg(test)]
-mod tests;

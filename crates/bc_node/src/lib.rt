@@ -31,6 +31,3 @@ pub use load::{load_sets, word_of};
 pub use pending::Entries;
 pub use read::{in_blocks, read_sets, sectors_of};
 pub use write::write_slice;
-
-#[cfg(test)]
-mod tests;

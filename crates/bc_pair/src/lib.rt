@@ -12,6 +12,4 @@ pub mod pair;
 mod read;
 pub mod records;
 pub mod show;
-#[cfg(test)]
-mod tests;
 mod write;

@@ -9,13 +9,5 @@
 #![tactic(auto)]
 
 pub mod journal;
-#[cfg(test)]
-mod journal_tests;
 pub mod keys;
 pub mod leaf;
-#[cfg(test)]
-mod leaf_tests;
-#[cfg(test)]
-mod random;
-#[cfg(test)]
-mod version_tests;

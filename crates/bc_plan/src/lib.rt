@@ -13,8 +13,6 @@
 #![tactic(auto)]
 
 mod parent;
-#[cfg(test)]
-mod tests;
 mod write;
 
 pub use parent::write_parent;

@@ -12,6 +12,3 @@ pub use error::PrioError;
 pub use read::read_chain;
 pub use set::encode_set;
 pub use write::write_chain;
-
-#[cfg(test)]
-mod tests;

@@ -30,6 +30,3 @@ pub use supers::{Supers, read_supers, refusal};
 pub use uses::{Use, age_of, generation_of, is_live};
 pub use uuids::names_device;
 pub use whole::survey;
-
-#[cfg(test)]
-mod tests;

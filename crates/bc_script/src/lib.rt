@@ -18,7 +18,5 @@ pub mod script;
 mod seen;
 mod simple;
 pub mod summary;
-#[cfg(test)]
-mod tests;
 pub mod trace;
 mod unserved;

@@ -14,8 +14,6 @@ mod fill;
 pub mod laws;
 mod leaf;
 mod parts;
-#[cfg(test)]
-mod tests;
 
 pub use parts::{leaf_parts, leaves_of};
 

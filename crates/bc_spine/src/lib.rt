@@ -14,8 +14,6 @@ mod leaf;
 mod leaves;
 mod numbers;
 mod row;
-#[cfg(test)]
-mod tests;
 
 pub use exchange::Exchange;
 pub use leaf::LeafRange;

@@ -15,5 +15,3 @@ pub(crate) mod mode;
 pub mod show;
 pub mod state;
 pub(crate) mod store;
-#[cfg(test)]
-mod tests;

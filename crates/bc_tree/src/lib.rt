@@ -33,8 +33,6 @@ mod rewrite;
 mod siblings;
 mod spine;
 mod split;
-#[cfg(test)]
-mod tests;
 
 pub use beside::Beside;
 pub use change::NodeChange;

@@ -24,6 +24,3 @@ pub use gather::Gather;
 pub use pointers::{bucket_of, lies_in_data, points_into_data};
 pub use search::walk;
 pub use visit::Visit;
-
-#[cfg(test)]
-mod tests;

@@ -1,5 +1,0 @@
-use Rattle.bc_alloc.specs.Buckets.{AreFor}
-use Rattle.bc_plain.proofs.alloc_tests.lists_beside_plain_lists_with_two_priority_sets.Given as goal
-
-abbrev pub invariant-loop-step : goal.invariant-loop-step
-invariant-loop-step g l = AreFor l.r l.b

@@ -1,0 +1,8 @@
+use Rattle.std.proofs.Common.{arith}
+use Rattle.bc_record_rows.proofs.priorities.FrontDisk.write.Goals as goal
+
+pub write-requires : goal.write-requires
+write-requires c =
+    let on = c.requires.on_disk in
+    let kept = c.if-keeps.ensures in
+    record { on_disk = (on.0, on.1, on.2, omega (arith, kept)) }

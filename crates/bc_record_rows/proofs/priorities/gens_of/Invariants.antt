@@ -1,0 +1,5 @@
+use Rattle.std.proofs.Common.{◌≡◌, length}
+use Rattle.bc_record_rows.proofs.priorities.gens_of.Given as goal
+
+abbrev pub invariant-loop-bucket : goal.invariant-loop-bucket
+invariant-loop-bucket l = length l.gens.records ≡ l.g.nbuckets
