@@ -142,8 +142,8 @@ module _ {C B : Type 0} (cache_facts : C → DiskFacts) (backing_facts : B → D
 
 -- ---- what is in hand, stands
 
-pub one_flight : (o : Option InFlight) (a b : InFlight) → o ≡ Some a → o ≡ Some b → a ≡ b
-one_flight o a b is at = let both : Some a ≡ Some b = sym is ∙ at in cc
+pub one_there : {A : Type 0} (o : Option A) (a b : A) → o ≡ Some a → o ≡ Some b → a ≡ b
+one_there o a b is at = let both : Some a ≡ Some b = sym is ∙ at in cc
 
 some_of : {A : Type 0} (P : A → Type 0) (o : Option A) (a : A) → o ≡ Some a → IfSome o P → P a
 some_of P (Some b) a is h = let e : b ≡ a = cc in subst P e h

@@ -7,6 +7,7 @@ pub mod Reading
 mod Running
 mod Dropping
 mod InHand
+mod Hands
 pub use Rattle.bc_place.proofs as of_bc_place
 pub use Rattle.bc_place.proofs.of_bc_deed
 pub use Rattle.bc_place.proofs.of_bc_hand

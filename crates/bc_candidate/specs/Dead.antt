@@ -8,6 +8,8 @@ use Rattle.bc_flight.specs.Candidates.{first_of, without_first}
 use Rattle.bc_flight.specs.Flight.{InFlight}
 use Rattle.bc_flight.specs.declared.candidate.Candidate.{Candidate}
 use Rattle.bc_flight.specs.declared.candidate.Wanted.TheVariants.{Dead}
+use Rattle.bc_key.specs.Key.{pointer_of}
+use Rattle.bc_key.specs.declared.ptr.Ptr.{Ptr}
 use Rattle.bc_place.specs.Next.{without_pins}
 use Rattle.bc_place.specs.bc_hand.Seats.{Did, View, world}
 use Rattle.bc_place.specs.bc_machine.Containers.{SameRest}
@@ -48,6 +50,21 @@ pub record TookOldest (number : ℕ) (f g : InFlight) : Type 0 where
 abbrev pub HasTaken : Option ℕ → InFlight → InFlight → Type 0
 HasTaken (Some number) f g = TookOldest number f g
 HasTaken None f g = (first_of Dead f.candidates ≡ None) × (g ≡ f)
+
+-- ---- what is left of the buckets
+
+-- the places are let go that the oldest candidate had which was killed
+pub record LeftOldest (f : InFlight) (part new : BucketsPart) : Type 0 where
+  pub oldest : Candidate
+  pub is : first_of Dead f.candidates ≡ Some oldest
+  pub ptr : Ptr
+  pub lies : pointer_of oldest.key ≡ Some ptr
+  pub went : HasLetGo part ptr.offset oldest.key.size new
+
+-- or none was killed, and nothing changed
+abbrev pub HasLeft : Option ℕ → InFlight → (part new : BucketsPart) → Type 0
+HasLeft (Some number) f part new = LeftOldest f part new
+HasLeft None f part new = new ≡ part
 
 -- ---- the step
 

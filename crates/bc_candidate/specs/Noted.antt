@@ -1,5 +1,5 @@
 -- A candidate that a seat notes: what the seat has to know of its place, and what it knows then.
-use Rattle.std.specs.Prelude.{◌⊎◌, ℕ, ◌-◌, ◌^◌, ◌≤◌, length, Option, Some, None}
+use Rattle.std.specs.Prelude.{◌≡◌, ◌⊎◌, ℕ, ◌+◌, ◌-◌, ◌^◌, ◌≤◌, false, [], ◌∷◌, ◌++◌, length, Option, Some, None}
 use Rattle.bc_bucket.specs.Buckets.{Buckets}
 use Rattle.bc_data.specs.Enabled.{MayKeep, Points}
 use Rattle.bc_disk.specs.Disk.{DiskFacts}
@@ -7,11 +7,14 @@ use Rattle.bc_events.specs.Run.{State}
 use Rattle.bc_events.specs.declared.event.Deed.TheVariants as deed
 use Rattle.bc_fill.specs.declared.fill.Placed.{Placed}
 use Rattle.bc_flight.specs.Flight.{InFlight}
+use Rattle.bc_key.specs.Key.{pointer_of}
+use Rattle.bc_key.specs.declared.key.Key.{Key}
 use Rattle.bc_model.specs.Sector.{Value}
 use Rattle.bc_node.specs.Leaf.{Leaf}
 use Rattle.bc_place.specs.Place.{IsOwn}
 use Rattle.bc_place.specs.Written.{AreApart, HasWritten, KeepsOpening, KeepsPlaces, not_in}
 use Rattle.bc_place.specs.bc_hand.Seats.{Did, View, world}
+use Rattle.bc_place.specs.bc_hand.declared.hand.Hand.{Hand}
 use Rattle.bc_place.specs.bc_machine.World.{FromEach, IsFlight, Origin, World}
 use Rattle.bc_sight.specs.Sight.{Knows, OfClaim}
 
@@ -27,6 +30,42 @@ pub record IsFull (x : World) : Type 0 where
   pub flight : InFlight
   pub stands : IsFlight flight x
   pub full : (64 ≤ length flight.candidates) ⊎ (2 ^ 64 - 1 ≤ flight.next)
+
+-- ---- the claims and candidates
+
+-- The key of its sectors, which are as many from `first` on as the place has. It is clean, with no
+-- checksum, and its one pointer is the place's, with the generation that the place's bucket has.
+pub record IsKeyFor (first : ℕ) (place : Placed) (key : Key) : Type 0 where
+  pub inode : key.inode ≡ 0
+  pub end : key.end ≡ first + place.count
+  pub size : key.size ≡ place.count
+  pub clean : key.dirty ≡ false
+  pub no_csum : key.csum ≡ 0
+  pub one : key.count ≡ 1
+  pub pointer : pointer_of key ≡ Some place.ptr
+
+-- A candidate of the next number with such a key stands behind the others, alive, and nothing else
+-- changed.
+pub record AddsCandidate (number first : ℕ) (place : Placed) (f g : InFlight) : Type 0 where
+  pub number_is : number ≡ f.next
+  pub key : Key
+  pub its_key : IsKeyFor first place key
+  pub candidates : g.candidates
+      ≡ f.candidates ++ record { number = number; key = key; killed = false } ∷ []
+  pub next : g.next ≡ f.next + 1
+  pub claims : g.claims ≡ f.claims
+  pub seats : g.seats ≡ f.seats
+
+abbrev pub HasAdded : Option ℕ → (first : ℕ) → Placed → InFlight → InFlight → Type 0
+HasAdded (Some number) first place f g = AddsCandidate number first place f g
+HasAdded None first place f g = g ≡ f
+
+-- Claims and candidates that were in hand are there still, and those that come out are tied so to
+-- those that went in.
+abbrev pub TiesFlight : {C B : Type 0} → (old new : Hand C B) → (InFlight → InFlight → Type 0)
+    → Type 0
+TiesFlight old new tie = (f : InFlight) → old.flight ≡ Some f
+    → (g : InFlight) × (new.flight ≡ Some g) × tie f g
 
 module _ {C B : Type 0} (cache_facts : C → DiskFacts) (backing_facts : B → DiskFacts) where
   -- The seat knows no less of what may be noted, and of what it saw and read under its claim.

@@ -1,6 +1,6 @@
 //! The step that lets the place of a killed candidate go.
 ghost use Rattle.std.specs.Prelude.{◌≡◌, ◌+◌, ◌<◌, ◌^◌, ◌==◌, ◌||◌, ℕ, false, Some};
-ghost use Rattle.bc_candidate.specs.Dead.{HasDropped, HasLetGo, HasTaken, place_let_go, run_let_go};
+ghost use Rattle.bc_candidate.specs.Dead.{HasDropped, HasLeft, HasLetGo, HasTaken, place_let_go, run_let_go};
 ghost use Rattle.bc_flight.specs.Candidates.{first_of};
 ghost use Rattle.bc_flight.specs.Flight.{InFlight};
 ghost use Rattle.bc_flight.specs.declared.candidate.Wanted.{Wanted};
@@ -23,7 +23,7 @@ use std::sync::Wait;
 
 /// Lets the place go of the oldest candidate that was killed, also after a halt, and answers its
 /// number. Claims and buckets are in hand. Nobody writes or names the place any more until its
-/// bucket is used anew. Takes no memory.
+/// bucket is used anew. Of the buckets only the pins of that place change. Takes no memory.
 ///
 /// `None` says that no candidate stands that was killed; then nothing is done.
 pub fn drop_dead<C: Disk + Drop, B: Disk + Drop, R: Wait>(
@@ -40,7 +40,9 @@ pub fn drop_dead<C: Disk + Drop, B: Disk + Drop, R: Wait>(
     ensures works { Works C.facts B.facts parts.now seat.new hand.new }
     ensures flight { (flight : InFlight) → hand.old.flight ≡ Some flight
         → (left : InFlight) × (hand.new.flight ≡ Some left) × HasTaken result flight left }
-    ensures buckets { (part : PartSeen) × (hand.new.buckets ≡ Some part) }
+    ensures buckets { (flight : InFlight) → hand.old.flight ≡ Some flight
+        → (part : PartSeen) → hand.old.buckets ≡ Some part
+        → (left : PartSeen) × (hand.new.buckets ≡ Some left) × HasLeft result flight part left }
     ensures rest { hand.new
         ≡ record hand.old { flight = hand.new.flight; buckets = hand.new.buckets } }
     ensures done { HasDropped C.facts B.facts result seat.old seat.new }
@@ -77,6 +79,7 @@ fn dead_in<C: Disk, B: Disk, R: Wait>(
     ensures flight { IsFlight flight.new (world C.facts B.facts seat.new) }
     ensures buckets { AreBuckets part.new (world C.facts B.facts seat.new) }
     ensures took { HasTaken result flight.old flight.new }
+    ensures left { HasLeft result flight.old part.old part.new }
     ensures done { HasDropped C.facts B.facts result seat.old seat.new }
 {
     let Some(dead) = first_dead(flight.candidates()) else {

@@ -15,6 +15,7 @@
 
 pub mod dead;
 pub mod laws;
+mod lent;
 pub mod note;
 
 // Passed on, so that a crate above need not list these.

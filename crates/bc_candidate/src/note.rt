@@ -1,6 +1,6 @@
 //! The step that notes a candidate.
 ghost use Rattle.std.specs.Prelude.{◌≡◌, ◌+◌, ◌<◌, ◌≤◌, ◌^◌, ◌==◌, ℕ, false, None, OnErr, IfOk, IfErr};
-ghost use Rattle.bc_candidate.specs.Noted.{HasNotedOr, IsKeepable, KeepsAll};
+ghost use Rattle.bc_candidate.specs.Noted.{HasAdded, HasNotedOr, IsKeepable, KeepsAll, TiesFlight};
 ghost use Rattle.bc_parts.specs.Seat.{Holds};
 ghost use Rattle.bc_place.specs.Place.{IsOwn};
 ghost use Rattle.bc_place.specs.bc_deed.Asked.{IsHalted};
@@ -8,6 +8,7 @@ ghost use Rattle.bc_place.specs.bc_hand.Seats.{core, world, kinds, IsCoreSeat, W
 ghost use Rattle.bc_place.specs.bc_machine.World.{FromEach, IsFlight, are_plain};
 ghost use Rattle.bc_seats.specs.Seats.{Kept};
 
+use crate::lent::lend_flight;
 use bc_disk::disk::Disk;
 use bc_events::event::Deed;
 use bc_fill::Placed;
@@ -15,14 +16,14 @@ use bc_flight::candidate::MOST;
 use bc_flight::flight::Flight;
 use bc_key::Key;
 use bc_place::bc_hand::error::StepError;
-use bc_place::bc_hand::hand::{Hand, borrow_flight, return_flight};
+use bc_place::bc_hand::hand::{Hand, return_flight};
 use bc_place::bc_hand::seat::commit;
 use bc_place::bc_machine::machine::{CoreParts, CoreSeat};
 use std::sync::Wait;
 
 /// Notes that a place of the seat has what its claim's sectors from `first` on show, as many as the
-/// place has, and answers the candidate's number. The place is the seat's no more then. Takes no
-/// memory.
+/// place has, and answers the candidate's number. The place is the seat's no more then. The
+/// candidate's key is clean, and its pointer is the place's. Takes no memory.
 ///
 /// `None` says that as many candidates stand as can, or that there is no number left; then nothing
 /// is done, and the place is still the seat's. So it is where `Halted` names the device that halted
@@ -49,6 +50,9 @@ pub fn note_candidate<C: Disk + Drop, B: Disk + Drop, R: Wait>(
     ensures rest { hand.new ≡ record hand.old { flight = hand.new.flight } }
     ensures ok { IfOk result (λ number. HasNotedOr C.facts B.facts number first place seat.old
         seat.new) }
+    ensures flight { IfOk result (λ number. TiesFlight hand.old hand.new
+        (HasAdded number first place)) }
+    ensures same { OnErr result (hand.new ≡ hand.old) }
     ensures err { IfErr result (λ error. IsHalted error seat.new.seen
         × Did C.facts B.facts None seat.old seat.new) }
     ensures keeps { OnErr result (KeepsAll C.facts B.facts seat.old seat.new) }
@@ -56,7 +60,7 @@ pub fn note_candidate<C: Disk + Drop, B: Disk + Drop, R: Wait>(
     if let Some(device) = seat.heard() {
         return Err(StepError::Halted(device));
     }
-    let (mut flight, taken) = borrow_flight(rt, parts, seat, hand);
+    let (mut flight, taken) = lend_flight(rt, parts, seat, hand);
     let done = note_in(rt, parts, seat, &mut flight, first, place);
     return_flight(parts, seat, hand, flight, taken);
     done
@@ -87,6 +91,8 @@ fn note_in<C: Disk, B: Disk, R: Wait>(
     ensures flight { IsFlight flight.new (world C.facts B.facts seat.new) }
     ensures ok { IfOk result (λ number. HasNotedOr C.facts B.facts number first place seat.old
         seat.new) }
+    ensures added { IfOk result (λ number. HasAdded number first place flight.old flight.new) }
+    ensures same { OnErr result (flight.new ≡ flight.old) }
     ensures err { IfErr result (λ error. IsHalted error seat.new.seen
         × Did C.facts B.facts None seat.old seat.new) }
     ensures keeps { OnErr result (KeepsAll C.facts B.facts seat.old seat.new) }

@@ -1,8 +1,9 @@
 -- One leaf, from an empty hand to an empty one.
-use Rattle.std.proofs.Common.{◌≡◌, inl, inr, ℕ, ◌<◌, Bool, true, false, List, [], ◌∷◌, Option, Some, None, sym, ap, ◌∙◌, arith}
+use Rattle.std.proofs.Common.{◌≡◌, inl, inr, ℕ, ◌<◌, Bool, true, false, List, [], ◌∷◌, Option, Some, None, refl, sym, ap, ◌∙◌, subst, arith}
 use Rattle.std.specs.Prelude.{◌↔◌, IfOk, IsTrue, Result, Ok, Err}
 use Rattle.std.proofs.lemmas.List.Elements.{All-cons, All-nil}
 use Rattle.bc_disk.specs.Disk.{DiskFacts}
+use Rattle.bc_disk.specs.declared.disk.Device.{Device}
 use Rattle.bc_events.specs.declared.event.Event.{Event}
 use Rattle.bc_flush.specs.bc_fetch.Fetch.{HasLeafFor, HasReadOne, HasStoppedAt, node_read}
 use Rattle.bc_flush.specs.bc_fetch.declared.error.LeafError.{LeafError}
@@ -16,14 +17,31 @@ use Rattle.bc_leaf_walk.specs.bc_hand.declared.hand.Hand.{Hand}
 use Rattle.bc_leaf_walk.specs.bc_machine.declared.part.BucketsPart.{BucketsPart}
 use Rattle.bc_leaf_walk.specs.bc_machine.declared.part.CorePart.{CorePart}
 use Rattle.bc_parts.specs.Seat.{PartsView}
-use Rattle.bc_trace.specs.Trace.{HadLeafElsewhere, HasGone, HasStopped, IsOfTrace}
+use Rattle.bc_trace.specs.Trace.{HadLeafElsewhere, HasGone, HasStopped, IsHaltOrMemory, IsMissed, IsOfTrace}
 use Rattle.bc_trace.specs.declared.error.TraceError.TheVariants as error
 use Rattle.bc_trace.proofs.Going.{gone_none, stopped_here}
 
-pub halted_or : (e : StepError) (es : List Event) → IsHalted e es → IsHaltedOr e es
+halted_or : (e : StepError) (es : List Event) → IsHalted e es → IsHaltedOr e es
 halted_or (steps.Fault device) es h = h
 halted_or (steps.Halted device) es h = h
 halted_or steps.Memory es h = absurd h
+
+-- memory is missed only where no halt was heard
+missed_halt : (r : StepError) (o : Option Device) (es : List Event) → IsMissed o es r
+    → IsHaltedOr r es
+missed_halt r None es is = subst (λ e. IsHaltedOr e es) (sym is) tt
+missed_halt r (Some device) es is = subst (λ e. IsHaltedOr e es) (sym is.0) is.1
+
+missed_none : (r : StepError) (o : Option Device) (es : List Event) → IsMissed o es r
+    → r ≡ steps.Memory → o ≡ None
+missed_none r None es is memory = refl
+missed_none r (Some device) es is memory =
+    let both : steps.Halted device ≡ steps.Memory = sym is.0 ∙ memory in absurd (cc)
+
+halted_else : (e : StepError) (es : List Event) → IsHalted e es → e ≡ steps.Memory → ⊥
+halted_else (steps.Fault device) es h is = cc
+halted_else (steps.Halted device) es h is = cc
+halted_else steps.Memory es h is = absurd h
 
 -- a test that says no
 pub no_test : (b : Bool) (P : Type 0) → IsTrue b ↔ P → b ≡ false → ¬ P
@@ -127,6 +145,19 @@ module _ {C B : Type 0} where
       ∙ ap (λ (h : Hand C B). record h { leaves = None }) (same ∙ has.rest)
 
 module _ {C B : Type 0} (cache_facts : C → DiskFacts) (backing_facts : B → DiskFacts) where
+  -- what was refused was refused for that
+  pub missed_it : (r : StepError) (w : View cache_facts backing_facts) → IsMissed w.heard w.seen r
+      → IsHaltOrMemory cache_facts backing_facts r w
+  missed_it r w is =
+      record { halt = missed_halt r w.heard w.seen is; memory = missed_none r w.heard w.seen is }
+
+  pub halted_it : (e : StepError) (w : View cache_facts backing_facts) → IsHalted e w.seen
+      → IsHaltOrMemory cache_facts backing_facts e w
+  halted_it e w h = record {
+    halt = halted_or e w.seen h;
+    memory = λ is. absurd (halted_else e w.seen h is);
+  }
+
   -- a node was read, or none
   pub gone_read : (v w : View cache_facts backing_facts)
       → HasReadOne cache_facts backing_facts v w → HasGone cache_facts backing_facts v w

@@ -1,8 +1,11 @@
 -- What a seat has done that made a full trace, and where it came no further.
-use Rattle.std.specs.Prelude.{◌≡◌, ◌⊎◌, ℕ, ◌≤◌, true, false, List, [], ◌∷◌, ◌++◌, All, Some, None}
+use Rattle.std.specs.Prelude.{◌≡◌, ◌⊎◌, ℕ, ◌≤◌, true, false, List, [], ◌∷◌, ◌++◌, All, Option, Some, None}
 use Rattle.bc_disk.specs.Disk.{DiskFacts}
+use Rattle.bc_disk.specs.declared.disk.Device.{Device}
+use Rattle.bc_events.specs.Columns.{halt_of}
 use Rattle.bc_events.specs.declared.event.Deed.{Deed}
 use Rattle.bc_events.specs.declared.event.Deed.TheVariants as deed
+use Rattle.bc_events.specs.declared.event.Event.{Event}
 use Rattle.bc_events.specs.declared.event.Failure.TheVariants as failure
 use Rattle.bc_events.specs.declared.event.MarkForm.TheVariants as mark
 use Rattle.bc_events.specs.declared.event.Written.TheVariants as written
@@ -14,6 +17,8 @@ use Rattle.bc_leaf_walk.specs.Steps.{ComesNext, HasLeafAndBuckets}
 use Rattle.bc_leaf_walk.specs.bc_deed.Asked.{IsHaltedOr, size_of}
 use Rattle.bc_leaf_walk.specs.bc_deed.Flushed.{HasDone}
 use Rattle.bc_leaf_walk.specs.bc_hand.Seats.{Kinds, StandIn, View, world}
+use Rattle.bc_leaf_walk.specs.bc_hand.declared.error.StepError.{StepError}
+use Rattle.bc_leaf_walk.specs.bc_hand.declared.error.StepError.TheVariants as steps
 use Rattle.bc_leaf_walk.specs.bc_hand.declared.hand.Hand.{Hand}
 use Rattle.bc_journal.specs.Journal.{Journal}
 use Rattle.bc_leaf_walk.specs.bc_machine.World.{AreBuckets}
@@ -63,7 +68,21 @@ IsOfTrace (deed.DeviceFault (failure.Barrier device)) = Unit {0}
 IsOfTrace (deed.DeviceFault (failure.CacheWrite at written.Entry values)) = Unit {0}
 IsOfTrace d = ⊥
 
+-- ---- want of memory
+
+-- What a seat answers that missed memory, has seen these events and has heard of this halt, or of none:
+-- a halt comes first.
+abbrev pub IsMissed : (heard : Option Device) → (seen : List Event) → StepError → Type 0
+IsMissed None seen answer = answer ≡ steps.Memory
+IsMissed (Some device) seen answer =
+    (answer ≡ steps.Halted device) × (halt_of seen ≡ Some device)
+
 module _ {C B : Type 0} (cache_facts : C → DiskFacts) (backing_facts : B → DiskFacts) where
+  -- a device had halted the run; or memory lacked, and the seat had heard of no halt
+  pub record IsHaltOrMemory (e : StepError) (w : View cache_facts backing_facts) : Type 0 where
+    pub halt : IsHaltedOr e w.seen
+    pub memory : e ≡ steps.Memory → w.heard ≡ None
+
   -- some deeds of a trace before its end
   pub record HasGone (v w : View cache_facts backing_facts) : Type 0 where
     pub deeds : List Deed
@@ -121,7 +140,7 @@ module _ {C B : Type 0} (cache_facts : C → DiskFacts) (backing_facts : B → D
       → View cache_facts backing_facts → Type 0
   IsCause sectors error.Open v w = HadRound w × HasGone v w
   IsCause sectors error.Moved v w = (HadLeafElsewhere w ⊎ HadSectorsLeft w) × HasGone v w
-  IsCause sectors (error.Step e) v w = IsHaltedOr e w.seen × HasGone v w
+  IsCause sectors (error.Step e) v w = IsHaltOrMemory e w × HasGone v w
   IsCause sectors (error.Leaf e) v w = HadNoLeaf e v w
   IsCause sectors (error.Journal e) v w = HadNoEntry sectors e v w
 

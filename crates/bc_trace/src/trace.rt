@@ -7,15 +7,15 @@ ghost use Rattle.bc_leaf_walk.specs.bc_hand.Seats.{Works, empty, kinds, world};
 ghost use Rattle.bc_leaf_walk.specs.bc_machine.World.{FromEach, are_plain, cache_among};
 ghost use Rattle.bc_leaf_walk.specs.bc_machine.declared.part.BucketsPart.{BucketsPart};
 ghost use Rattle.bc_leaf_walk.specs.bc_place.Place.{HasBefore};
+ghost use Rattle.bc_leaf_walk.specs.bc_place.Written.{KeepsPlaces};
 ghost use Rattle.bc_trace.specs.Trace.{GivesUp, HasGone, HasNotTraced, HasStopped, HasTraced, buckets_and_journal};
 
-use crate::error::TraceError;
+use crate::error::{TraceError, missed};
 use crate::hands::{give_buckets, give_journal, take_buckets, take_journal};
 use crate::settle::settle;
 use crate::walk::all_leaves;
 use bc_disk::disk::Disk;
 use bc_leaf_walk::bc_deed::promise::promise;
-use bc_leaf_walk::bc_hand::error::StepError;
 use bc_leaf_walk::bc_hand::hand::{Hand, borrow_backing, return_backing};
 use bc_leaf_walk::bc_machine::machine::{CoreParts, CoreSeat};
 use bc_leaf_walk::bc_mark::round::{begin_round, drop_round, end_round};
@@ -109,7 +109,7 @@ fn begin<C: Disk + Drop, B: Disk + Drop, R: Wait>(
     let mut hand = Hand::empty();
     let hand = &mut hand;
     let Ok(()) = promise(rt, parts, seat, hand, 1) else {
-        return Err(TraceError::Step(StepError::Memory));
+        return Err(TraceError::Step(missed(seat)));
     };
     take_buckets(rt, parts, seat, hand);
     let done = begin_it(rt, parts, seat, hand);
@@ -172,7 +172,7 @@ fn end<C: Disk + Drop, B: Disk + Drop, R: Wait>(
     let mut hand = Hand::empty();
     let hand = &mut hand;
     let Ok(()) = promise(rt, parts, seat, hand, 6) else {
-        return Err(TraceError::Step(StepError::Memory));
+        return Err(TraceError::Step(missed(seat)));
     };
     take_buckets(rt, parts, seat, hand);
     take_journal(rt, parts, seat, hand);
@@ -267,7 +267,8 @@ fn go_on<C: Disk + Drop, B: Disk + Drop, R: Wait, G: Gate>(
 /// memory kept that out. `Open` says that another seat's round is open, and nothing was done.
 /// `Moved` comes where another seat has gone on with the round or has put leaves together across
 /// the sector that it had come to. `Step` names the device that had halted the run, or is want of
-/// memory; `Leaf` and `Journal` are refusals of a leaf's way into memory, and of an entry.
+/// memory, where the seat hadn't heard of a halt; `Leaf` and `Journal` are refusals of a leaf's way
+/// into memory, and of an entry. Whatever comes, the seat knows of its places what it knew.
 pub fn full_trace<C: Disk + Drop, B: Disk + Drop, R: Wait, G: Gate>(
     rt: &R,
     alloc: Global,
@@ -282,6 +283,7 @@ pub fn full_trace<C: Disk + Drop, B: Disk + Drop, R: Wait, G: Gate>(
     requires before { FromEach (world C.facts B.facts seat.old) (HasBefore before) }
     ensures works { Works C.facts B.facts parts.now seat.new empty }
     ensures left { seat.old.promises ≤ seat.new.promises }
+    ensures keeps { KeepsPlaces C.facts B.facts seat.old seat.new }
     ensures ok { OnOk result (HasTraced C.facts B.facts seat.old seat.new) }
     ensures err { IfErr result (λ error. HasNotTraced C.facts B.facts
         (cache_among C.facts B.facts parts.now.run.start).sectors error seat.old seat.new) }

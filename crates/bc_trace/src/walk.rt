@@ -7,12 +7,11 @@ ghost use Rattle.bc_leaf_walk.specs.bc_machine.declared.part.BucketsPart.{Bucket
 ghost use Rattle.bc_leaf_walk.specs.bc_place.Place.{HasBefore};
 ghost use Rattle.bc_trace.specs.Trace.{HasGone, HasStopped};
 
-use crate::error::TraceError;
+use crate::error::{TraceError, missed};
 use crate::hands::{give_buckets, take_buckets};
 use bc_disk::disk::Disk;
 use bc_flush::bc_fetch::leaf::{give_leaves, leaf_at};
 use bc_leaf_walk::bc_deed::promise::promise;
-use bc_leaf_walk::bc_hand::error::StepError;
 use bc_leaf_walk::bc_hand::hand::Hand;
 use bc_leaf_walk::bc_machine::machine::{CoreParts, CoreSeat};
 use bc_leaf_walk::bc_machine::part::LEAVES;
@@ -160,7 +159,7 @@ fn next_leaf<C: Disk + Drop, B: Disk + Drop, R: Wait, G: Gate>(
     let mut hand = Hand::empty();
     let hand = &mut hand;
     let Ok(()) = promise(rt, parts, seat, hand, 2) else {
-        return Err(TraceError::Step(StepError::Memory));
+        return Err(TraceError::Step(missed(seat)));
     };
     next_in(rt, alloc, parts, seat, hand, before, first, gate)
 }

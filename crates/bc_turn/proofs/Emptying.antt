@@ -9,7 +9,7 @@ use Rattle.bc_append.proofs.Held.{one_some}
 use Rattle.bc_append.proofs.of_bc_hand.Knowing.{View}
 use Rattle.bc_append.proofs.of_bc_place.of_bc_deed.May.{did_nothing}
 use Rattle.bc_append.proofs.of_bc_place.of_bc_deed.Sequence.{done_both, done_one}
-use Rattle.bc_append.specs.Append.{HasAppended, HasFailedToAppend, append_by, lost_by}
+use Rattle.bc_append.specs.Append.{BeginWithSet, HasAppended, HasFailedToAppend, HasLeafIn, append_by, lost_by}
 use Rattle.bc_append.specs.bc_hand.Seats.{Did, IsCoreSeat, Kinds, Works, kinds, part_of, world}
 use Rattle.bc_append.specs.bc_hand.declared.error.StepError.{StepError}
 use Rattle.bc_append.specs.bc_hand.declared.error.StepError.TheVariants as error
@@ -24,14 +24,20 @@ use Rattle.bc_events.specs.declared.event.Deed.{Deed}
 use Rattle.bc_fetch.proofs.Fetching.{in_hand, leaf_count}
 use Rattle.bc_fetch.specs.Fetch.{HasPart}
 use Rattle.bc_fetch.specs.bc_deed.Flushed.{HasDone}
+use Rattle.bc_append.proofs.of_bc_place.Keeping.{keeps_both}
+use Rattle.bc_append.specs.bc_place.Written.{KeepsPlaces}
+use Rattle.bc_disk.specs.declared.geometry.Geometry.{Geometry}
+use Rattle.bc_node.specs.Leaf.{Leaf}
 use Rattle.bc_node.specs.declared.pending.Entries.{Entries}
 use Rattle.bc_parts.specs.Seat.{PartsView}
 use Rattle.bc_turn.specs.declared.error.Why.{Why}
 use Rattle.bc_turn.specs.Empty.{IsLeft}
 use Rattle.bc_turn.specs.Laws.{WaitsFrom}
 use Rattle.bc_turn.specs.Need.{IsToCome, PartNeedsFrom}
-use Rattle.bc_turn.specs.Part.{HasFailed, HasWrittenSets, IsDueIn, IsLeftIn, WaitsInSlot, WritesSet}
+use Rattle.bc_turn.specs.Part.{HasFailed, HasWrittenSets, IsDueIn, IsLeftIn, IsOfDue, WaitsInSlot}
 use Rattle.bc_turn.proofs.Known.{law_known}
+use Rattle.bc_turn.proofs.Leaving.{same_leaf}
+use Rattle.bc_turn.proofs.Still.{keeps_nothing}
 use Rattle.bc_turn.proofs.Told.{law_told}
 
 -- ---- slots
@@ -77,30 +83,35 @@ module _ {C B : Type 0} (cache_facts : C → DiskFacts) (backing_facts : B → D
       ∙ ap (λ o. record h { leaves = k.leaves; cache = o }) (no_some k.cache
       (ap (λ (z : Kinds). z.cache) alike ∙ ap is_some none) ∙ sym none)
 
+module _ {C B : Type 0} (cache_facts : C → DiskFacts) (backing_facts : B → DiskFacts)
+    (p : PartsView (CorePart C B)) (low : ℕ) where
   -- no deed at all
   pub no_sets : (v w : View cache_facts backing_facts) → HasDone cache_facts backing_facts [] v w
-      → HasWrittenSets cache_facts backing_facts v w
+      → HasWrittenSets cache_facts backing_facts p low v w
   no_sets v w done = record { deeds = []; each = λ k d few. absurd (omega (arith, few)); done = done }
 
   -- the seat as it begins
   pub start_sets : (v : View cache_facts backing_facts) → IsCoreSeat cache_facts backing_facts v
-      → HasWrittenSets cache_facts backing_facts v v
+      → HasWrittenSets cache_facts backing_facts p low v v
   start_sets v seat = no_sets v v (done_one cache_facts backing_facts None v v
       (did_nothing cache_facts backing_facts v seat))
 
-  pub more_sets : (u v w : View cache_facts backing_facts) (d : Deed) → WritesSet d
-      → HasWrittenSets cache_facts backing_facts u v → Did cache_facts backing_facts (Some d) v w
-      → HasWrittenSets cache_facts backing_facts u w
+  pub more_sets : (u v w : View cache_facts backing_facts) (d : Deed)
+      → IsOfDue cache_facts backing_facts p low append_by u d
+      → HasWrittenSets cache_facts backing_facts p low u v
+      → Did cache_facts backing_facts (Some d) v w
+      → HasWrittenSets cache_facts backing_facts p low u w
   more_sets u v w d is sets did = record {
     deeds = sets.deeds ++ d ∷ [];
-    each = All-push WritesSet sets.deeds d sets.each is;
+    each = All-push (IsOfDue cache_facts backing_facts p low append_by u) sets.deeds d sets.each is;
     done = done_both cache_facts backing_facts sets.deeds (d ∷ []) u v w sets.done
         (done_one cache_facts backing_facts (Some d) v w did);
   }
 
   pub then_nothing : (u v w : View cache_facts backing_facts)
-      → HasWrittenSets cache_facts backing_facts u v → HasDone cache_facts backing_facts [] v w
-      → HasWrittenSets cache_facts backing_facts u w
+      → HasWrittenSets cache_facts backing_facts p low u v
+      → HasDone cache_facts backing_facts [] v w
+      → HasWrittenSets cache_facts backing_facts p low u w
   then_nothing u v w sets done = record {
     deeds = sets.deeds;
     each = sets.each;
@@ -109,6 +120,37 @@ module _ {C B : Type 0} (cache_facts : C → DiskFacts) (backing_facts : B → D
         (done_both cache_facts backing_facts sets.deeds [] u v w sets.done done);
   }
 
+  -- a deed of a leaf that was due, by way of some deeds
+  pub of_due : (by : Geometry → ℕ → Leaf → List ℕ → Deed) (slot number : ℕ) (bytes : List ℕ)
+      (d : Deed) (u v : View cache_facts backing_facts) (h : Hand C B)
+      → HasWrittenSets cache_facts backing_facts p low u v
+      → Works cache_facts backing_facts p v h
+      → (due : IsDueIn h (length p.run.start) low slot number)
+      → (at : (i : ℕ) × HasLeafIn h i number)
+      → BeginWithSet at.1.leaves.cache.geometry at.1.cached.leaf bytes
+      → d ≡ by at.1.leaves.cache.geometry number at.1.cached.leaf bytes
+      → IsOfDue cache_facts backing_facts p low by u d
+  of_due by slot number bytes d u v h sets works due at set is =
+      let same = same_leaf h at.0 slot number at.1 due.pending.own.at due.only in
+      record {
+        before = sets.deeds;
+        at = v;
+        went = sets.done;
+        hand = h;
+        works = works;
+        slot = slot;
+        number = number;
+        due = due;
+        bytes = bytes;
+        set = subst (λ (g : Geometry). BeginWithSet g due.pending.own.at.cached.leaf bytes)
+            same.geometry
+            (subst (λ (l : Leaf). BeginWithSet at.1.leaves.cache.geometry l bytes) same.leaf set);
+        is = is ∙ ap (λ (g : Geometry). by g number at.1.cached.leaf bytes) same.geometry
+            ∙ ap (λ (l : Leaf). by due.pending.own.at.leaves.cache.geometry number l bytes)
+            same.leaf;
+      }
+
+module _ {C B : Type 0} (cache_facts : C → DiskFacts) (backing_facts : B → DiskFacts) where
   -- The slots below one wait for no entry below `low`.
   pub record IsEmptiedTo (p : PartsView (CorePart C B)) (part count low slots slot : ℕ)
       (v : View cache_facts backing_facts) (a : Hand C B) (w : View cache_facts backing_facts)
@@ -120,8 +162,9 @@ module _ {C B : Type 0} (cache_facts : C → DiskFacts) (backing_facts : B → D
     pub rest : h ≡ record a { leaves = h.leaves }
     pub many : length leaves.cache.slots ≡ slots
     pub come : FromEach (world cache_facts backing_facts w) (IsToCome low)
-    pub promises : v.promises ≤ w.promises
-    pub sets : HasWrittenSets cache_facts backing_facts v w
+    pub promises : w.promises ≡ v.promises
+    pub keeps : KeepsPlaces cache_facts backing_facts v w
+    pub sets : HasWrittenSets cache_facts backing_facts p low v w
     pub clean : (j : ℕ) → j < slot
         → WaitsInSlot count (part - 6) low (slice_get leaves.cache.slots j)
 
@@ -165,23 +208,41 @@ module _ {C B : Type 0} (cache_facts : C → DiskFacts) (backing_facts : B → D
         left_come = (law_known cache_facts backing_facts).come x y [] low nothing
             ((law_known cache_facts backing_facts).come w x [] low promised to.come)
 
-        pub left_sets : HasWrittenSets cache_facts backing_facts v y
-        left_sets = then_nothing v x y (then_nothing v w x to.sets promised) nothing
+        pub left_sets : HasWrittenSets cache_facts backing_facts p low v y
+        left_sets = then_nothing cache_facts backing_facts p low v x y
+            (then_nothing cache_facts backing_facts p low v w x to.sets promised) nothing
 
-        pub left_in : IsLeftIn l sectors parts low (record { leaf = number; why = why })
-        left_in = subst (λ z. IsLeftIn z sectors parts low (record { leaf = number; why = why }))
+        pub left_in : IsLeftIn l (world cache_facts backing_facts y) sectors parts low
+            (record { leaf = number; why = why })
+        left_in = subst (λ z. IsLeftIn z (world cache_facts backing_facts y) sectors parts low
+            (record { leaf = number; why = why }))
             (sym left.same) (record {
               slot = slot;
               pending = is.pending;
               below = is.below;
               cause = left.cause;
+              told = left.told;
             })
+
+        pub left_promises : y.promises ≡ x.promises
+        left_promises = left.did.is.promises
 
     -- its set wasn't written
     module _ (slot number : ℕ) (e : StepError) (w x y : View cache_facts backing_facts)
         (h k l : Hand C B) (to : To slot w h) (same : k ≡ h)
         (promised : HasDone cache_facts backing_facts [] w x)
         (failed : HasFailedToAppend cache_facts backing_facts e number k l x y) where
+      -- it took no more room than was promised
+      pub failed_promises : y.promises ≤ x.promises
+      failed_promises = go e failed
+        where
+          go : (e : StepError) → HasFailedToAppend cache_facts backing_facts e number k l x y
+              → y.promises ≤ x.promises
+          go (error.Fault device) (cause, lost) = let one = lost.did.is.promises in omega (arith, one)
+          go (error.Halted device) (halt, did, rest) = let same = did.is.promises in
+              omega (arith, same)
+          go error.Memory (did, rest) = let same = did.is.promises in omega (arith, same)
+
       pub failed_part : kinds l ≡ kinds k → HasPart l part
       failed_part alike =
           let its = part_some l.leaves part (ap (λ (z : Kinds). z.leaves) alike
@@ -207,32 +268,40 @@ module _ {C B : Type 0} (cache_facts : C → DiskFacts) (backing_facts : B → D
           later (ds, done) = (law_known cache_facts backing_facts).come x y ds low done
               ((law_known cache_facts backing_facts).come w x [] low promised to.come)
 
-      pub failed_sets : HasFailed cache_facts backing_facts e v y
-      failed_sets = go e failed
+      pub failed_sets : Works cache_facts backing_facts p x k
+          → IsDueIn k (length p.run.start) low slot number → (e ≡ error.Memory → y.heard ≡ None)
+          → HasFailed cache_facts backing_facts p low e v y
+      failed_sets works is memory = go e memory failed
         where
-          before : HasWrittenSets cache_facts backing_facts v x
-          before = then_nothing v w x to.sets promised
+          before : HasWrittenSets cache_facts backing_facts p low v x
+          before = then_nothing cache_facts backing_facts p low v w x to.sets promised
 
-          go : (e : StepError) → HasFailedToAppend cache_facts backing_facts e number k l x y
-              → HasFailed cache_facts backing_facts e v y
-          go (error.Fault device) (cause, lost) =
+          go : (e : StepError) → (e ≡ error.Memory → y.heard ≡ None)
+              → HasFailedToAppend cache_facts backing_facts e number k l x y
+              → HasFailed cache_facts backing_facts p low e v y
+          go (error.Fault device) memory (cause, lost) =
               let d = lost_by lost.at.leaves.cache.geometry number lost.at.cached.leaf lost.bytes in (
                 cause,
                 record {
                   deeds = before.deeds;
                   each = before.each;
                   last = d;
-                  lost = tt;
+                  lost = of_due cache_facts backing_facts p low lost_by slot number lost.bytes d v x
+                      k before works is (lost.slot, lost.at) lost.set refl;
                   done = done_both cache_facts backing_facts before.deeds (d ∷ []) v x y before.done
                       (done_one cache_facts backing_facts (Some d) x y lost.did);
                 },
               )
-          go (error.Halted device) (halt, did, rest) = (
+          go (error.Halted device) memory (halt, did, rest) = (
             halt,
-            then_nothing v x y before (done_one cache_facts backing_facts None x y did),
+            then_nothing cache_facts backing_facts p low v x y before
+                (done_one cache_facts backing_facts None x y did),
           )
-          go error.Memory (did, rest) =
-              then_nothing v x y before (done_one cache_facts backing_facts None x y did)
+          go error.Memory memory (did, rest) = (
+            memory refl,
+            then_nothing cache_facts backing_facts p low v x y before
+                (done_one cache_facts backing_facts None x y did),
+          )
 
     pub begins : (l : LeafHand) → a.leaves ≡ Some l → l.part ≡ part → length l.cache.slots ≡ slots
         → Works cache_facts backing_facts p v a
@@ -246,8 +315,9 @@ module _ {C B : Type 0} (cache_facts : C → DiskFacts) (backing_facts : B → D
       rest = refl;
       many = many;
       come = come;
-      promises = omega arith;
-      sets = no_sets v v nothing;
+      promises = refl;
+      keeps = keeps_nothing cache_facts backing_facts v v nothing;
+      sets = no_sets cache_facts backing_facts p low v v nothing;
       clean = λ j few. absurd (omega (arith, few));
     }
 
@@ -264,6 +334,7 @@ module _ {C B : Type 0} (cache_facts : C → DiskFacts) (backing_facts : B → D
       many = to.many;
       come = to.come;
       promises = to.promises;
+      keeps = to.keeps;
       sets = to.sets;
       clean = λ j few. elim (cases_eq j slot) [
         | inl same ↦ subst (λ i. WaitsInSlot count (part - 6) low
@@ -277,8 +348,10 @@ module _ {C B : Type 0} (cache_facts : C → DiskFacts) (backing_facts : B → D
         → To slot w h → HasDone cache_facts backing_facts [] w x
         → (e : HasAppended cache_facts backing_facts number h k x y) → e.slot ≡ slot
         → Works cache_facts backing_facts p y k → k ≡ record h { leaves = k.leaves }
-        → v.promises ≤ y.promises → To (slot + 1) y k
-    empties slot number w x y h k to promised e at works rest promises =
+        → y.promises ≡ v.promises → Works cache_facts backing_facts p x h
+        → IsDueIn h (length p.run.start) low slot number → KeepsPlaces cache_facts backing_facts x y
+        → To (slot + 1) y k
+    empties slot number w x y h k to promised e at works rest promises worked due keeps =
         let l = e.at.leaves in
         let same = one_some h.leaves l to.leaves e.at.is to.is in
         let c = record e.at.cached { leaf = e.leaf } in
@@ -298,7 +371,14 @@ module _ {C B : Type 0} (cache_facts : C → DiskFacts) (backing_facts : B → D
               (done_one cache_facts backing_facts (Some d) x y e.did)
               ((law_known cache_facts backing_facts).come w x [] low promised to.come);
           promises = promises;
-          sets = more_sets v x y d tt (then_nothing v w x to.sets promised) e.did;
+          keeps = keeps_both cache_facts backing_facts v w y to.keeps
+              (keeps_both cache_facts backing_facts w x y
+              (keeps_nothing cache_facts backing_facts w x promised) keeps);
+          sets =
+              let before = then_nothing cache_facts backing_facts p low v w x to.sets promised in
+              more_sets cache_facts backing_facts p low v x y d
+              (of_due cache_facts backing_facts p low append_by slot number e.bytes d v x h before
+              worked due (e.slot, e.at) e.set refl) before e.did;
           clean = λ j few. elim (cases_eq j e.slot) [
             | inl is ↦ subst (WaitsInSlot count (part - 6) low)
                 (sym (ap (slice_get (slice_set l.cache.slots e.slot (Some c))) is

@@ -5,7 +5,9 @@ use Rattle.bc_disk.specs.Disk.{DiskFacts}
 use Rattle.bc_events.specs.declared.event.Event.{Event}
 use Rattle.bc_append.proofs.of_bc_hand.Knowing.{View, m}
 use Rattle.bc_append.specs.bc_machine.World.{FromEach, World, after}
+use Rattle.bc_append.specs.bc_machine.declared.part.CorePart.{CorePart}
 use Rattle.bc_parts.specs.Machine.{IsRun}
+use Rattle.bc_parts.specs.Seat.{PartsView}
 use Rattle.bc_seats.specs.Seats.{Lasting, Waited, Went, state_seen}
 use Rattle.bc_seats.proofs.Knowing.{lasts}
 use Rattle.bc_turn.specs.Laws.{LawKnown}
@@ -56,9 +58,9 @@ module _ {C B : Type 0} (cache_facts : C → DiskFacts) (backing_facts : B → D
   part_waited v w count part low h was = lasts (m cache_facts backing_facts) v _
       (λ y. FromEach y (PartNeedsFrom count part low)) (part_stays count part low) h.since was
 
-  pub sets_know : (v w : View cache_facts backing_facts) (count part low : ℕ)
-      → HasWrittenSets cache_facts backing_facts v w
+  pub sets_know : (p : PartsView (CorePart C B)) (v w : View cache_facts backing_facts)
+      (count part low : ℕ) → HasWrittenSets cache_facts backing_facts p low v w
       → FromEach (state_seen (m cache_facts backing_facts) v) (PartNeedsFrom count part low)
       → FromEach (state_seen (m cache_facts backing_facts) w) (PartNeedsFrom count part low)
-  sets_know v w count part low sets was =
+  sets_know p v w count part low sets was =
       law_known.part v w sets.deeds count part low sets.done was

@@ -54,13 +54,13 @@ module _ {C B : Type 0} where
       (ap (λ (k : Kinds). k.cache) same ∙ ap is_some none) ∙ sym none)
 
   -- the leaf of a number is in one slot alone
-  record SameLeaf (h : Hand C B) (i j number : ℕ) (a : HasLeafIn h i number)
+  pub record SameLeaf (h : Hand C B) (i j number : ℕ) (a : HasLeafIn h i number)
       (b : HasLeafIn h j number) : Type 0 where
-    slot : i ≡ j
-    geometry : a.leaves.cache.geometry ≡ b.leaves.cache.geometry
-    leaf : a.cached.leaf ≡ b.cached.leaf
+    pub slot : i ≡ j
+    pub geometry : a.leaves.cache.geometry ≡ b.leaves.cache.geometry
+    pub leaf : a.cached.leaf ≡ b.cached.leaf
 
-  same_leaf : (h : Hand C B) (i j number : ℕ) (a : HasLeafIn h i number) (b : HasLeafIn h j number)
+  pub same_leaf : (h : Hand C B) (i j number : ℕ) (a : HasLeafIn h i number) (b : HasLeafIn h j number)
       → IsSlotOf b.leaves.cache.slots number j → SameLeaf h i j number a b
   same_leaf h i j number a b only =
       let same = one_some h.leaves a.leaves b.leaves a.is b.is in

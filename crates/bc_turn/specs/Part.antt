@@ -1,20 +1,23 @@
 -- The leaves of a part in hand, of which nothing is to be pending of entries below a number.
-use Rattle.std.specs.Prelude.{◌≡◌, ℕ, ◌%◌, ◌<◌, ◌≤◌, List, [], ◌∷◌, ◌++◌, All, Option, Some, None, IfSome}
+use Rattle.std.specs.Prelude.{◌≡◌, ℕ, ◌%◌, ◌<◌, ◌≤◌, List, [], ◌∷◌, ◌++◌, length, All, Option, Some, None, IfSome}
+use Rattle.bc_append.specs.Append.{BeginWithSet, append_by, lost_by}
+use Rattle.bc_append.specs.bc_hand.Seats.{View, Works}
+use Rattle.bc_append.specs.bc_hand.declared.error.StepError.{StepError}
+use Rattle.bc_append.specs.bc_hand.declared.error.StepError.TheVariants as error
+use Rattle.bc_append.specs.bc_hand.declared.hand.Hand.{Hand}
+use Rattle.bc_append.specs.bc_machine.World.{World}
+use Rattle.bc_append.specs.bc_machine.declared.part.CorePart.{CorePart}
 use Rattle.bc_cache.specs.Slots.{IsSlotOf}
 use Rattle.bc_cache.specs.declared.slots.Cached.{Cached}
 use Rattle.bc_fetch.specs.bc_deed.Flushed.{HasDone}
 use Rattle.bc_disk.specs.Disk.{DiskFacts}
 use Rattle.bc_disk.specs.declared.disk.Device.TheVariants.{Cache}
+use Rattle.bc_disk.specs.declared.geometry.Geometry.{Geometry}
 use Rattle.bc_events.specs.Columns.{halt_of}
 use Rattle.bc_events.specs.declared.event.Deed.{Deed}
-use Rattle.bc_events.specs.declared.event.Deed.TheVariants as deed
-use Rattle.bc_events.specs.declared.event.Failure.TheVariants as failure
-use Rattle.bc_events.specs.declared.event.Written.TheVariants as written
-use Rattle.bc_append.specs.bc_hand.Seats.{View}
-use Rattle.bc_append.specs.bc_hand.declared.error.StepError.{StepError}
-use Rattle.bc_append.specs.bc_hand.declared.error.StepError.TheVariants as error
-use Rattle.bc_append.specs.bc_hand.declared.hand.Hand.{Hand}
-use Rattle.bc_turn.specs.Empty.{HasPendingIn, IsWhy}
+use Rattle.bc_node.specs.Leaf.{Leaf}
+use Rattle.bc_parts.specs.Seat.{PartsView}
+use Rattle.bc_turn.specs.Empty.{HasPendingIn, IsTold, IsWhy}
 use Rattle.bc_turn.specs.declared.error.Left.{Left}
 
 -- ---- slots
@@ -34,41 +37,53 @@ pub record IsDueIn {C B : Type 0} (h : Hand C B) (parts low slot number : ℕ) :
 
 -- ---- what was done
 
--- a further set of a leaf was written; or its write failed
-abbrev pub WritesSet : Deed → Type 0
-WritesSet (deed.CacheWrite at (written.Set leaf) values) = Unit {0}
-WritesSet d = ⊥
+module _ {C B : Type 0} (cache_facts : C → DiskFacts) (backing_facts : B → DiskFacts)
+    (p : PartsView (CorePart C B)) (low : ℕ) where
+  -- The deed is of a leaf of which a key of an entry below was pending, as the seat had its part in
+  -- hand behind some deeds of its own: it is the write of what was pending, or one that failed.
+  pub record IsOfDue (by : Geometry → ℕ → Leaf → List ℕ → Deed)
+      (v : View cache_facts backing_facts) (d : Deed) : Type 0 where
+    pub before : List Deed
+    pub at : View cache_facts backing_facts
+    pub went : HasDone cache_facts backing_facts before v at
+    pub hand : Hand C B
+    pub works : Works cache_facts backing_facts p at hand
+    pub slot : ℕ
+    pub number : ℕ
+    pub due : IsDueIn hand (length p.run.start) low slot number
+    pub bytes : List ℕ
+    pub set : BeginWithSet due.pending.own.at.leaves.cache.geometry
+        due.pending.own.at.cached.leaf bytes
+    pub is : d ≡ by due.pending.own.at.leaves.cache.geometry number
+        due.pending.own.at.cached.leaf bytes
 
-abbrev pub LosesSet : Deed → Type 0
-LosesSet (deed.DeviceFault (failure.CacheWrite at (written.Set leaf) values)) = Unit {0}
-LosesSet d = ⊥
-
-module _ {C B : Type 0} (cache_facts : C → DiskFacts) (backing_facts : B → DiskFacts) where
-  -- Sets were written, and nothing else was done.
+  -- Sets of such leaves were written, and nothing else was done.
   pub record HasWrittenSets (v w : View cache_facts backing_facts) : Type 0 where
     pub deeds : List Deed
-    pub each : All WritesSet deeds
+    pub each : All (IsOfDue append_by v) deeds
     pub done : HasDone cache_facts backing_facts deeds v w
 
   -- And then the write of one failed.
   pub record HasLostSet (v w : View cache_facts backing_facts) : Type 0 where
     pub deeds : List Deed
-    pub each : All WritesSet deeds
+    pub each : All (IsOfDue append_by v) deeds
     pub last : Deed
-    pub lost : LosesSet last
+    pub lost : IsOfDue lost_by v last
     pub done : HasDone cache_facts backing_facts (deeds ++ last ∷ []) v w
 
-  -- Or a device had halted the run, or memory lacked.
+  -- Or a device had halted the run; or memory lacked, and the seat had heard of no halt.
   abbrev pub HasFailed : StepError → View cache_facts backing_facts
       → View cache_facts backing_facts → Type 0
   HasFailed (error.Fault device) v w = (device ≡ Cache) × HasLostSet v w
   HasFailed (error.Halted device) v w = (halt_of w.seen ≡ Some device) × HasWrittenSets v w
-  HasFailed error.Memory v w = HasWrittenSets v w
+  HasFailed error.Memory v w = (w.heard ≡ None) × HasWrittenSets v w
 
--- a leaf is left of which keys of an entry below are pending, and this is why
-pub record IsLeftIn {C B : Type 0} (h : Hand C B) (sectors parts low : ℕ) (left : Left) : Type 0
-  where
-    pub slot : ℕ
-    pub pending : HasPendingIn h parts slot left.leaf
-    pub below : pending.entries.first < low
-    pub cause : IsWhy left.why sectors pending
+-- A leaf is left of which keys of an entry below are pending, and this is why, as it stands in hand
+-- for the run.
+pub record IsLeftIn {C B : Type 0} (h : Hand C B) (x : World) (sectors parts low : ℕ)
+    (left : Left) : Type 0 where
+  pub slot : ℕ
+  pub pending : HasPendingIn h parts slot left.leaf
+  pub below : pending.entries.first < low
+  pub cause : IsWhy left.why sectors pending
+  pub told : IsTold left.why x

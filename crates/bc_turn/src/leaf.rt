@@ -1,5 +1,5 @@
 //! One leaf whose pending keys go to its node.
-ghost use Rattle.std.specs.Prelude.{◌≡◌, ◌+◌, ◌<◌, ◌≤◌, ℕ, false, length, slice_get, IfErr, IfOk, MatchOption, Some};
+ghost use Rattle.std.specs.Prelude.{◌≡◌, ◌+◌, ◌<◌, ◌≤◌, ℕ, false, length, slice_get, IfErr, IfOk, MatchOption, None, Some};
 ghost use Rattle.bc_append.specs.Append.{HasFailedToAppend, HasLeafIn};
 ghost use Rattle.bc_cache.specs.Slots.{IsSlotOf};
 ghost use Rattle.bc_cache.specs.declared.slots.Cached.{Cached};
@@ -10,6 +10,7 @@ ghost use Rattle.bc_append.specs.bc_place.Written.{KeepsPlaces};
 ghost use Rattle.bc_turn.specs.Empty.{HasEmptied, HasPendingIn, IsClosedBy};
 
 use crate::error::Why;
+use crate::heard::or_halt;
 use bc_append::append::append_set;
 use bc_append::bc_hand::error::StepError;
 use bc_append::bc_hand::hand::Hand;
@@ -67,7 +68,8 @@ fn last_entry<C, B>(hand: &Hand<C, B>, leaf: u32) -> Result<u64, Why>
 ///
 /// `Fault` says that the write itself failed, which is committed then: of the set the device has
 /// nothing, or a part, or all, and the leaf is closed, with what is pending. `Halted` says that a
-/// device had halted the run before, `Memory` that there was none; then nothing was done.
+/// device had halted the run before, `Memory` that there was none, and that the seat hasn't heard of
+/// a halt; then nothing was done.
 pub fn empty_leaf<C: Disk + Drop, B: Disk + Drop, R: Wait>(
     rt: &R,
     alloc: Global,
@@ -89,6 +91,7 @@ pub fn empty_leaf<C: Disk + Drop, B: Disk + Drop, R: Wait>(
         (length parts.now.run.start) leaf left hand.old hand.new seat.old seat.new slot x) }
     ensures err { IfErr result (λ error. HasFailedToAppend C.facts B.facts error leaf hand.old
         hand.new seat.old seat.new) }
+    ensures memory { IfErr result (λ error. error ≡ StepError.Memory → seat.new.heard ≡ None) }
     ensures left { seat.old.promises ≤ seat.new.promises + 1 }
     ensures keeps { KeepsPlaces C.facts B.facts seat.old seat.new }
 {
@@ -104,6 +107,6 @@ pub fn empty_leaf<C: Disk + Drop, B: Disk + Drop, R: Wait>(
         Ok(Ok(())) => Ok(None),
         Ok(Err(NoRoom::Full)) => Ok(Some(Why::Full)),
         Ok(Err(NoRoom::Outside)) => Ok(Some(Why::Outside)),
-        Err(error) => Err(error),
+        Err(error) => Err(or_halt(seat, error)),
     }
 }

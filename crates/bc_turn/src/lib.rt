@@ -12,10 +12,11 @@
 //! A leaf that was read from the device, or whose node is full, gets no further set: such a one has to
 //! be rewritten first, and is named by the answer.
 //!
-//! Read `specs/` in this order: Need, Laws, Empty, Part, Parts, Needed.
+//! Read `specs/` in this order: Need, Laws, Empty, Heard, Part, Parts, Needed.
 #![tactic(auto)]
 
 pub mod error;
+pub mod heard;
 pub mod laws;
 pub mod leaf;
 pub mod needed;

@@ -4,10 +4,12 @@ ghost use Rattle.bc_append.specs.bc_hand.Seats.{HasNoneBehindLeaves, Works, kind
 ghost use Rattle.bc_append.specs.bc_hand.declared.hand.LeafHand.{LeafHand};
 ghost use Rattle.bc_fetch.specs.Fetch.{HasPart};
 ghost use Rattle.bc_append.specs.bc_machine.World.{FromEach, are_plain, cache_among};
+ghost use Rattle.bc_append.specs.bc_place.Written.{KeepsPlaces};
 ghost use Rattle.bc_turn.specs.Need.{IsToCome, PartNeedsFrom};
 ghost use Rattle.bc_turn.specs.Part.{HasFailed, HasWrittenSets, IsDueIn, IsLeftIn, WaitsInSlot};
 
 use crate::error::Left;
+use crate::heard::or_halt;
 use crate::leaf::empty_leaf;
 use bc_append::bc_hand::error::StepError;
 use bc_append::bc_hand::hand::Hand;
@@ -68,7 +70,9 @@ fn due_in<C, B>(hand: &Hand<C, B>, count: u32, low: u64, slot: u32) -> Option<u3
 /// in the order of the slots, wait for none. Without one no leaf of the part does, nor ever will.
 ///
 /// `Fault` says that the write of a set failed, which halts the run; `Halted` that a device had
-/// halted it before; `Memory` may come before each leaf. The sets that were written stand.
+/// halted it before; `Memory` may come before each leaf, where the seat hasn't heard of a halt. The
+/// sets that were written stand. Of the room that is promised here for each deed at most one is left.
+/// Whatever comes, the seat knows of its places what it knew.
 pub fn empty_part<C: Disk + Drop, B: Disk + Drop, R: Wait>(
     rt: &R,
     alloc: Global,
@@ -89,13 +93,19 @@ pub fn empty_part<C: Disk + Drop, B: Disk + Drop, R: Wait>(
     ensures part { HasPart hand.new part }
     ensures come { FromEach (world C.facts B.facts seat.new) (IsToCome low) }
     ensures promises { seat.old.promises ≤ seat.new.promises }
-    ensures ok { IfOk result (λ left. HasWrittenSets C.facts B.facts seat.old seat.new) }
+    ensures most { seat.new.promises ≤ seat.old.promises + 1 }
+    ensures even { IfOk result (λ left. IfNone left (seat.new.promises ≡ seat.old.promises)) }
+    ensures keeps { KeepsPlaces C.facts B.facts seat.old seat.new }
+    ensures ok { IfOk result (λ left. HasWrittenSets C.facts B.facts parts.now low seat.old
+        seat.new) }
     ensures left { IfOk result (λ left. IfSome left (IsLeftIn hand.new
+        (world C.facts B.facts seat.new)
         (cache_among C.facts B.facts parts.now.run.start).sectors (length parts.now.run.start)
         low)) }
     ensures knows { IfOk result (λ left. IfNone left (FromEach (world C.facts B.facts seat.new)
         (PartNeedsFrom (length parts.now.run.start - 6) (part - 6) low))) }
-    ensures err { IfErr result (λ error. HasFailed C.facts B.facts error seat.old seat.new) }
+    ensures err { IfErr result (λ error. HasFailed C.facts B.facts parts.now low error seat.old
+        seat.new) }
 {
     let count = parts.part_count() as u32 - LEAVES;
     for slot in 0..slots_in(hand) {
@@ -103,7 +113,7 @@ pub fn empty_part<C: Disk + Drop, B: Disk + Drop, R: Wait>(
             continue;
         };
         let Ok(()) = promise(rt, parts, seat, hand, 1) else {
-            return Err(StepError::Memory);
+            return Err(or_halt(seat, StepError::Memory));
         };
         match empty_leaf(rt, alloc, parts, seat, hand, leaf) {
             Ok(None) => {}

@@ -1,8 +1,9 @@
 //! All leaves.
-ghost use Rattle.std.specs.Prelude.{◌≡◌, ◌-◌, ◌<◌, ◌≤◌, ◌^◌, false, length, IfErr, IfNone, IfOk, IfSome};
+ghost use Rattle.std.specs.Prelude.{◌≡◌, ◌+◌, ◌-◌, ◌<◌, ◌≤◌, ◌^◌, false, length, IfErr, IfNone, IfOk, IfSome};
 ghost use Rattle.bc_append.specs.bc_hand.Seats.{Works, core, empty, world};
 ghost use Rattle.bc_fetch.specs.Fetch.{HasPart};
 ghost use Rattle.bc_append.specs.bc_machine.World.{FromEach, are_plain, cache_among};
+ghost use Rattle.bc_append.specs.bc_place.Written.{KeepsPlaces};
 ghost use Rattle.bc_needs.specs.Needs.{NeedsFrom};
 ghost use Rattle.bc_seats.specs.Seats.{Waited};
 ghost use Rattle.bc_turn.specs.Need.{IsToCome, PartNeedsFrom};
@@ -62,12 +63,17 @@ fn empty_taken<C: Disk + Drop, B: Disk + Drop, R: Wait>(
     ensures empty { hand.new ≡ empty }
     ensures come { FromEach (world C.facts B.facts seat.new) (IsToCome low) }
     ensures promises { seat.old.promises ≤ seat.new.promises }
-    ensures ok { IfOk result (λ left. HasWrittenSets C.facts B.facts seat.old seat.new) }
+    ensures most { seat.new.promises ≤ seat.old.promises + 1 }
+    ensures even { IfOk result (λ left. IfNone left (seat.new.promises ≡ seat.old.promises)) }
+    ensures keeps { KeepsPlaces C.facts B.facts seat.old seat.new }
+    ensures ok { IfOk result (λ left. HasWrittenSets C.facts B.facts parts.now low seat.old
+        seat.new) }
     ensures left { IfOk result (λ left. IfSome left (WasLeft C.facts B.facts parts.now
         (cache_among C.facts B.facts parts.now.run.start).sectors low seat.old seat.new)) }
     ensures knows { IfOk result (λ left. IfNone left (FromEach (world C.facts B.facts seat.new)
         (PartNeedsFrom (length parts.now.run.start - 6) (part - 6) low))) }
-    ensures err { IfErr result (λ error. HasFailed C.facts B.facts error seat.old seat.new) }
+    ensures err { IfErr result (λ error. HasFailed C.facts B.facts parts.now low error seat.old
+        seat.new) }
 {
     take_part(rt, parts, seat, hand, part);
     let done = empty_part(rt, alloc, parts, seat, hand, part, low);
@@ -97,12 +103,17 @@ pub fn empty_leaves<C: Disk + Drop, B: Disk + Drop, R: Wait>(
     ensures empty { hand.new ≡ empty }
     ensures come { FromEach (world C.facts B.facts seat.new) (IsToCome low) }
     ensures promises { seat.old.promises ≤ seat.new.promises }
-    ensures ok { IfOk result (λ left. HasWrittenSets C.facts B.facts seat.old seat.new) }
+    ensures most { seat.new.promises ≤ seat.old.promises + 1 }
+    ensures even { IfOk result (λ left. IfNone left (seat.new.promises ≡ seat.old.promises)) }
+    ensures keeps { KeepsPlaces C.facts B.facts seat.old seat.new }
+    ensures ok { IfOk result (λ left. HasWrittenSets C.facts B.facts parts.now low seat.old
+        seat.new) }
     ensures left { IfOk result (λ left. IfSome left (WasLeft C.facts B.facts parts.now
         (cache_among C.facts B.facts parts.now.run.start).sectors low seat.old seat.new)) }
     ensures knows { IfOk result (λ left. IfNone left (FromEach (world C.facts B.facts seat.new)
         (λ o st. NeedsFrom low st))) }
-    ensures err { IfErr result (λ error. HasFailed C.facts B.facts error seat.old seat.new) }
+    ensures err { IfErr result (λ error. HasFailed C.facts B.facts parts.now low error seat.old
+        seat.new) }
 {
     for part in LEAVES..parts.part_count() as u32 {
         match empty_taken(rt, alloc, parts, seat, hand, part, low) {

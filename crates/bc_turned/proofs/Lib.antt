@@ -1,2 +1,4 @@
 pub mod Giving
 pub mod Turning
+mod Hearing
+mod Keeping

@@ -1,6 +1,5 @@
 -- What was done in a turn, one part behind the other.
 use Rattle.std.proofs.Common.{ℕ, List, [], refl}
-use Rattle.std.specs.Prelude.{Ok, Err, IfErr, IfOk, Result}
 use Rattle.bc_disk.specs.Disk.{DiskFacts}
 use Rattle.bc_flush.proofs.Counting.{durable_lasts}
 use Rattle.bc_flush.proofs.Syncing.{as_waited, cut_on, entry_on}
@@ -18,8 +17,7 @@ use Rattle.bc_parts.specs.Seat.{PartsView}
 use Rattle.bc_flush.specs.declared.error.FlushError.{FlushError}
 use Rattle.bc_flush.specs.declared.error.FlushError.TheVariants as flush
 use Rattle.bc_seats.specs.Seats.{Waited}
-use Rattle.bc_turned.specs.Turned.{HasEnded, HasOrNot}
-use Rattle.bc_turned.specs.declared.answer.NoEntry.{NoEntry}
+use Rattle.bc_turned.specs.Turned.{HasEnded}
 use Rattle.bc_turned.specs.declared.answer.Turned.{Turned}
 use Rattle.bc_turned.specs.declared.answer.Turned.TheVariants as turned
 
@@ -60,38 +58,6 @@ module _ {C B : Type 0} (cache_facts : C → DiskFacts) (backing_facts : B → D
       halt = h.halt;
       done = done_both cache_facts backing_facts [] h.deeds t u w first h.done;
     }
-
-    either_one : (low : ℕ) (r : Result (Unit {0}) NoEntry)
-        → HasOrNot cache_facts backing_facts low r u w
-        → HasOrNot cache_facts backing_facts low r t w
-    either_one low (Ok a) h = record {
-      at = h.at;
-      before = done_both cache_facts backing_facts [] [] t u h.at first h.before;
-      journal = h.journal;
-      stands = h.stands;
-      put = h.put;
-      given = h.given;
-    }
-    either_one low (Err cause) h = record {
-      at = h.at;
-      before = done_both cache_facts backing_facts [] [] t u h.at first h.before;
-      journal = h.journal;
-      stands = h.stands;
-      why = h.why;
-      since = h.since;
-    }
-
-    pub either_behind : {E : Type 0} (low : ℕ) (r : Result (Result (Unit {0}) NoEntry) E)
-        → IfOk r (λ answer. HasOrNot cache_facts backing_facts low answer u w)
-        → IfOk r (λ answer. HasOrNot cache_facts backing_facts low answer t w)
-    either_behind low (Ok a) h = either_one low a h
-    either_behind low (Err e) h = tt
-
-    pub either_refused : {A : Type 0} (sectors : ℕ) (r : Result A FlushError)
-        → IfErr r (λ e. HasNotSynced cache_facts backing_facts sectors e u w)
-        → IfErr r (λ e. HasNotSynced cache_facts backing_facts sectors e t w)
-    either_refused sectors (Ok a) h = tt
-    either_refused sectors (Err e) h = refused_behind sectors e h
 
   -- ---- what was durable stays so
 

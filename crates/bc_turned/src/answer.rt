@@ -1,8 +1,11 @@
 //! How a turn of the ring ends.
 ghost use Rattle.std.specs.Prelude.{◌≡◌};
 ghost use Rattle.bc_flush.specs.Refusals.{refusal};
+ghost use Rattle.bc_turned.specs.Turned.{IsRefusalFor};
 
+use bc_disk::disk::Disk;
 use bc_flush::bc_hand::error::StepError;
+use bc_flush::bc_machine::machine::CoreSeat;
 use bc_flush::error::FlushError;
 use bc_turn::error::Left;
 
@@ -35,5 +38,28 @@ pub(crate) fn refused(error: StepError) -> FlushError
         StepError::Fault(device) => FlushError::Fault(device),
         StepError::Halted(device) => FlushError::Halted(device),
         StepError::Memory => FlushError::Memory,
+    }
+}
+
+// The refusal of a step that was refused so: where the seat has heard of a halt, `Halted` in place
+// of `Memory`.
+pub(crate) fn or_halted<C: Disk, B: Disk>(seat: &CoreSeat<C, B>, error: FlushError) -> FlushError
+    ensures { IsRefusalFor error seat.now.heard seat.now.seen result }
+{
+    match error {
+        FlushError::Memory => missed(seat),
+        FlushError::Fault(device) => FlushError::Fault(device),
+        FlushError::Halted(device) => FlushError::Halted(device),
+        FlushError::Outside => FlushError::Outside,
+    }
+}
+
+// The same of want of memory.
+fn missed<C: Disk, B: Disk>(seat: &CoreSeat<C, B>) -> FlushError
+    ensures { IsRefusalFor FlushError.Memory seat.now.heard seat.now.seen result }
+{
+    match seat.heard() {
+        Some(device) => FlushError::Halted(device),
+        None => FlushError::Memory,
     }
 }

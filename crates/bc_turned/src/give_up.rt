@@ -1,9 +1,10 @@
 //! An entry that says that older ones aren't needed.
-ghost use Rattle.std.specs.Prelude.{◌≡◌, ◌+◌, ◌*◌, ◌≤◌, nat_le, false, Some, OnOk, IfErr, IfOk};
+ghost use Rattle.std.specs.Prelude.{◌≡◌, ◌+◌, ◌*◌, ◌≤◌, nat_le, false, None, Some, OnOk, IfErr, IfOk};
 ghost use Rattle.bc_entry.specs.Entry.{HasJournalAndCache};
 ghost use Rattle.bc_flush.specs.Sync.{HasNotSynced, journal_alone, journal_and_cache};
 ghost use Rattle.bc_flush.specs.bc_hand.Seats.{Works, empty, kinds, world};
 ghost use Rattle.bc_flush.specs.bc_machine.World.{FromEach, are_plain, cache_among};
+ghost use Rattle.bc_turn.specs.bc_place.Written.{KeepsPlaces};
 ghost use Rattle.bc_journal.specs.Journal.{Journal};
 ghost use Rattle.bc_needs.specs.Needs.{NeedsFrom};
 ghost use Rattle.bc_turned.specs.Turned.{HasGivenUp, HasOrNot, IsReady};
@@ -15,6 +16,7 @@ use bc_flush::bc_hand::hand::Hand;
 use bc_flush::bc_hand::lend::{borrow_cache, borrow_journal, return_cache, return_journal};
 use bc_flush::bc_machine::machine::{CoreParts, CoreSeat};
 use bc_flush::error::FlushError;
+use bc_turn::heard::or_halt;
 use bc_turn::needed::need_from;
 use std::alloc::Global;
 use std::sync::Wait;
@@ -29,8 +31,9 @@ const NUMBERS_END: u64 = 1 << 63;
 ///
 /// `Fault` is a write or a barrier of the entry that failed, which halted the run; `Halted` names
 /// the device that had halted it before. At `Memory` there was none for the entry, or another entry
-/// was cut off behind its seal, and this seat hasn't heard of the halt yet; nothing was done. At
-/// `Outside` the journal ends behind the device, and nothing was done.
+/// was cut off behind its seal, and this seat hasn't heard of a halt; nothing was done. At `Outside`
+/// the journal ends behind the device, and nothing was done. The seat knows of its places what it
+/// knew.
 pub fn give_up<C: Disk + Drop, B: Disk + Drop, R: Wait>(
     rt: &R,
     alloc: Global,
@@ -48,6 +51,8 @@ pub fn give_up<C: Disk + Drop, B: Disk + Drop, R: Wait>(
     ensures empty { hand.new ≡ empty }
     ensures left { seat.old.promises ≤ seat.new.promises + 5 }
     ensures ok { IfOk result (λ answer. HasOrNot C.facts B.facts low answer seat.old seat.new) }
+    ensures keeps { KeepsPlaces C.facts B.facts seat.old seat.new }
+    ensures memory { IfErr result (λ error. error ≡ FlushError.Memory → seat.new.heard ≡ None) }
     ensures err { IfErr result (λ error. HasNotSynced C.facts B.facts
         (cache_among C.facts B.facts parts.now.run.start).sectors error seat.old seat.new) }
 {
@@ -79,6 +84,7 @@ fn give_in<C: Disk + Drop, B: Disk + Drop, R: Wait>(
     ensures hand { kinds hand.new ≡ journal_alone }
     ensures left { seat.old.promises ≤ seat.new.promises + 5 }
     ensures ok { IfOk result (λ answer. HasOrNot C.facts B.facts low answer seat.old seat.new) }
+    ensures memory { IfErr result (λ error. error ≡ FlushError.Memory → seat.new.heard ≡ None) }
     ensures err { IfErr result (λ error. HasNotSynced C.facts B.facts
         (cache_among C.facts B.facts parts.now.run.start).sectors error seat.old seat.new) }
 {
@@ -122,6 +128,7 @@ fn put_ready<C: Disk + Drop, B: Disk + Drop, R: Wait>(
     ensures left { seat.old.promises ≤ seat.new.promises + 5 }
     ensures hand { kinds hand.new ≡ journal_alone }
     ensures ok { OnOk result (HasGivenUp C.facts B.facts low seat.old seat.new) }
+    ensures memory { IfErr result (λ error. error ≡ FlushError.Memory → seat.new.heard ≡ None) }
     ensures err { IfErr result (λ error. HasNotSynced C.facts B.facts
         (cache_among C.facts B.facts parts.now.run.start).sectors error seat.old seat.new) }
 {
@@ -153,6 +160,7 @@ fn put_within<C: Disk + Drop, B: Disk + Drop, R: Wait>(
     ensures left { seat.old.promises ≤ seat.new.promises + 5 }
     ensures hand { kinds hand.new ≡ journal_and_cache }
     ensures ok { OnOk result (HasGivenUp C.facts B.facts low seat.old seat.new) }
+    ensures memory { IfErr result (λ error. error ≡ FlushError.Memory → seat.new.heard ≡ None) }
     ensures err { IfErr result (λ error. HasNotSynced C.facts B.facts
         (cache_among C.facts B.facts parts.now.run.start).sectors error seat.old seat.new) }
 {
@@ -162,7 +170,7 @@ fn put_within<C: Disk + Drop, B: Disk + Drop, R: Wait>(
     }
     match put_entry(rt, alloc, parts, seat, hand) {
         Ok(()) => Ok(()),
-        Err(error) => Err(refused(error)),
+        Err(error) => Err(refused(or_halt(seat, error))),
     }
 }
 

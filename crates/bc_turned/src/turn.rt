@@ -1,22 +1,23 @@
 //! The whole turn.
-ghost use Rattle.std.specs.Prelude.{◌≡◌, ◌<◌, ◌≤◌, ◌^◌, ℕ, false, length, IfErr, IfOk, OnOk};
+ghost use Rattle.std.specs.Prelude.{◌≡◌, ◌<◌, ◌≤◌, ◌^◌, ℕ, false, length, None, IfErr, IfOk, OnOk};
 ghost use Rattle.bc_flush.specs.Durable.{AreDurable, HaveComeIn};
-ghost use Rattle.bc_flush.specs.Sync.{HasNotSynced};
 ghost use Rattle.bc_flush.specs.bc_hand.Seats.{Works, empty, world};
 ghost use Rattle.bc_flush.specs.bc_machine.World.{FromEach, Origin, are_plain, cache_among};
-ghost use Rattle.bc_needs.specs.Needs.{NeedsFrom};
+ghost use Rattle.bc_turn.specs.bc_place.Written.{KeepsPlaces};
 ghost use Rattle.bc_turn.specs.Need.{IsToCome};
-ghost use Rattle.bc_turned.specs.Turned.{HasEnded, HasNotEnded, HasNotTurned, HasOrNot, HasTurned};
+ghost use Rattle.bc_turned.specs.Turned.{HasEnded, HasNotEnded, HasNotTurned, HasTurned};
 
-use crate::answer::{NoEntry, Turned, refused};
+use crate::answer::{Turned, or_halted, refused};
 use crate::give_up::give_up;
 use crate::low::look_low;
 use bc_disk::disk::Disk;
 use bc_flush::bc_deed::promise::promise;
+use bc_flush::bc_hand::error::StepError;
 use bc_flush::bc_hand::hand::Hand;
 use bc_flush::bc_machine::machine::{CoreParts, CoreSeat};
 use bc_flush::error::FlushError;
 use bc_flush::sync::sync_journal;
+use bc_turn::heard::or_halt;
 use bc_turn::parts::empty_leaves;
 use std::alloc::Global;
 use std::sync::Wait;
@@ -28,9 +29,9 @@ use std::sync::Wait;
 /// to the nodes of their leaves, and then an entry is put that needs none of the old ones.
 ///
 /// `Fault` is a call of the cache device that failed, which halted the run, and `Halted` names the
-/// device that had halted it before. At `Memory` there was none for the next step; or another
-/// entry was cut off behind its seal, and this seat hasn't heard of the halt yet. At `Outside` the
-/// journal ends behind the device. What was done before stands.
+/// device that had halted it before. At `Memory` there was none for the next step, or another entry
+/// was cut off behind its seal; and this seat hasn't heard of a halt. At `Outside` the journal ends
+/// behind the device. What was done before stands, and the seat knows of its places what it knew.
 pub fn turn<C: Disk + Drop, B: Disk + Drop, R: Wait>(
     rt: &R,
     alloc: Global,
@@ -50,16 +51,18 @@ pub fn turn<C: Disk + Drop, B: Disk + Drop, R: Wait>(
     ensures durable { OnOk result ((n : Origin → ℕ)
         → FromEach (world C.facts B.facts seat.old) (HaveComeIn n)
         → FromEach (world C.facts B.facts seat.new) (AreDurable n)) }
-    ensures err { IfErr result (λ error. HasNotTurned C.facts B.facts
+    ensures memory { IfErr result (λ error. error ≡ FlushError.Memory → seat.new.heard ≡ None) }
+    ensures keeps { KeepsPlaces C.facts B.facts seat.old seat.new }
+    ensures err { IfErr result (λ error. HasNotTurned C.facts B.facts parts.now
         (cache_among C.facts B.facts parts.now.run.start).sectors error seat.old seat.new) }
 {
     let low = look_low(rt, parts, seat, hand);
     let Ok(()) = promise(rt, parts, seat, hand, 5) else {
-        return Err(FlushError::Memory);
+        return Err(or_halted(seat, FlushError::Memory));
     };
     match sync_journal(rt, alloc, parts, seat) {
         Ok(()) => {}
-        Err(error) => return Err(error),
+        Err(error) => return Err(or_halted(seat, error)),
     }
     match turn_synced(rt, alloc, parts, seat, hand, low) {
         Ok(answer) => Ok(answer),
@@ -86,43 +89,22 @@ fn turn_synced<C: Disk + Drop, B: Disk + Drop, R: Wait>(
     ensures promises { seat.old.promises ≤ seat.new.promises }
     ensures ok { IfOk result (λ answer. HasEnded C.facts B.facts parts.now
         (cache_among C.facts B.facts parts.now.run.start).sectors low answer seat.old seat.new) }
-    ensures err { IfErr result (λ error. HasNotEnded C.facts B.facts
-        (cache_among C.facts B.facts parts.now.run.start).sectors error seat.old seat.new) }
+    ensures memory { IfErr result (λ error. error ≡ FlushError.Memory → seat.new.heard ≡ None) }
+    ensures keeps { KeepsPlaces C.facts B.facts seat.old seat.new }
+    ensures err { IfErr result (λ error. HasNotEnded C.facts B.facts parts.now
+        (cache_among C.facts B.facts parts.now.run.start).sectors low error seat.old seat.new) }
 {
     match empty_leaves(rt, alloc, parts, seat, hand, low) {
         Ok(None) => {}
         Ok(Some(left)) => return Ok(Turned::Left(left)),
         Err(error) => return Err(refused(error)),
     }
-    match give_promised(rt, alloc, parts, seat, hand, low) {
+    let Ok(()) = promise(rt, parts, seat, hand, 5) else {
+        return Err(refused(or_halt(seat, StepError::Memory)));
+    };
+    match give_up(rt, alloc, parts, seat, hand, low) {
         Ok(Ok(())) => Ok(Turned::Done),
         Ok(Err(cause)) => Ok(Turned::NoEntry(cause)),
         Err(error) => Err(error),
     }
-}
-
-// The entry, for which room is promised here.
-fn give_promised<C: Disk + Drop, B: Disk + Drop, R: Wait>(
-    rt: &R,
-    alloc: Global,
-    parts: &CoreParts<C, B>,
-    seat: &mut CoreSeat<C, B>,
-    hand: &mut Hand<C, B>,
-    low: u64,
-) -> Result<Result<(), NoEntry>, FlushError>
-    requires works { Works C.facts B.facts parts.now seat.old hand.old }
-    requires empty { hand.old ≡ empty }
-    requires cached { are_plain C.facts B.facts parts.now.run.start ≡ false }
-    requires needs { FromEach (world C.facts B.facts seat.old) (λ o st. NeedsFrom low st) }
-    ensures works { Works C.facts B.facts parts.now seat.new hand.new }
-    ensures empty { hand.new ≡ empty }
-    ensures promises { seat.old.promises ≤ seat.new.promises }
-    ensures ok { IfOk result (λ answer. HasOrNot C.facts B.facts low answer seat.old seat.new) }
-    ensures err { IfErr result (λ error. HasNotSynced C.facts B.facts
-        (cache_among C.facts B.facts parts.now.run.start).sectors error seat.old seat.new) }
-{
-    let Ok(()) = promise(rt, parts, seat, hand, 5) else {
-        return Err(FlushError::Memory);
-    };
-    give_up(rt, alloc, parts, seat, hand, low)
 }

@@ -90,3 +90,14 @@ returns-clause-took g c = record {
   next = c.dead.ensures.next;
   seats = c.dead.ensures.seats;
 }
+
+pub returns-clause-left : goal.returns-clause-left
+returns-clause-left g c = record {
+  oldest = c.in-Some.dead;
+  is = is_first_dead c.candidates.result.now c.args.flight.now.candidates c.first_dead.result
+      (Some c.in-Some.dead) c.candidates.ensures.value c.first_dead.ensures c.in-Some.is;
+  ptr = c.in-Some-pointer.ptr;
+  lies = sym c.pointer.ensures ∙ c.in-Some-pointer.is;
+  went = subst (λ n. HasLetGo c.args.part.now c.in-Some-pointer.ptr.offset n c.let_go.new.part)
+      c.from.ensures c.let_go.ensures;
+}

@@ -1,4 +1,4 @@
-use Rattle.std.proofs.Common.{◌≤◌, List, Some, false, inl, inr, sym, subst, arith}
+use Rattle.std.proofs.Common.{◌≤◌, List, [], ◌∷◌, ◌++◌, Some, false, inl, inr, sym, ap, ◌∙◌, subst, arith}
 use Rattle.std.specs.Prelude.{length}
 use Rattle.bc_events.specs.declared.event.Deed.TheVariants as deed
 use Rattle.bc_flight.specs.declared.candidate.Candidate.{Candidate}
@@ -58,6 +58,28 @@ returns-in-Err-clause-keeps g c = all_waited g.C.Disk.facts g.B.Disk.facts c.arg
 pub returns-clause-ok : goal.returns-clause-ok
 returns-clause-ok g c = has_noted g.C.Disk.facts g.B.Disk.facts c.args.seat.now c.requires.seat
     c.commit.new.seat c.next-number.result c.args.first c.args.place c.in_default.ensures.ok
+
+pub returns-clause-added : goal.returns-clause-added
+returns-clause-added g c = record {
+  number_is = c.next-number.ensures;
+  key = c.new.result;
+  its_key = record {
+    inode = c.new.ensures.inode;
+    end = (let end = c.new.ensures.end in let from = c.from.ensures in omega (arith, end, from));
+    size = (let size = c.new.ensures.size in let few = c.requires.count.1 in omega (arith, size, few));
+    clean = c.new.ensures.dirty;
+    no_csum = c.new.ensures.csum;
+    one = c.new.ensures.count;
+    pointer = c.new.ensures.pointer;
+  };
+  candidates = c.candidate.ensures.candidates
+      ∙ ap (λ n. c.args.flight.now.candidates
+      ++ record { number = n; key = c.new.result; killed = false } ∷ [])
+      (c.candidate.ensures.number ∙ sym c.next-number.ensures);
+  next = c.candidate.ensures.next;
+  claims = c.candidate.ensures.claims;
+  seats = c.candidate.ensures.seats;
+}
 
 pub returns-clause-flight : goal.returns-clause-flight
 returns-clause-flight g c =

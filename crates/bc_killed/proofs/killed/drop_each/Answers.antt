@@ -30,6 +30,12 @@ returns-then-is_none-clause-cleared g c = cleared_then g.C.Disk.facts g.B.Disk.f
     (none_dropped g.C.Disk.facts g.B.Disk.facts c.drop_dead.result c.loop.seat c.drop_dead.new.seat
     (c.is_none.ensures ∙ ap not c.if-is_none.true) c.drop_dead.ensures.done)
 
+pub returns-then-is_none-clause-buckets : goal.returns-then-is_none-clause-buckets
+returns-then-is_none-clause-buckets g c =
+    let l = c.loop in
+    let part = c.drop_dead.ensures.buckets l.invariant.1.0 l.invariant.1.1 l.invariant.2.0
+    l.invariant.2.1 in (part.0, part.1)
+
 pub loop-preserved : goal.loop-preserved
 loop-preserved g c =
     let cf = g.C.Disk.facts in
@@ -40,13 +46,14 @@ loop-preserved g c =
     let left = c.drop_dead.ensures.flight f l.invariant.1.1 in
     let one = some_dropped cf bf c.drop_dead.result f left.0 l.seat w
     (c.is_none.ensures ∙ ap not c.if-is_none.false) c.drop_dead.ensures.done left.2 in
+    let part = c.drop_dead.ensures.buckets f l.invariant.1.1 l.invariant.2.0 l.invariant.2.1 in
     let few = l.invariant.1.2 in
     let less = one.3 in
     let spent = one.1.is.promises in
     let had = l.invariant.4 in (
       c.drop_dead.ensures.works,
       (left.0, left.1, omega (arith, few, less)),
-      c.drop_dead.ensures.buckets,
+      (part.0, part.1),
       same_rest c.args.hand.now l.hand c.drop_dead.new.hand l.invariant.3 c.drop_dead.ensures.rest,
       omega (arith, spent, had),
       (

@@ -1,8 +1,7 @@
 use Rattle.bc_leaf_walk.specs.bc_machine.World.{cache_among}
 use Rattle.bc_trace.proofs.Going.{as_waited, both_none, gone_done, ok_around, stopped_around, stopped_here}
 use Rattle.bc_trace.proofs.Parting.{taken_buckets}
-use Rattle.bc_trace.proofs.Leafing.{has_again}
-use Rattle.bc_leaf_walk.specs.bc_hand.declared.error.StepError.TheVariants as steps
+use Rattle.bc_trace.proofs.Leafing.{has_again, missed_it}
 use Rattle.bc_trace.specs.declared.error.TraceError.TheVariants as error
 use Rattle.bc_trace.proofs.trace.begin.Goals as goal
 
@@ -36,8 +35,9 @@ returns-clause-err g c = stopped_around g.C.Disk.facts g.B.Disk.facts
 pub returns-in_default-clause-err : goal.returns-in_default-clause-err
 returns-in_default-clause-err g c = stopped_here g.C.Disk.facts g.B.Disk.facts
     (cache_among g.C.Disk.facts g.B.Disk.facts c.args.parts.now.run.start).sectors
-    (error.Step steps.Memory) c.args.seat.now c.promise.new.seat c.promise.ensures.works.seat (
-      tt,
+    (error.Step c.missed.result) c.args.seat.now c.promise.new.seat c.promise.ensures.works.seat (
+      missed_it g.C.Disk.facts g.B.Disk.facts c.missed.result c.promise.new.seat
+          c.missed.ensures,
       gone_done g.C.Disk.facts g.B.Disk.facts c.args.seat.now c.promise.new.seat
           c.promise.ensures.done,
     )

@@ -5,7 +5,7 @@ use Rattle.bc_leaf_walk.proofs.of_bc_deed.Sequence.{done_one}
 use Rattle.bc_leaf_walk.specs.bc_machine.World.{cache_among}
 use Rattle.bc_trace.proofs.Ending.{part_stands}
 use Rattle.bc_trace.proofs.Going.{gone_done, gone_none, gone_one, stopped_here}
-use Rattle.bc_trace.proofs.Leafing.{buckets_same, halted_or}
+use Rattle.bc_trace.proofs.Leafing.{buckets_same, halted_it}
 use Rattle.bc_trace.specs.declared.error.TraceError.TheVariants as error
 use Rattle.bc_trace.proofs.trace.begin_it.Goals as goal
 
@@ -49,7 +49,8 @@ returns-in-Err-clause-err g c = stopped_here g.C.Disk.facts g.B.Disk.facts
     (cache_among g.C.Disk.facts g.B.Disk.facts c.args.parts.now.run.start).sectors
     (error.Step c.in-Err.error) c.args.seat.now c.begin_round.new.seat
     c.begin_round.ensures.works.seat (
-      halted_or c.in-Err.error c.begin_round.new.seat.seen c.in-Err.ensures.cause,
+      halted_it g.C.Disk.facts g.B.Disk.facts c.in-Err.error c.begin_round.new.seat
+          c.in-Err.ensures.cause,
       gone_done g.C.Disk.facts g.B.Disk.facts c.args.seat.now c.begin_round.new.seat
           (done_one g.C.Disk.facts g.B.Disk.facts None c.args.seat.now c.begin_round.new.seat
           c.in-Err.ensures.err),

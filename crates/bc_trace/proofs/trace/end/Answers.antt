@@ -2,7 +2,7 @@ use Rattle.std.proofs.Common.{◌∙◌}
 use Rattle.bc_leaf_walk.specs.bc_machine.World.{cache_among}
 use Rattle.bc_trace.proofs.Ending.{traced_around}
 use Rattle.bc_trace.proofs.Going.{as_waited, both_none, gone_done, stopped_around, stopped_here}
-use Rattle.bc_leaf_walk.specs.bc_hand.declared.error.StepError.TheVariants as steps
+use Rattle.bc_trace.proofs.Leafing.{missed_it}
 use Rattle.bc_trace.specs.declared.error.TraceError.TheVariants as error
 use Rattle.bc_trace.proofs.Parting.{both_taken, has_journal, none_behind_journal, still_buckets}
 use Rattle.bc_trace.proofs.trace.end.Goals as goal
@@ -28,8 +28,9 @@ give_buckets-requires-clause-has g c = still_buckets c.end_it-done.new.hand c.gi
 pub returns-in_default-clause-err : goal.returns-in_default-clause-err
 returns-in_default-clause-err g c = stopped_here g.C.Disk.facts g.B.Disk.facts
     (cache_among g.C.Disk.facts g.B.Disk.facts c.args.parts.now.run.start).sectors
-    (error.Step steps.Memory) c.args.seat.now c.promise.new.seat c.promise.ensures.works.seat (
-      tt,
+    (error.Step c.missed.result) c.args.seat.now c.promise.new.seat c.promise.ensures.works.seat (
+      missed_it g.C.Disk.facts g.B.Disk.facts c.missed.result c.promise.new.seat
+          c.missed.ensures,
       gone_done g.C.Disk.facts g.B.Disk.facts c.args.seat.now c.promise.new.seat
           c.promise.ensures.done,
     )

@@ -4,7 +4,7 @@ use Rattle.bc_leaf_walk.specs.bc_machine.World.{cache_among}
 use Rattle.bc_trace.proofs.Ending.{can_end, gone_synced, left_over, traced}
 use Rattle.bc_trace.proofs.Going.{gone_done, gone_both, gone_none, stopped_here}
 use Rattle.bc_trace.proofs.Parting.{has_buckets}
-use Rattle.bc_trace.proofs.Leafing.{halted_or, no_test}
+use Rattle.bc_trace.proofs.Leafing.{halted_it, no_test}
 use Rattle.bc_trace.specs.declared.error.TraceError.TheVariants as error
 use Rattle.bc_trace.proofs.trace.end_it.Goals as goal
 
@@ -54,7 +54,7 @@ returns-in-Err-end_round-clause-err g c = stopped_here g.C.Disk.facts g.B.Disk.f
     (cache_among g.C.Disk.facts g.B.Disk.facts c.args.parts.now.run.start).sectors
     (error.Step c.in-Err-end_round.error) c.args.seat.now c.end_round.new.seat
     c.end_round.ensures.works.seat (
-      halted_or c.in-Err-end_round.error c.end_round.new.seat.seen
+      halted_it g.C.Disk.facts g.B.Disk.facts c.in-Err-end_round.error c.end_round.new.seat
           c.in-Err-end_round.ensures.cause,
       gone_both g.C.Disk.facts g.B.Disk.facts c.args.seat.now c.settle.new.seat
           c.end_round.new.seat

@@ -1,7 +1,7 @@
 use Rattle.std.proofs.Common.{[]}
 use Rattle.bc_leaf_walk.specs.bc_machine.World.{cache_among}
 use Rattle.bc_trace.proofs.Going.{before_done, gone_done, none_done, ok_after, stopped_after, stopped_here}
-use Rattle.bc_leaf_walk.specs.bc_hand.declared.error.StepError.TheVariants as steps
+use Rattle.bc_trace.proofs.Leafing.{missed_it}
 use Rattle.bc_trace.specs.declared.error.TraceError.TheVariants as error
 use Rattle.bc_trace.proofs.walk.next_leaf.Goals as goal
 
@@ -29,8 +29,9 @@ returns-clause-err g c = stopped_after g.C.Disk.facts g.B.Disk.facts
 pub returns-in_default-clause-err : goal.returns-in_default-clause-err
 returns-in_default-clause-err g c = stopped_here g.C.Disk.facts g.B.Disk.facts
     (cache_among g.C.Disk.facts g.B.Disk.facts c.args.parts.now.run.start).sectors
-    (error.Step steps.Memory) c.args.seat.now c.promise.new.seat c.promise.ensures.works.seat (
-      tt,
+    (error.Step c.missed.result) c.args.seat.now c.promise.new.seat c.promise.ensures.works.seat (
+      missed_it g.C.Disk.facts g.B.Disk.facts c.missed.result c.promise.new.seat
+          c.missed.ensures,
       gone_done g.C.Disk.facts g.B.Disk.facts c.args.seat.now c.promise.new.seat
           c.promise.ensures.done,
     )

@@ -4,7 +4,7 @@ use Rattle.bc_events.specs.declared.event.MarkForm.TheVariants as mark
 use Rattle.bc_leaf_walk.proofs.of_bc_deed.Sequence.{done_one}
 use Rattle.bc_leaf_walk.specs.bc_machine.World.{cache_among}
 use Rattle.bc_trace.proofs.Going.{gone_done, gone_none, gone_one, stopped_here}
-use Rattle.bc_trace.proofs.Leafing.{buckets_same, halted_or, moved_leaf}
+use Rattle.bc_trace.proofs.Leafing.{buckets_same, halted_it, moved_leaf}
 use Rattle.bc_trace.specs.declared.error.TraceError.TheVariants as error
 use Rattle.bc_trace.proofs.walk.walk_it.Goals as goal
 
@@ -44,7 +44,8 @@ pub returns-in-Err-clause-err : goal.returns-in-Err-clause-err
 returns-in-Err-clause-err g c = stopped_here g.C.Disk.facts g.B.Disk.facts
     (cache_among g.C.Disk.facts g.B.Disk.facts c.args.parts.now.run.start).sectors
     (error.Step c.in-Err.error) c.args.seat.now c.walk_leaf.new.seat c.walk_leaf.ensures.works.seat (
-      halted_or c.in-Err.error c.walk_leaf.new.seat.seen c.in-Err.ensures.cause,
+      halted_it g.C.Disk.facts g.B.Disk.facts c.in-Err.error c.walk_leaf.new.seat
+          c.in-Err.ensures.cause,
       gone_done g.C.Disk.facts g.B.Disk.facts c.args.seat.now c.walk_leaf.new.seat
           (done_one g.C.Disk.facts g.B.Disk.facts None c.args.seat.now c.walk_leaf.new.seat
           c.in-Err.ensures.err),

@@ -7,6 +7,7 @@ use Rattle.bc_append.specs.bc_hand.Seats.{world}
 use Rattle.bc_append.specs.bc_machine.World.{FromEach, cache_among}
 use Rattle.bc_turn.specs.Empty.{IsClosedBy}
 use Rattle.bc_turn.specs.declared.error.Why.{Why}
+use Rattle.bc_turn.proofs.Hearing.{append_answered, none_heard}
 use Rattle.bc_turn.proofs.Leaving.{appended_in, back_journal, closed_told, closed_why, failed_since, full_since, keeps_since, outside_since, waited_did}
 use Rattle.bc_append.proofs.of_bc_place.of_bc_deed.May.{did_nothing}
 use Rattle.bc_append.proofs.of_bc_place.Keeping.{keeps_waited}
@@ -175,11 +176,17 @@ returns-in-Err-append_set-clause-err g c =
     let h = c.args.hand.now in
     let same = back_journal h c.durable_entry-durable.new.hand c.durable_entry-durable.ensures.rest
     c.durable_entry-durable.ensures.hand c.requires.alone.journal in
-    failed_since cf bf c.args.parts.now c.args.seat.now
+    append_answered cf bf c.in-Err-append_set.error c.or_halt.result c.args.leaf h
+    c.append_set.new.hand c.args.seat.now c.append_set.new.seat c.or_halt.ensures
+    (failed_since cf bf c.args.parts.now c.args.seat.now
     c.durable_entry-durable.new.seat h c.durable_entry-durable.new.hand c.requires.works
     c.durable_entry-durable.ensures.works c.durable_entry-durable.ensures.waited same
     c.in-Err-append_set.error c.args.leaf c.append_set.new.hand c.append_set.new.seat
-    c.in-Err-append_set.ensures.err
+    c.in-Err-append_set.ensures.err)
+
+pub returns-in-Err-append_set-clause-memory : goal.returns-in-Err-append_set-clause-memory
+returns-in-Err-append_set-clause-memory g c memory = none_heard c.in-Err-append_set.error
+    c.or_halt.result c.append_set.new.seat.heard c.append_set.new.seat.seen c.or_halt.ensures memory
 
 pub returns-in-Err-append_set-clause-keeps : goal.returns-in-Err-append_set-clause-keeps
 returns-in-Err-append_set-clause-keeps g c =

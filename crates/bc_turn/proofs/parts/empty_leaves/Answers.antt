@@ -1,8 +1,10 @@
-use Rattle.std.proofs.Common.{◌≡◌, inl, inr, ◌+◌, ◌-◌, ℕ, Option, subst, arith}
+use Rattle.std.proofs.Common.{◌≡◌, inl, inr, ◌+◌, ◌-◌, ℕ, Option, refl, subst, arith}
 use Rattle.std.specs.Prelude.{IfNone, IfSome, length}
 use Rattle.std.proofs.lemmas.Bool.{cases_eq}
 use Rattle.bc_append.specs.bc_hand.Seats.{world}
 use Rattle.bc_append.specs.bc_machine.World.{FromEach, cache_among}
+use Rattle.bc_append.proofs.of_bc_place.Keeping.{keeps_both, keeps_waited}
+use Rattle.bc_append.proofs.of_bc_place.of_bc_deed.May.{did_nothing}
 use Rattle.bc_turn.specs.Need.{PartNeedsFrom}
 use Rattle.bc_turn.specs.Parts.{WasLeft}
 use Rattle.bc_turn.specs.declared.error.Left.{Left}
@@ -20,10 +22,24 @@ loop-part-init g c = (
   c.requires.works,
   c.requires.empty,
   c.requires.come,
-  omega arith,
-  start_sets g.C.Disk.facts g.B.Disk.facts c.args.seat.now c.requires.works.seat,
+  refl,
+  start_sets g.C.Disk.facts g.B.Disk.facts c.args.parts.now c.args.low c.args.seat.now
+      c.requires.works.seat,
   (λ j few. absurd (omega (arith, few))),
+  keeps_waited g.C.Disk.facts g.B.Disk.facts c.args.seat.now c.args.seat.now
+      c.requires.works.seat (did_nothing g.C.Disk.facts g.B.Disk.facts c.args.seat.now
+      c.requires.works.seat).is,
 )
+
+pub returns-in-Ok-Some-clause-most : goal.returns-in-Ok-Some-clause-most
+returns-in-Ok-Some-clause-most g c =
+    let before = c.loop-part.invariant.3 in
+    let done = c.empty_taken.ensures.most in
+    omega (arith, before, done)
+
+pub returns-in-Ok-Some-clause-keeps : goal.returns-in-Ok-Some-clause-keeps
+returns-in-Ok-Some-clause-keeps g c = keeps_both g.C.Disk.facts g.B.Disk.facts c.args.seat.now
+    c.loop-part.seat c.empty_taken.new.seat c.loop-part.invariant.6 c.empty_taken.ensures.keeps
 
 pub returns-in-Ok-Some-clause-promises : goal.returns-in-Ok-Some-clause-promises
 returns-in-Ok-Some-clause-promises g c =
@@ -32,7 +48,8 @@ returns-in-Ok-Some-clause-promises g c =
     omega (arith, before, done)
 
 pub returns-in-Ok-Some-clause-ok : goal.returns-in-Ok-Some-clause-ok
-returns-in-Ok-Some-clause-ok g c = both_sets g.C.Disk.facts g.B.Disk.facts c.args.seat.now
+returns-in-Ok-Some-clause-ok g c = both_sets g.C.Disk.facts g.B.Disk.facts c.args.parts.now
+    c.args.low c.args.seat.now
     c.loop-part.seat c.empty_taken.new.seat c.loop-part.invariant.4 c.in-Ok-Some.ensures.ok
 
 pub returns-in-Ok-Some-clause-left : goal.returns-in-Ok-Some-clause-left
@@ -40,10 +57,20 @@ returns-in-Ok-Some-clause-left g c =
     let cf = g.C.Disk.facts in
     let bf = g.B.Disk.facts in
     let sectors = (cache_among cf bf c.args.parts.now.run.start).sectors in
-    left_before cf bf c.args.parts.now sectors c.args.low c.args.seat.now c.loop-part.seat
+    left_before cf bf c.args.parts.now c.args.low sectors c.args.seat.now c.loop-part.seat
     c.empty_taken.new.seat c.in-Ok-Some.left c.loop-part.invariant.4
     (subst (λ (o : Option Left). IfSome o (WasLeft cf bf c.args.parts.now sectors c.args.low
     c.loop-part.seat c.empty_taken.new.seat)) c.in-Ok-Some.field-0-is c.in-Ok-Some.ensures.left)
+
+pub returns-in-Err-clause-most : goal.returns-in-Err-clause-most
+returns-in-Err-clause-most g c =
+    let before = c.loop-part.invariant.3 in
+    let done = c.empty_taken.ensures.most in
+    omega (arith, before, done)
+
+pub returns-in-Err-clause-keeps : goal.returns-in-Err-clause-keeps
+returns-in-Err-clause-keeps g c = keeps_both g.C.Disk.facts g.B.Disk.facts c.args.seat.now
+    c.loop-part.seat c.empty_taken.new.seat c.loop-part.invariant.6 c.empty_taken.ensures.keeps
 
 pub returns-in-Err-clause-promises : goal.returns-in-Err-clause-promises
 returns-in-Err-clause-promises g c =
@@ -52,7 +79,8 @@ returns-in-Err-clause-promises g c =
     omega (arith, before, done)
 
 pub returns-in-Err-clause-err : goal.returns-in-Err-clause-err
-returns-in-Err-clause-err g c = failed_before g.C.Disk.facts g.B.Disk.facts c.args.seat.now
+returns-in-Err-clause-err g c = failed_before g.C.Disk.facts g.B.Disk.facts c.args.parts.now
+    c.args.low c.args.seat.now
     c.loop-part.seat c.empty_taken.new.seat c.in-Err.error c.loop-part.invariant.4
     c.in-Err.ensures.err
 
@@ -62,7 +90,8 @@ loop-part-preserved g c =
     let bf = g.B.Disk.facts in
     let n = length c.args.parts.now.run.start - 6 in
     let before = c.loop-part.invariant.3 in
-    let done = c.empty_taken.ensures.promises in
+    let done = subst (λ (o : Option Left). IfNone o (c.empty_taken.new.seat.promises
+    ≡ c.loop-part.seat.promises)) c.in-Ok-None.field-0-is c.in-Ok-None.ensures.even in
     let sets = c.in-Ok-None.ensures.ok in
     let knows = subst (λ (o : Option Left). IfNone o (FromEach (world cf bf c.empty_taken.new.seat)
     (PartNeedsFrom n (c.loop-part.part - 6) c.args.low))) c.in-Ok-None.field-0-is
@@ -71,14 +100,16 @@ loop-part-preserved g c =
       c.empty_taken.ensures.empty,
       c.empty_taken.ensures.come,
       omega (arith, before, done),
-      both_sets cf bf c.args.seat.now c.loop-part.seat c.empty_taken.new.seat
-          c.loop-part.invariant.4 sets,
+      both_sets cf bf c.args.parts.now c.args.low c.args.seat.now c.loop-part.seat
+          c.empty_taken.new.seat c.loop-part.invariant.4 sets,
       (λ j few. elim (cases_eq (6 + j) c.loop-part.part) [
         | inl is ↦ subst (λ i. FromEach (world cf bf c.empty_taken.new.seat)
             (PartNeedsFrom n i c.args.low)) (less_six j c.loop-part.part is) knows
-        | inr other ↦ sets_know cf bf c.loop-part.seat c.empty_taken.new.seat n j c.args.low sets
+        | inr other ↦ sets_know cf bf c.args.parts.now c.loop-part.seat c.empty_taken.new.seat n j c.args.low sets
             (c.loop-part.invariant.5 j (omega (arith, few, other)))
       ]),
+      keeps_both cf bf c.args.seat.now c.loop-part.seat c.empty_taken.new.seat
+          c.loop-part.invariant.6 c.empty_taken.ensures.keeps,
     )
 
 pub returns-clause-knows : goal.returns-clause-knows

@@ -8,6 +8,7 @@ use Rattle.bc_turn.specs.Need.{PartNeedsFrom}
 use Rattle.bc_turn.specs.Part.{HasFailed, HasWrittenSets, IsLeftIn}
 use Rattle.bc_turn.specs.Parts.{WasLeft}
 use Rattle.bc_turn.specs.declared.error.Left.{Left}
+use Rattle.bc_append.proofs.of_bc_place.Keeping.{keeps_both, keeps_waited}
 use Rattle.bc_turn.proofs.Emptying.{start_sets}
 use Rattle.bc_turn.proofs.Known.{come_waited, part_waited}
 use Rattle.bc_turn.proofs.Parting.{failed_in_part, left_part, sets_part}
@@ -64,33 +65,64 @@ returns-clause-promises g c =
     let given = c.give_leaves.ensures.waited.promises in
     omega (arith, taken, done, given)
 
+pub returns-clause-most : goal.returns-clause-most
+returns-clause-most g c =
+    let taken = c.take_part.ensures.waited.promises in
+    let done = c.empty_part-done.ensures.most in
+    let given = c.give_leaves.ensures.waited.promises in
+    omega (arith, taken, done, given)
+
+pub returns-clause-even : goal.returns-clause-even
+returns-clause-even g c =
+    let P = c.empty_part-done.new.seat.promises ≡ c.take_part.new.seat.promises in
+    let Q = c.give_leaves.new.seat.promises ≡ c.args.seat.now.promises in
+    map_ok (λ left. IfNone left P) (λ left. IfNone left Q) c.empty_part-done.result
+    (λ left. map_none P Q left (λ same. c.give_leaves.ensures.waited.promises ∙ same
+    ∙ c.take_part.ensures.waited.promises)) c.empty_part-done.ensures.even
+
+pub returns-clause-keeps : goal.returns-clause-keeps
+returns-clause-keeps g c =
+    let cf = g.C.Disk.facts in
+    let bf = g.B.Disk.facts in
+    keeps_both cf bf c.args.seat.now c.take_part.new.seat c.give_leaves.new.seat
+    (keeps_waited cf bf c.args.seat.now c.take_part.new.seat c.requires.works.seat
+    c.take_part.ensures.waited)
+    (keeps_both cf bf c.take_part.new.seat c.empty_part-done.new.seat c.give_leaves.new.seat
+    c.empty_part-done.ensures.keeps (keeps_waited cf bf c.empty_part-done.new.seat
+    c.give_leaves.new.seat c.empty_part-done.ensures.works.seat c.give_leaves.ensures.waited))
+
 pub returns-clause-ok : goal.returns-clause-ok
 returns-clause-ok g c =
     let cf = g.C.Disk.facts in
     let bf = g.B.Disk.facts in
     let v = c.args.seat.now in
-    map_ok (λ left. HasWrittenSets cf bf c.take_part.new.seat c.empty_part-done.new.seat)
-    (λ left. HasWrittenSets cf bf v c.give_leaves.new.seat) c.empty_part-done.result
-    (λ left sets. sets_part cf bf v v c.take_part.new.seat c.empty_part-done.new.seat
-    c.give_leaves.new.seat (start_sets cf bf v c.requires.works.seat) c.take_part.ensures.waited
-    c.give_leaves.ensures.waited sets) c.empty_part-done.ensures.ok
+    let p = c.args.parts.now in
+    let low = c.args.low in
+    map_ok (λ left. HasWrittenSets cf bf p low c.take_part.new.seat c.empty_part-done.new.seat)
+    (λ left. HasWrittenSets cf bf p low v c.give_leaves.new.seat) c.empty_part-done.result
+    (λ left sets. sets_part cf bf p low v v c.take_part.new.seat c.empty_part-done.new.seat
+    c.give_leaves.new.seat (start_sets cf bf p low v c.requires.works.seat)
+    c.take_part.ensures.waited c.give_leaves.ensures.waited sets) c.empty_part-done.ensures.ok
 
 pub returns-clause-left : goal.returns-clause-left
 returns-clause-left g c =
     let cf = g.C.Disk.facts in
     let bf = g.B.Disk.facts in
     let v = c.args.seat.now in
+    let p = c.args.parts.now in
+    let low = c.args.low in
     let sectors = (cache_among cf bf c.args.parts.now.run.start).sectors in
     let n = length c.args.parts.now.run.start in
-    both_ok (λ left. HasWrittenSets cf bf c.take_part.new.seat c.empty_part-done.new.seat)
-    (λ left. IfSome left (IsLeftIn c.empty_part-done.new.hand sectors n c.args.low))
-    (λ left. IfSome left (WasLeft cf bf c.args.parts.now sectors c.args.low v
-    c.give_leaves.new.seat)) c.empty_part-done.result
-    (λ left sets is. map_some (IsLeftIn c.empty_part-done.new.hand sectors n c.args.low)
-    (WasLeft cf bf c.args.parts.now sectors c.args.low v c.give_leaves.new.seat) left
-    (λ l in_hand. left_part cf bf v v c.take_part.new.seat c.empty_part-done.new.seat
-    c.give_leaves.new.seat (start_sets cf bf v c.requires.works.seat) c.take_part.ensures.waited
-    c.give_leaves.ensures.waited c.args.parts.now sectors c.args.low c.empty_part-done.new.hand l
+    let x = world cf bf c.empty_part-done.new.seat in
+    both_ok (λ left. HasWrittenSets cf bf p low c.take_part.new.seat c.empty_part-done.new.seat)
+    (λ left. IfSome left (IsLeftIn c.empty_part-done.new.hand x sectors n low))
+    (λ left. IfSome left (WasLeft cf bf p sectors low v c.give_leaves.new.seat))
+    c.empty_part-done.result
+    (λ left sets is. map_some (IsLeftIn c.empty_part-done.new.hand x sectors n low)
+    (WasLeft cf bf p sectors low v c.give_leaves.new.seat) left
+    (λ l in_hand. left_part cf bf p low v v c.take_part.new.seat c.empty_part-done.new.seat
+    c.give_leaves.new.seat (start_sets cf bf p low v c.requires.works.seat)
+    c.take_part.ensures.waited c.give_leaves.ensures.waited sectors c.empty_part-done.new.hand l
     c.empty_part-done.ensures.works sets in_hand) is)
     c.empty_part-done.ensures.ok c.empty_part-done.ensures.left
 
@@ -112,8 +144,11 @@ returns-clause-err g c =
     let cf = g.C.Disk.facts in
     let bf = g.B.Disk.facts in
     let v = c.args.seat.now in
-    map_err (λ e. HasFailed cf bf e c.take_part.new.seat c.empty_part-done.new.seat)
-    (λ e. HasFailed cf bf e v c.give_leaves.new.seat) c.empty_part-done.result
-    (λ e failed. failed_in_part cf bf v v c.take_part.new.seat c.empty_part-done.new.seat
-    c.give_leaves.new.seat (start_sets cf bf v c.requires.works.seat) c.take_part.ensures.waited
-    c.give_leaves.ensures.waited e failed) c.empty_part-done.ensures.err
+    let p = c.args.parts.now in
+    let low = c.args.low in
+    map_err (λ e. HasFailed cf bf p low e c.take_part.new.seat c.empty_part-done.new.seat)
+    (λ e. HasFailed cf bf p low e v c.give_leaves.new.seat) c.empty_part-done.result
+    (λ e failed. failed_in_part cf bf p low v v c.take_part.new.seat c.empty_part-done.new.seat
+    c.give_leaves.new.seat (start_sets cf bf p low v c.requires.works.seat)
+    c.take_part.ensures.waited c.give_leaves.ensures.waited e c.give_leaves.ensures.heard failed)
+    c.empty_part-done.ensures.err

@@ -1,7 +1,9 @@
+use Rattle.bc_flush.proofs.of_bc_deed.May.{map_if_err}
 use Rattle.bc_flush.proofs.Syncing.{as_waited, refused_around, taken_done}
 use Rattle.bc_flush.specs.bc_machine.World.{cache_among}
+use Rattle.bc_turned.proofs.Keeping.{keeps_given}
 use Rattle.bc_turned.proofs.Giving.{either_around, needs_done}
-use Rattle.std.proofs.Common.{[]}
+use Rattle.std.proofs.Common.{[], ◌∙◌}
 use Rattle.bc_turned.proofs.give_up.give_up.Goals as goal
 
 pub give_in-done-requires-clause-needs : goal.give_in-done-requires-clause-needs
@@ -40,3 +42,13 @@ returns-clause-err g c =
     (as_waited cf bf c.give_in-done.new.seat last.new.seat last.ensures.waited)
     (cache_among cf bf c.args.parts.now.run.start).sectors c.give_in-done.result
     last.ensures.seen c.give_in-done.ensures.err
+
+pub returns-clause-memory : goal.returns-clause-memory
+returns-clause-memory g c = map_if_err c.give_in-done.result
+    (λ e none memory. c.return_journal-2.ensures.heard ∙ none memory) c.give_in-done.ensures.memory
+
+pub returns-clause-keeps : goal.returns-clause-keeps
+returns-clause-keeps g c = keeps_given g.C.Disk.facts g.B.Disk.facts
+    (cache_among g.C.Disk.facts g.B.Disk.facts c.args.parts.now.run.start).sectors c.args.low
+    c.give_in-done.result c.args.seat.now c.return_journal-2.new.seat
+    (returns-clause-ok g c) (returns-clause-err g c)

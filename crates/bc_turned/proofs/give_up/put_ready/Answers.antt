@@ -1,5 +1,6 @@
 use Rattle.std.proofs.Common.{◌≤◌, [], ◌∙◌}
 use Rattle.bc_flush.proofs.Hands.{journal_same}
+use Rattle.bc_flush.proofs.of_bc_deed.May.{map_if_err}
 use Rattle.bc_flush.proofs.Syncing.{as_waited, refused_around, taken_done}
 use Rattle.bc_flush.proofs.Walking.{lasts_done}
 use Rattle.bc_flush.specs.bc_machine.World.{cache_among}
@@ -51,3 +52,7 @@ returns-clause-err g c =
     (as_waited cf bf c.put_within-done.new.seat last.new.seat last.ensures.waited)
     (cache_among cf bf c.args.parts.now.run.start).sectors c.put_within-done.result
     last.ensures.seen c.put_within-done.ensures.err
+
+pub returns-clause-memory : goal.returns-clause-memory
+returns-clause-memory g c = map_if_err c.put_within-done.result
+    (λ e none memory. c.return_cache-2.ensures.heard ∙ none memory) c.put_within-done.ensures.memory

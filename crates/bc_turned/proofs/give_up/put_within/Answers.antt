@@ -1,4 +1,4 @@
-use Rattle.std.proofs.Common.{◌≤◌, refl, sym, subst}
+use Rattle.std.proofs.Common.{◌≤◌, refl, sym, ◌∙◌, subst}
 use Rattle.bc_flush.proofs.Hands.{Fits, both_in, is_off, is_on, journal_stands, same_some}
 use Rattle.bc_flush.proofs.Syncing.{refused_none, refused_put}
 use Rattle.bc_flush.specs.Sync.{HasNotSynced}
@@ -6,7 +6,9 @@ use Rattle.bc_flush.specs.bc_hand.Seats.{world}
 use Rattle.bc_flush.specs.bc_machine.World.{FromEach, cache_among}
 use Rattle.bc_flush.specs.declared.error.FlushError.TheVariants as flush
 use Rattle.bc_journal.specs.Journal.{Journal}
+use Rattle.bc_turn.proofs.Hearing.{none_heard}
 use Rattle.bc_turned.proofs.Giving.{given_put}
+use Rattle.bc_turned.proofs.Hearing.{cause_answered, cut_answered, refused_memory}
 use Rattle.bc_turned.proofs.give_up.put_within.Goals as goal
 
 pub returns-then-not-is_within-clause-err : goal.returns-then-not-is_within-clause-err
@@ -56,7 +58,15 @@ returns-in-Err-clause-err g c =
     let cut = c.in-Err.ensures.err in
     subst (λ e. HasNotSynced cf bf sectors e c.args.seat.now
     c.put_entry.new.seat) (sym c.refused.ensures)
-    (refused_put cf bf sectors c.in-Err.error cut.0 c.args.seat.now c.put_entry.new.seat
+    (refused_put cf bf sectors c.or_halt.result cut.0 c.args.seat.now c.put_entry.new.seat
     c.requires.works.seat
     (journal_stands cf bf c.args.parts.now c.args.seat.now c.args.hand.now cut.0 c.requires.works
-    cut.1) cut.2 c.in-Err.ensures.cause)
+    cut.1) (cut_answered cf bf c.in-Err.error c.or_halt.result cut.0 c.args.seat.now
+    c.put_entry.new.seat c.or_halt.ensures cut.2)
+    (cause_answered cf bf c.in-Err.error c.or_halt.result c.put_entry.new.seat c.or_halt.ensures
+    c.in-Err.ensures.cause))
+
+pub returns-in-Err-clause-memory : goal.returns-in-Err-clause-memory
+returns-in-Err-clause-memory g c memory = none_heard c.in-Err.error c.or_halt.result
+    c.put_entry.new.seat.heard c.put_entry.new.seat.seen c.or_halt.ensures
+    (refused_memory c.or_halt.result (sym c.refused.ensures ∙ memory))
