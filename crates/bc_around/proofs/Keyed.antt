@@ -49,7 +49,7 @@ ordered_said (k ∷ ks) s order = by_cover k s
     (λ off. ordered_said ks s (rest_order k ks order)
     ∙ sym (ap (λ o. said_of o s) (or_none (last_key ks s))))
 
-leaf_said : (leaf : Leaf) (s : ℕ) (o : Option Key) → IsInOrder leaf.keys → o ≡ last_key leaf.keys s
+pub leaf_said : (leaf : Leaf) (s : ℕ) (o : Option Key) → IsInOrder leaf.keys → o ≡ last_key leaf.keys s
     → said_in leaf s ≡ ref_said (said_of o s)
 leaf_said leaf s o order is = ap ref_said (ordered_said leaf.keys s order)
     ∙ ap (λ (k : Option Key). ref_said (said_of k s)) (sym is)
@@ -60,7 +60,7 @@ none_said leaf s order is = leaf_said leaf s None order is
 
 -- ---- by the key that has it
 
-abbrev pointed : Key → ℕ → Ptr → Ref
+abbrev pub pointed : Key → ℕ → Ptr → Ref
 pointed key s ptr = record {
   dirty = key.dirty;
   dev = ptr.dev;
@@ -72,11 +72,11 @@ points : (key : Key) → key.count ≢ 0 → pointer_of key ≡ Some (ptr_at key
 points key some = let test : nat_lt 0 key.count ≡ true = lt-ltb 0 key.count (omega (arith, some)) in
     rw test refl
 
-points_not : (key : Key) → key.count ≡ 0 → pointer_of key ≡ None
+pub points_not : (key : Key) → key.count ≡ 0 → pointer_of key ≡ None
 points_not key none =
     ap (λ n. if nat_lt 0 n then Some (ptr_at key 0) else None) none
 
-key_there : (key : Key) (s : ℕ) → key.count ≢ 0
+pub key_there : (key : Key) (s : ℕ) → key.count ≢ 0
     → ref_by key s (pointer_of key) ≡ Some (pointed key s (ptr_at key 0))
 key_there key s some = ap (ref_by key s) (points key some)
 

@@ -24,7 +24,7 @@ module _ (a b : Change) (same : SameChange a b) where
       (subst (λ n. Row p.leaves a.low ys n) (sym same.high)
       (subst (λ (zs : List ℕ). Row p.leaves a.low zs a.high) (sym is) h))
 
-  under_same : (w : Opening) (p : parts.State) (plan : Plan) → IsUnderWay w p plan a
+  pub under_same : (w : Opening) (p : parts.State) (plan : Plan) → IsUnderWay w p plan a
       → IsUnderWay w p plan b
   under_same w p plan h = record {
     whole = record {

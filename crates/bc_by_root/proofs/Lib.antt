@@ -6,5 +6,5 @@ pub mod Handed
 pub mod Before
 pub mod Putting
 pub mod Around
-mod Waiting
+pub mod Waiting
 pub use Rattle.bc_install.proofs as of_bc_install

@@ -97,8 +97,8 @@ fn copy_of(alloc: Global, change: &Change) -> Result<Change, AllocError>
     })
 }
 
-// What the install of a change takes.
-fn install_for(
+/// What the install of a change takes. `Err` is want of memory.
+pub fn install_for(
     alloc: Global,
     g: &Geometry,
     spine: &Spine,

@@ -24,7 +24,7 @@ use Rattle.bc_known.specs.Acts as known
 use Rattle.bc_known.specs.Acts.{Keyed}
 use Rattle.bc_place.specs.bc_machine.Containers.{AreLeavesOf, IsJournalOf}
 use Rattle.bc_place.specs.bc_machine.Standing.{needs_stay, origin_before}
-use Rattle.bc_place.specs.bc_machine.World.{AreBuckets, AreLeaves, FromEach, IsCourseOf, IsJournal, IsOrigin, Origin, World, changes, replay}
+use Rattle.bc_place.specs.bc_machine.World.{AreBuckets, AreLeaves, FromEach, IsCourseOf, IsJournal, IsOrigin, Origin, World, changes, replay, touches_flight}
 use Rattle.bc_place.specs.bc_machine.declared.part.BucketsPart.{BucketsPart}
 use Rattle.bc_place.specs.bc_machine.declared.part.CorePart.{CorePart}
 use Rattle.bc_place.specs.bc_machine.declared.part.CorePart.TheVariants as part
@@ -72,14 +72,14 @@ module _ {C B : Type 0} (h : Hand C B) where
       over_part 3 h.journal _ k (over_part 2 h.buckets _ k (more 1 h.flight _ _ k
       (λ low. over_leaves h.leaves _ k low) holds))))
 
-  rest_unchanged : (n number i : ℕ) (d : Deed) → ComesInto number d → (k : ℕ)
-      → Holds (numbers rest) k → changes n (by i d) k ≡ false
-  rest_unchanged n number i d into k holds = elim (either_part 5 h.backing _ k holds) [
+  rest_unchanged : (n number i : ℕ) (d : Deed) → ComesInto number d → touches_flight d ≡ false
+      → (k : ℕ) → Holds (numbers rest) k → changes n (by i d) k ≡ false
+  rest_unchanged n number i d into still k holds = elim (either_part 5 h.backing _ k holds) [
     | inl five ↦ off 5 k five into.backing
     | inr more ↦ elim (either_part 4 h.cache _ k more) [
       | inl four ↦ off 4 k four into.cache
       | inr more ↦ elim (either_part 1 h.flight _ k more) [
-        | inl one ↦ off 1 k one into.flight
+        | inl one ↦ off 1 k one still
         | inr more ↦ elim (either_part 0 h.spine [] k more) [
           | inl none ↦ off 0 k none into.spine
           | inr out ↦ absurd out
@@ -161,7 +161,7 @@ module _ {C B : Type 0} (cache_facts : C → DiskFacts) (backing_facts : B → D
 
   module _ (cache : NodeCache) (added : HasAdded can.leaves.cache slot cached keys
       (number_of can.journal) cache) where
-    leaves_behind : AreLeaves part_number cache (world cache_facts backing_facts w)
+    pub leaves_behind : AreLeaves part_number cache (world cache_facts backing_facts w)
     leaves_behind = subst (λ n. FromEach (world cache_facts backing_facts w)
         (λ o st. AreLeavesOf o.opening.machine st.machine.whole.parts n part_number cache))
         (ap (λ (x : World). x.begun.leaf_parts) (sym did.is.state))
@@ -197,7 +197,7 @@ module _ {C B : Type 0} (cache_facts : C → DiskFacts) (backing_facts : B → D
           added = subst (λ n. WereAdded keys n cached.leaf added.leaf) next added.added;
         })))))
 
-  journal_behind : keys ≢ [] → IsJournal (record can.journal { waiting = can.journal.waiting ++ keys })
+  pub journal_behind : keys ≢ [] → IsJournal (record can.journal { waiting = can.journal.waiting ++ keys })
       (world cache_facts backing_facts w)
   journal_behind some = record {
     stands = behind (λ o st. IsJournalOf o.opening.machine (journal_share st.machine)
@@ -216,12 +216,12 @@ module _ {C B : Type 0} (cache_facts : C → DiskFacts) (backing_facts : B → D
   }
 
   -- with the keys put in, and buckets that stand for the state too
-  pub works_behind : keys ≢ [] → (between new : Hand C B) → HasPutIn h between slot cached keys
+  pub works_behind : touches_flight d ≡ false → keys ≢ [] → (between new : Hand C B) → HasPutIn h between slot cached keys
       → (b : BucketsPart) → new ≡ record between { buckets = Some b }
       → AreBuckets b (world cache_facts backing_facts w)
       → Kept (m cache_facts backing_facts) v w (changes (length v.run.start) (by v.first d))
       → Works cache_facts backing_facts p w new
-  works_behind some between new put b new_is on kept =
+  works_behind still some between new put b new_is on kept =
       subst (λ (x : Hand C B). Works cache_facts backing_facts p w x)
       (sym (new_is ∙ ap (λ (x : Hand C B). record x { buckets = Some b }) put.is)) (record {
         run = kept.same.run ∙ works.run;
@@ -275,4 +275,5 @@ module _ {C B : Type 0} (cache_facts : C → DiskFacts) (backing_facts : B → D
       others = stand_kept cache_facts backing_facts v w (rest h)
           (changes (length v.run.start) (by v.first d)) kept
           (λ k holds. subst (λ ks. Holds ks k) (sym works.parts) (rest_held h k holds))
-          (λ k holds. rest_unchanged h (length v.run.start) number v.first d into k holds) before_it
+          (λ k holds. rest_unchanged h (length v.run.start) number v.first d into still k
+          holds) before_it

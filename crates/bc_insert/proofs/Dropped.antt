@@ -76,7 +76,7 @@ module _ {C B : Type 0} (cache_facts : C → DiskFacts) (backing_facts : B → D
       → Kept (m cache_facts backing_facts) v w (changes (length v.run.start) (by v.first e))
       → Works cache_facts backing_facts p w new
   drop_works new put kept = works_behind cache_facts backing_facts p v h works number slot cached
-      keys can only e (drop_into number keys) (act_of number keys) (λ o st. refl) w did may.some new new put can.buckets
+      keys can only e (drop_into number keys) (act_of number keys) (λ o st. refl) w did refl may.some new new put can.buckets
       (same_buckets new put) buckets_behind kept
     where
       same_buckets : (new : Hand C B) → HasPutIn h new slot cached keys

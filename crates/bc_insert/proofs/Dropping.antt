@@ -208,7 +208,6 @@ pub drop_into : (number : ℕ) (keys : List Key)
     → ComesInto number (deed.Insert number keys form.Drop)
 drop_into number keys = record {
   spine = refl;
-  flight = refl;
   cache = refl;
   backing = refl;
   leaves = λ count part. refl;

@@ -86,10 +86,10 @@ above (suc (suc (suc (suc (suc (suc k)))))) a b c d e f = omega arith
 abbrev Changed : (n number k : ℕ) → Type 0
 Changed n number k = (k ≡ 2) ⊎ ((k ≡ 3) ⊎ ((6 ≤ k) × (number % (n - 6) ≡ k - 6)))
 
--- The deed changes buckets, journal and the part that has this leaf, and no other part.
+-- The deed changes buckets, journal and the part that has this leaf, and no other part but the
+-- claims.
 pub record ComesInto (number : ℕ) (d : Deed) : Type 0 where
   pub spine : touches_spine d ≡ false
-  pub flight : touches_flight d ≡ false
   pub cache : is_call_of Cache (call_by d) ≡ false
   pub backing : is_call_of Backing (call_by d) ≡ false
   pub leaves : (count part : ℕ) → touches_leaves count part d ≡ lies_in count part number
@@ -98,23 +98,23 @@ yes_no : (b : Bool) → b ≡ true → b ≡ false → ⊥
 yes_no b on off = absurd (cc)
 
 pub changed_parts : (n number i : ℕ) (d : Deed) → ComesInto number d → (k : ℕ)
-    → changes n (by i d) k ≡ true → Changed n number k
+    → changes n (by i d) k ≡ true → ((k ≡ 1) × (touches_flight d ≡ true)) ⊎ Changed n number k
 changed_parts n number i d into k on = elim (by_number k 0 (touches_spine d) _ on) [
   | inl a ↦ absurd (yes_no _ a.1 into.spine)
   | inr a ↦ elim (by_number k 1 (touches_flight d) _ a.1) [
-    | inl b ↦ absurd (yes_no _ b.1 into.flight)
+    | inl b ↦ inl b
     | inr b ↦ elim (by_number k 2 (touches_buckets d) _ b.1) [
-      | inl c ↦ inl c.0
+      | inl c ↦ inr (inl c.0)
       | inr c ↦ elim (by_number k 3 (touches_journal d) _ c.1) [
-        | inl e ↦ inr (inl e.0)
+        | inl e ↦ inr (inr (inl e.0))
         | inr e ↦ elim (by_number k 4 (is_call_of Cache (call_by d)) _ e.1) [
           | inl f ↦ absurd (yes_no _ f.1 into.cache)
           | inr f ↦ elim (by_number k 5 (is_call_of Backing (call_by d)) _ f.1) [
             | inl g ↦ absurd (yes_no _ g.1 into.backing)
-            | inr g ↦ inr (inr (
+            | inr g ↦ inr (inr (inr (
               above k a.0 b.0 c.0 e.0 f.0 g.0,
               its_rest (sym (into.leaves (n - 6) (k - 6)) ∙ g.1),
-            ))
+            )))
           ]
         ]
       ]
@@ -189,9 +189,8 @@ module _ {C B : Type 0} (cache_facts : C → DiskFacts) (backing_facts : B → D
   has_journal = subst (λ ks. Holds ks 3) (sym works.parts)
       (holds_journal h can.journal can.is_journal)
 
-  pub holds_changed : (d : Deed) → ComesInto number d → (n : ℕ) → n ≡ length p.run.start → (k : ℕ)
-      → changes n (by v.first d) k ≡ true → Holds v.parts k
-  holds_changed d into n is k on = elim (changed_parts n number v.first d into k on) [
+  its_held : (n k : ℕ) → n ≡ length p.run.start → Changed n number k → Holds v.parts k
+  its_held n k is changed = elim changed [
     | inl two ↦ subst (λ m. Holds v.parts m) (sym two) has_buckets
     | inr (inl three) ↦ subst (λ m. Holds v.parts m) (sym three) has_journal
     | inr (inr at) ↦ subst (λ m. Holds v.parts m) (its_part at.0 at.1) has_leaves
@@ -201,6 +200,21 @@ module _ {C B : Type 0} (cache_facts : C → DiskFacts) (backing_facts : B → D
       its_part low at = let part = can.its_part in
           let same = ap (λ m. number % (m - 6)) is in
           omega (arith, part, low, at, same)
+
+  pub holds_changed : (d : Deed) → ComesInto number d → touches_flight d ≡ false → (n : ℕ)
+      → n ≡ length p.run.start → (k : ℕ) → changes n (by v.first d) k ≡ true → Holds v.parts k
+  holds_changed d into off n is k on = elim (changed_parts n number v.first d into k on) [
+    | inl one ↦ absurd (yes_no _ one.1 off)
+    | inr rest ↦ its_held n k is rest
+  ]
+
+  -- with the claims in hand too
+  pub holds_all_changed : (d : Deed) → ComesInto number d → Holds v.parts 1 → (n : ℕ)
+      → n ≡ length p.run.start → (k : ℕ) → changes n (by v.first d) k ≡ true → Holds v.parts k
+  holds_all_changed d into claims n is k on = elim (changed_parts n number v.first d into k on) [
+    | inl one ↦ subst (λ m. Holds v.parts m) (sym one.0) claims
+    | inr rest ↦ its_held n k is rest
+  ]
 
   -- ---- what the leaf in hand says of a state
 

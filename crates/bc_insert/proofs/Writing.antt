@@ -54,7 +54,6 @@ pub write_into : (number : ℕ) (keys : List Key) (of : LineNumber) (first : ℕ
     → ComesInto number (deed.InsertWrite number keys of first values)
 write_into number keys of first values = record {
   spine = refl;
-  flight = refl;
   cache = refl;
   backing = refl;
   leaves = λ count part. refl;

@@ -198,7 +198,7 @@ module _ (number : ℕ) (keys : List Key) (of : LineNumber) (first : ℕ) (value
         → Works cache_facts backing_facts p w new
     write_works some new put kept = works_behind cache_facts backing_facts p v h works number slot cached
         keys can only d (write_into number keys of first values)
-        (act_of number keys of first values) (λ o st. refl) w did some put.between new put.put
+        (act_of number keys of first values) (λ o st. refl) w did refl some put.between new put.put
         put.next
         put.is (buckets_behind put.next
         (subst (λ (b : BucketsPart). HasNamed b ps put.next) same_part put.named)) kept

@@ -15,7 +15,7 @@
 #![tactic(auto)]
 
 pub mod drop;
-mod put;
+pub mod put;
 pub mod write;
 
 // Passed on, so that a crate above need not list these.

@@ -11,7 +11,7 @@ use bc_key::Key;
 use bc_place::bc_hand::hand::Hand;
 
 /// The slot of the part in hand that has the leaf of this number.
-pub(crate) fn slot_in<C, B>(hand: &Hand<C, B>, leaf: u32) -> u32
+pub fn slot_in<C, B>(hand: &Hand<C, B>, leaf: u32) -> u32
     requires { (leaves : LeafHand) × (slot : ℕ) × (hand.now.leaves ≡ Some leaves)
         × HasLeaf leaves.cache.slots slot leaf }
     ensures { (leaves : LeafHand) → hand.now.leaves ≡ Some leaves
@@ -28,7 +28,7 @@ pub(crate) fn slot_in<C, B>(hand: &Hand<C, B>, leaf: u32) -> u32
 
 /// The number of the entry for which keys wait in the journal in hand. What its type says holds once
 /// it is read.
-pub(crate) fn next_entry<C, B>(hand: &Hand<C, B>) -> u64
+pub fn next_entry<C, B>(hand: &Hand<C, B>) -> u64
     requires { (journal : Journal) × (hand.now.journal ≡ Some journal) }
     ensures { (journal : Journal) → hand.now.journal ≡ Some journal
         → IsJournal journal × (result ≡ number_of journal) }
@@ -50,7 +50,7 @@ fn add_to(cache: &mut NodeCache, slot: u32, keys: &[Key], entry: u64)
 
 /// Puts keys into the leaf in a slot of the part in hand, and behind those that wait for the
 /// journal's next entry. Takes no memory.
-pub(crate) fn put_in<C, B>(hand: &mut Hand<C, B>, slot: u32, keys: &[Key])
+pub fn put_in<C, B>(hand: &mut Hand<C, B>, slot: u32, keys: &[Key])
     requires { (parts number : ℕ) × (cached : Cached)
         × CanPutIn hand.old parts slot number cached keys.now }
     ensures { (parts number : ℕ) (cached : Cached)

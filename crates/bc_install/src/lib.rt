@@ -22,3 +22,5 @@ pub mod root;
 
 // Passed on, so that a crate above need not list these.
 pub use bc_append::{bc_hand, bc_machine};
+pub use bc_change::bc_entry;
+pub use bc_parent_set;

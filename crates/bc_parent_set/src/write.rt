@@ -108,8 +108,8 @@ fn send_in<C: Disk + Drop, B>(
     sent
 }
 
-// The node that takes the set, and the keys of it.
-fn taker_of<'a>(spine: &'a Spine, plan: &'a Plan) -> (&'a Inner, &'a [Key])
+/// The node that takes the set, and the keys of it.
+pub fn taker_of<'a>(spine: &'a Spine, plan: &'a Plan) -> (&'a Inner, &'a [Key])
     requires takes { (at : ℕ) × (taker : Inner) × (put : List Key)
         × IsTaker spine.now plan.now at taker put }
     requires fits { Fits spine.now plan.now }

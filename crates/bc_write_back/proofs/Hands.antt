@@ -96,7 +96,7 @@ keys_few first (p ∷ ps) (k ∷ ks) named some =
     (All-tail (λ (p : Placed). 1 ≤ p.count) p ps some) in
     omega (arith, one, rest)
 
-within_more : (first end from to : ℕ) → from ≤ first → end ≤ to → (keys : List Key)
+pub within_more : (first end from to : ℕ) → from ≤ first → end ≤ to → (keys : List Key)
     → AreWithin first end keys → AreWithin from to keys
 within_more first end from to low high [] all = All-nil (LiesWithin 0 from to)
 within_more first end from to low high (k ∷ ks) all =
@@ -133,7 +133,7 @@ module _ {C B : Type 0} (h : Hand C B) (parts number first count : ℕ)
       number_is = r.its;
     })
 
-    cached_is : r.reserved.cached ≡ three.cached
+    pub cached_is : r.reserved.cached ≡ three.cached
     cached_is = one_cached (slice_get three.leaf.hand.cache.slots three.slot) r.reserved.cached
         three.cached
         (subst (λ s. slice_get three.leaf.hand.cache.slots s
@@ -141,18 +141,18 @@ module _ {C B : Type 0} (h : Hand C B) (parts number first count : ℕ)
         (subst (λ (l : LeafHand). slice_get l.cache.slots r.slot ≡ Some (Some r.reserved.cached))
         (sym slots_same) r.reserved.there)) three.leaf.at
 
-    abbrev roomier : Cached
+    abbrev pub roomier : Cached
     roomier = record r.reserved.cached { leaf = r.reserved.leaf }
 
     abbrev leaves : LeafHand
     leaves = record r.leaves { cache = r.cache }
 
-    there : slice_get r.cache.slots r.slot ≡ Some (Some roomier)
+    pub there : slice_get r.cache.slots r.slot ≡ Some (Some roomier)
     there = ap (λ (c : NodeCache). slice_get c.slots r.slot) r.reserved.is
         ∙ set_same r.leaves.cache.slots r.slot (Some roomier)
         (slice_get_within r.leaves.cache.slots r.slot (Some r.reserved.cached) r.reserved.there)
 
-    can_put : (keys : List Key) → HasRoomFor three.cached three.journal keys
+    abbrev pub can_put : (keys : List Key) → HasRoomFor three.cached three.journal keys
         → length keys ≤ more → All IsExtent keys → AreWithin first (first + count) keys
         → CanPutIn new parts r.slot number roomier keys
     can_put keys has few extents within =

@@ -23,9 +23,12 @@ pub mod claimed;
 pub mod error;
 pub mod piece;
 pub mod put;
-mod room;
-mod taken;
+pub mod room;
+pub mod taken;
 
 // Passed on, so that a crate above need not list these.
+pub use bc_job::{bc_hand, bc_machine};
 pub use bc_request;
 pub use bc_request::{bc_fetch, bc_reader};
+pub use bc_room;
+pub use bc_stored::bc_insert;

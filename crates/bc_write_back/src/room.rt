@@ -31,7 +31,7 @@ fn lack_of(cached: &Cached, journal: &Journal, keys: &[Key]) -> Option<Lack>
 }
 
 /// What in hand has no room for these keys of the leaf of this number.
-pub(crate) fn lack_in<C, B>(hand: &Hand<C, B>, number: u32, keys: &[Key]) -> Option<Lack>
+pub fn lack_in<C, B>(hand: &Hand<C, B>, number: u32, keys: &[Key]) -> Option<Lack>
     requires three { (parts first count : ℕ) × HasThree hand.now parts number first count }
     ensures slot { (parts first count : ℕ) (three : HasThree hand.now parts number first count)
         → IsSlotOf three.leaf.hand.cache.slots number three.slot }

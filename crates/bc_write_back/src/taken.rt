@@ -17,7 +17,7 @@ use bc_stored::bc_machine::machine::{CoreParts, CoreSeat};
 use std::sync::Wait;
 
 /// Takes buckets and journal, by a seat with leaves in hand.
-pub(crate) fn take_both<C: Disk + Drop, B: Disk + Drop, R: Wait>(
+pub fn take_both<C: Disk + Drop, B: Disk + Drop, R: Wait>(
     rt: &R,
     parts: &CoreParts<C, B>,
     seat: &mut CoreSeat<C, B>,
@@ -42,7 +42,7 @@ pub(crate) fn take_both<C: Disk + Drop, B: Disk + Drop, R: Wait>(
 }
 
 /// Gives all three back.
-pub(crate) fn give_back<C: Disk + Drop, B: Disk + Drop>(
+pub fn give_back<C: Disk + Drop, B: Disk + Drop>(
     parts: &CoreParts<C, B>,
     seat: &mut CoreSeat<C, B>,
     hand: &mut Hand<C, B>,

@@ -1,4 +1,4 @@
-use Rattle.std.proofs.Common.{◌≡◌, true, Some, sym, ap, ◌∙◌, subst}
+use Rattle.std.proofs.Common.{◌≡◌, true, Some, refl, sym, ap, ◌∙◌, subst}
 use Rattle.std.specs.Prelude.{List, ◌++◌, length}
 use Rattle.bc_place.proofs.of_bc_deed.May.{did_nothing}
 use Rattle.bc_events.specs.declared.event.Deed.TheVariants as deed
@@ -55,7 +55,7 @@ commit-requires-clause-holds g c =
     ∙ ap (λ (l : List Key). l ++ c.args.keys.now) c.new-own.ensures.items in
     λ k on. holds_changed cf bf c.args.parts.now v c.args.hand.now c.requires.works c.args.leaf slot
     cached c.args.keys.now can (deed.Insert c.args.leaf c.args.keys.now form.Drop)
-    (drop_into c.args.leaf c.args.keys.now)
+    (drop_into c.args.leaf c.args.keys.now) refl
     (length v.run.start)
     (ap (λ (r : Run (CorePart g.row.C.Denot g.row.B.Denot)). length r.start) c.requires.works.run) k
     (subst (λ (l : List Key). changes (length v.run.start)

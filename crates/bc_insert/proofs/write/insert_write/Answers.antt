@@ -76,7 +76,7 @@ commit-requires-clause-holds g c =
     λ k on. holds_changed cf bf c.args.parts.now v c.args.hand.now c.requires.works c.args.leaf slot
     cached c.args.keys.now can
     (deed.InsertWrite c.args.leaf c.args.keys.now c.args.of c.args.first c.args.values.now)
-    (write_into c.args.leaf c.args.keys.now c.args.of c.args.first c.args.values.now)
+    (write_into c.args.leaf c.args.keys.now c.args.of c.args.first c.args.values.now) refl
     (length v.run.start)
     (ap (λ (r : Run (CorePart g.row.C.Denot g.row.B.Denot)). length r.start) c.requires.works.run) k
     (subst (λ (d : Deed). changes (length v.run.start) (by v.first d) k ≡ true) same on)
